@@ -1,0 +1,12 @@
+-- The laws of weights, lowest first
+pub mod Tests
+pub mod Units
+pub mod Rounding
+pub mod Operations
+pub mod Bits
+pub mod Heaviest
+pub mod Normalised
+pub mod UseCosts
+pub mod Chain
+pub mod Figure
+pub mod Cases

@@ -1,0 +1,35 @@
+-- Tests as facts, and facts as tests
+use mathlib.Core.Path.{_≡_, refl}
+use mathlib.Core.Bool.{Bool, true, false, not, _&&_, cond}
+use Prim.Native.Nat.{ℕ, _<_}
+use lib.Dec.{T, ltb, ltb→lt, lt→ltb}
+use lib.Ieee.Fits.{and-l, and-r}
+
+-- two tests that imply each other are equal
+pub test-same : (a b : Bool) → (T a → T b) → (T b → T a) → a ≡ b
+test-same true true f g = refl
+test-same true false f g = absurd (f tt)
+test-same false true f g = absurd (g tt)
+test-same false false f g = refl
+
+-- two comparisons that imply each other are equal
+pub ltb-same : (a b x y : ℕ) → (a < b → x < y) → (x < y → a < b) → ltb a b ≡ ltb x y
+ltb-same a b x y f g = test-same (ltb a b) (ltb x y) (λ t. lt→ltb x y (f (ltb→lt a b t))) (λ t. lt→ltb a b (g (ltb→lt x y t)))
+
+-- the four parts of a conjunction
+pub and-four : (a b c d : Bool) → T (a && b && c && d) → T a × T b × T c × T d
+and-four a b c d h =
+    let abc = and-l (a && b && c) d h in
+    let ab = and-l (a && b) c abc in
+    (and-l a b ab, and-r a b ab, and-r (a && b) c abc, and-r (a && b && c) d h)
+
+-- what holds of both choices holds of the choice; each may use the test's outcome
+pub cond-both {ℓ} : {A : Type 0} (P : A → Type ℓ) (t : Bool) (x y : A) → (T t → P x) → (T (not t) → P y) → P (cond t x y)
+cond-both P true x y f g = f tt
+cond-both P false x y f g = g tt
+
+pub cond-true : {A : Type 0} {t : Bool} (x y : A) → t ≡ true → cond t x y ≡ x
+cond-true x y e = rw e
+
+pub cond-false : {A : Type 0} {t : Bool} (x y : A) → t ≡ false → cond t x y ≡ y
+cond-false x y e = rw e

@@ -1,0 +1,101 @@
+-- Use costs are weights of at most 65536.0 before they are scaled, and finite after it
+use mathlib.Core.Path.{_≡_, refl, sym, ap, _∙_, subst}
+use Prim.Native.Nat.{ℕ, _*_, _^_, _≤_, _<_, zero-le}
+use native.Mathlib.Nat.{le-refl, le-trans, le-of-eq, lt-of-le-of-lt, mul-pos, mul-le-mul, mul-le-mul-right}
+use mathlib.Core.Bool.{Bool, true, false, not, cond}
+use lib.Dec.{T, leb, ltb, eqb, leb→le, lit≤, lit<}
+use lib.Pow.{pow-pos}
+use lib.Ieee.{Float, fin, binary32, fits, sub, mul, ofBits}
+use Rattle.numbers.specs.declared.costs.RematScales.{RematScales}
+use Rattle.numbers.specs.Weight.{Finite, number, Weight, finite, beyond, unitsOf, none, costLimit, valueOf}
+use Rattle.numbers.specs.Cost.{reloadCost, moveCost, spillCost, scaled}
+use Rattle.numbers.proofs.Tests.{cond-both}
+use Rattle.numbers.proofs.Units.{units-below, finite-of-units, none-finite, none-units}
+use Rattle.numbers.proofs.Rounding.{rounded, round-at-most}
+use Rattle.numbers.proofs.Operations.{product-round, product-weight, difference-finite}
+use Rattle.numbers.proofs.Bits.{value-finite, bits-monotone}
+
+-- a cost: a weight of at most 65536.0, which is 2 to the power 165 units
+pub record Cost (x : Float) : Type 0 where
+  pub weight : Finite x
+  pub limited : unitsOf x ≤ 2 ^ 165
+
+none-cost : Cost none
+none-cost = record { weight = none-finite; limited = le-trans (le-of-eq none-units) zero-le }
+
+pub reload-cost : Cost reloadCost
+unfolding fits unitsOf
+reload-cost = record { weight = number tt; limited = lit≤ tt }
+
+pub move-cost : Cost moveCost
+unfolding fits unitsOf
+move-cost = record { weight = number tt; limited = lit≤ tt }
+
+-- a move costs no more than a reload
+pub move-below-reload : unitsOf moveCost ≤ unitsOf reloadCost
+unfolding unitsOf
+move-below-reload = lit≤ tt
+
+-- a class cost or a scale, from its bits
+most : unitsOf (ofBits binary32 costLimit) ≡ 2 ^ 165
+unfolding unitsOf ofBits
+most = refl
+
+pub value-cost : (bits : ℕ) → Cost (valueOf costLimit bits)
+value-cost bits =
+    record {
+      weight = value-finite costLimit bits (lit≤ tt);
+      limited = unfold valueOf in cond-both (λ (x : Float). unitsOf x ≤ 2 ^ 165) (leb bits costLimit) (ofBits binary32 bits) none
+          (λ t. le-trans (bits-monotone bits costLimit (lit≤ tt) (leb→le bits costLimit t)) (le-of-eq most))
+          (λ _. none-cost .limited);
+    }
+
+-- a use's cost, at any reload and move cost
+pub spill-cost-cost : {reload move : Float} → Cost reload → Cost move → unitsOf move ≤ unitsOf reload → (kind field : ℕ) → Cost (spillCost reload move kind field)
+unfolding spillCost
+spill-cost-cost {reload} {move} r m h kind field =
+    cond-both Cost (ltb kind 2) (cond (eqb field 0) reload none) (cond (ltb kind 4) (sub binary32 reload move) (cond (ltb kind 8) (valueOf costLimit field) none))
+    (λ _. cond-both Cost (eqb field 0) reload none (λ _. r) (λ _. none-cost))
+    (λ _. cond-both Cost (ltb kind 4) (sub binary32 reload move) (cond (ltb kind 8) (valueOf costLimit field) none)
+    (λ _. saved)
+    (λ _. cond-both Cost (ltb kind 8) (valueOf costLimit field) none (λ _. value-cost field) (λ _. none-cost)))
+  where
+    saved : Cost (sub binary32 reload move)
+    saved = let d = difference-finite (r .weight) (m .weight) h in record { weight = d .0; limited = le-trans (d .1) (r .limited) }
+
+-- ---- scaled
+-- the product of two costs is at most 65536.0 times 65536.0
+square : Float
+square = fin false 1 (lib.IntN.pos 32)
+
+square-finite : Finite square
+unfolding square fits
+square-finite = number tt
+
+square-units : unitsOf square ≡ 2 ^ 181
+unfolding square unitsOf
+square-units = refl
+
+pub product-finite : {x y : Float} → Cost x → Cost y → Finite (mul binary32 x y)
+unfolding rounded
+product-finite {x} {y} a b =
+    let p = product-round (a .weight) (b .weight) in
+    let l : unitsOf x * unitsOf y * 2 ^ 149 ≤ unitsOf square * (2 ^ 149 * 2 ^ 149) = le-trans (mul-le-mul-right (2 ^ 149) (mul-le-mul (a .limited) (b .limited))) (le-trans (lit≤ tt) (le-of-eq (ap (λ (u : ℕ). u * (2 ^ 149 * 2 ^ 149)) (sym square-units)))) in
+    finite-of-units (product-weight (a .weight) (b .weight))
+    (lt-of-le-of-lt (le-trans (le-of-eq (ap unitsOf p)) (round-at-most (finite square-finite) (unitsOf x * unitsOf y) (2 ^ 149 * 2 ^ 149) (mul-pos (pow-pos 149) (pow-pos 149)) l)) (units-below square-finite))
+
+-- the three scales of a job
+pub record Scales (s : RematScales) : Type 0 where
+  pub move : Cost (s .«cheaper_than_move»)
+  pub load : Cost (s .«cheaper_than_load»)
+  pub indirectly : Cost (s .indirect)
+
+pub scaled-finite : {cost : Float} {s : RematScales} (code : ℕ) → Scales s → Cost cost → Finite (scaled code s cost)
+unfolding scaled
+scaled-finite {cost} {s} code k c =
+    let one = mul binary32 cost (s .«cheaper_than_move») in
+    let two = mul binary32 cost (s .«cheaper_than_load») in
+    let three = mul binary32 cost (s .indirect) in
+    cond-both Finite (eqb code 1) one (cond (eqb code 2) two (cond (eqb code 3) three cost)) (λ _. product-finite c (k .move))
+    (λ _. cond-both Finite (eqb code 2) two (cond (eqb code 3) three cost) (λ _. product-finite c (k .load))
+    (λ _. cond-both Finite (eqb code 3) three cost (λ _. product-finite c (k .indirectly)) (λ _. c .weight)))

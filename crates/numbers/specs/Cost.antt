@@ -1,0 +1,32 @@
+-- Use costs
+use Prim.Native.Nat.{ℕ}
+use mathlib.Core.Bool.{cond}
+use lib.IntN.{pos, negsuc}
+use lib.Dec.{ltb, eqb}
+use mathlib.Core.Bool.{false}
+use lib.Ieee.{Float, fin, binary32, sub, mul}
+use Rattle.numbers.specs.declared.costs.RematScales.{RematScales}
+use Rattle.numbers.specs.Weight.{none, costLimit, valueOf}
+
+-- the reload cost, 1.0
+abbrev pub reloadCost : Float
+reloadCost = fin false 1 (pos 0)
+
+-- the move cost, 0.5
+abbrev pub moveCost : Float
+moveCost = fin false 1 (negsuc 0)
+
+-- a use's cost by its kind and cost field: fixed uses cost a reload unless in memory, tied uses and conflicts what a move saves, class uses the field, block parameters nothing
+unfoldable pub spillCost : Float → Float → ℕ → ℕ → Float
+unfolding valueOf
+spillCost reload move kind field =
+    cond (ltb kind 2) (cond (eqb field 0) reload none)
+    (cond (ltb kind 4) (sub binary32 reload move)
+    (cond (ltb kind 8) (valueOf costLimit field) none))
+
+-- a use's cost scaled by its value's code: 0 none, 1 cheaper than move, 2 cheaper than load, 3 indirect
+unfoldable pub scaled : ℕ → RematScales → Float → Float
+scaled code scales cost =
+    cond (eqb code 1) (mul binary32 cost (scales .«cheaper_than_move»))
+    (cond (eqb code 2) (mul binary32 cost (scales .«cheaper_than_load»))
+    (cond (eqb code 3) (mul binary32 cost (scales .indirect)) cost))

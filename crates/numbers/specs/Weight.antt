@@ -1,0 +1,67 @@
+-- Weights: the binary32 values that are neither negative nor a NaN
+use Prim.Native.Nat.{ℕ, _*_, _/_, _^_}
+use mathlib.Core.Bool.{Bool, true, false, not, _&&_, cond}
+use mathlib.Core.List.{List, [], _∷_}
+use lib.IntN.{ℤ, pos}
+use lib.Dec.{T, leb}
+use lib.Ieee.{Float, nan, inf, fin, binary32, fits, up, down, lt, ofBits, toBits}
+use Rattle.numbers.specs.declared.weights.MaybeWeight.{MaybeWeight}
+use Rattle.numbers.specs.declared.weights.MaybeWeight.the-variants as MaybeWeight·is
+use Rattle.numbers.specs.declared.weights.MaybeBits.{MaybeBits}
+use Rattle.numbers.specs.declared.weights.MaybeBits.the-variants as MaybeBits·is
+
+-- a finite weight
+pub data Finite : Float → Type 0 where
+  number : {m : ℕ} {e : ℤ} → T (fits binary32 (fin false m e)) → Finite (fin false m e)
+
+-- a weight: finite or infinite
+pub data Weight : Float → Type 0 where
+  infinite : Weight (inf false)
+  finite : {x : Float} → Finite x → Weight x
+
+-- one more unit than every finite weight has at most: what an infinity counts
+abbrev pub beyond : ℕ
+beyond = 2 ^ 277
+
+-- a weight in units of 2 to the power -149, the smallest weight above zero
+unfoldable pub unitsOf : Float → ℕ
+unitsOf nan = 0
+unitsOf (inf s) = beyond
+unitsOf (fin s m e) = m * up e * 2 ^ 149 / down e
+
+-- zero, the weight of nothing
+abbrev pub none : Float
+none = fin false 0 (pos 0)
+
+-- the bits of infinity, of the largest frequency and of 65536.0
+abbrev pub weightLimit : ℕ
+weightLimit = 2139095040
+
+abbrev pub frequencyLimit : ℕ
+frequencyLimit = 2139095039
+
+abbrev pub costLimit : ℕ
+costLimit = 1199570944
+
+-- the value of bits up to a limit, absent above it
+unfoldable pub valueFrom : ℕ → ℕ → MaybeWeight
+valueFrom limit bits = cond (leb bits limit) (MaybeWeight·is.At (ofBits binary32 bits)) MaybeWeight·is.Absent
+
+-- the value of bits up to a limit, and zero above it, which no accepted job has
+unfoldable pub valueOf : ℕ → ℕ → Float
+valueOf limit bits = cond (leb bits limit) (ofBits binary32 bits) none
+
+-- a weight's bits
+unfoldable pub bitsFrom : Float → MaybeBits
+bitsFrom nan = MaybeBits·is.Absent
+bitsFrom (inf s) = cond s MaybeBits·is.Absent (MaybeBits·is.At (toBits binary32 (inf s)))
+bitsFrom (fin s m e) = cond s MaybeBits·is.Absent (MaybeBits·is.At (toBits binary32 (fin s m e)))
+
+-- the heavier of two weights
+abbrev pub heavier : Float → Float → Float
+heavier a b = cond (lt a b) b a
+
+-- the heaviest of a list of weights, zero if there is none
+abbrev pub heaviest : List Float → Float
+heaviest [] = none
+heaviest (w ∷ ws) = heavier (heaviest ws) w

@@ -1,0 +1,78 @@
+// The normalised weight, the weight test and the H figure.
+ghost use mathlib.Core.Path.{_≡_};
+ghost use Prim.Native.Nat.{_+_, _*_, _/_, _^_, _<_, min};
+ghost use lib.IntN.{pos};
+ghost use lib.Ieee.{binary32, ofInt};
+ghost use Rattle.numbers.specs.Weight.{weightLimit, valueOf};
+ghost use Rattle.numbers.specs.Normal.{normalised, exceeds};
+ghost use Rattle.numbers.specs.Figure.{figure};
+use crate::weights;
+
+// The weight test's factor. It leaves room for the rounding of weights that are added again in another order.
+const FLOAT_PRECISION_ADJUST: f32 = 2007.0 / 2048.0;
+
+// The largest finite f32.
+const LARGEST: f32 = 340282346638528859811704183484516925440.0;
+
+// The whole number a + b as a float, rounded once. A cast is exact up to 2 to the power 24; above that the number goes in two
+// parts that are floats exactly, so that their sum is the one rounding.
+fn sum_as_f32(a: u32, b: u32) -> f32
+    ensures { λ r. ⌜ r ≡ ofInt binary32 (pos (a + b)) ⌝ }
+{
+    let n = (a as u64) + (b as u64);
+    if n <= 16777216 {
+        return n as f32;
+    }
+    let high = (n / 65536) as f32;
+    let low = (n % 65536) as f32;
+    high * 65536.0 + low
+}
+
+// The weight of all uses over the live instructions and the adjustment k, at most the largest finite f32.
+pub fn normalize_spill_weight(spill_cost: f32, num_insts: u32, k: u32) -> f32
+    ensures { λ r. ⌜ r ≡ normalised «spill_cost» «num_insts» k ⌝ }
+{
+    let weight = spill_cost / sum_as_f32(num_insts, k);
+    if weight > LARGEST { LARGEST } else { weight }
+}
+
+// The weight test: the weight, made a little smaller, strictly exceeds the heaviest weight met.
+pub fn strictly_exceeds(weight: f32, heaviest: f32) -> bool
+    ensures { λ r. ⌜ r ≡ exceeds 2007 weight heaviest ⌝ }
+{
+    weight * FLOAT_PRECISION_ADJUST > heaviest
+}
+
+// floor(digits * 1000 / 2 ^ places), at most 999999999.
+fn shifted_figure(digits: u32, places: u32) -> u32
+    requires { ⌜ digits < 16777216 ⌝ }
+    ensures { λ r. ⌜ r ≡ min (digits * 1000 / 2 ^ places) 999999999 ⌝ }
+{
+    if places >= 64 {
+        return 0;
+    }
+    let q = ((digits as u64) * 1000) >> places;
+    if q > 999999999 {
+        return 999999999;
+    }
+    q as u32
+}
+
+// The H figure of a weight, from its bits: the weight times 1000, cut off, at most 999999999.
+pub fn h_figure(bits: u32) -> u32
+    ensures { λ r. ⌜ r ≡ figure (valueOf weightLimit bits) ⌝ }
+{
+    if bits > weights::WEIGHT_LIMIT {
+        return 0;
+    }
+    let exponent = bits / 8388608;
+    let fraction = bits % 8388608;
+    // 2 to the power 150 - exponent is the place value of the last digit: from 150 on the weight is 2 to the power 23 or more.
+    if exponent >= 150 {
+        return 999999999;
+    }
+    if exponent == 0 {
+        return shifted_figure(fraction, 149);
+    }
+    shifted_figure(8388608 + fraction, 150 - exponent)
+}
