@@ -1,0 +1,178 @@
+-- The columns of a block list: those of one length are the list's own; a sound list's columns serve the search; a part as long as the list holds the same list
+use mathlib.Core.Path.{_≡_, refl, sym, ap, _∙_, subst, fun-ext}
+use mathlib.Core.List.{List, [], _∷_, map}
+use Prim.Native.Nat.{ℕ, zero, suc, _+_, _-_, _≤_, _<_, zero-le, min}
+use native.Mathlib.Nat.{le-refl, le-trans, le-of-eq, lt-of-lt-of-le, lt-of-le-of-lt, suc-inj, not-suc-le-zero}
+use native.Mathlib.Omega.{arith}
+use mathlib.Core.Bool.{Bool, true, false, cond}
+use lib.Dec.{ltb, eqb}
+use lib.ListN.{length, getD, take}
+use borrow.Author.Tests.{lt-ltb, eq-eqb, ne-eqb}
+use Rattle.numbers.specs.Weight.{frequencyLimit}
+use Rattle.numbers.proofs.Tests.{cond-true, cond-false}
+use Rattle.links.specs.First.{firstBelow, Searchable}
+use Rattle.links.specs.Blocks.{Block, noBlock, blocksOf, blockAt, startOf, itemLimit, endLimit, SoundBlocks, blockOf, Ends}
+use Rattle.links.specs.Links.{Frequencies}
+use Rattle.links.specs.Split.{follow, lastOr, edge, preferred, home, farthest, reaches, splitPoint, Swept, lastReached, Between}
+use Rattle.links.specs.declared.lower.Side.{Side}
+use Rattle.links.specs.declared.lower.Side.the-variants.{Previous, Next}
+use Rattle.links.proofs.Firsts.{first-at-most, first-same}
+use Rattle.links.proofs.Rows.{blocks-length, blocks-at, row-good, ends-rise, firsts-rise, block-of-holds}
+
+-- ---- columns of one length
+pub list-long : (fs ss es : List ℕ) → length ss ≡ length fs → length es ≡ length fs → length (blocksOf fs ss es) ≡ length fs
+list-long fs ss es p q = blocks-length fs ss es ∙ all (length fs) (length ss) (length es) p q
+  where
+    all : (a b c : ℕ) → b ≡ a → c ≡ a → min (min a b) c ≡ a
+    all a b c p q = omega arith
+
+pub frequency-column : (fs ss es : List ℕ) → length ss ≡ length fs → length es ≡ length fs → map (λ (b : Block). b .frequency) (blocksOf fs ss es) ≡ fs
+frequency-column [] ss es p q = refl
+frequency-column (f ∷ fs) [] es p q = absurd (none (length fs) p)
+  where
+    none : (n : ℕ) → 0 ≡ suc n → ⊥
+    none n e = omega arith
+frequency-column (f ∷ fs) (s ∷ ss) [] p q = absurd (none (length fs) q)
+  where
+    none : (n : ℕ) → 0 ≡ suc n → ⊥
+    none n e = omega arith
+frequency-column (f ∷ fs) (s ∷ ss) (e ∷ es) p q = ap (λ (l : List ℕ). f ∷ l) (frequency-column fs ss es (suc-inj p) (suc-inj q))
+
+-- a row, also past the end: there each column and the list give zero
+past : (l : List ℕ) (c : ℕ) → length l ≡ 0 → getD l c 0 ≡ 0
+past [] c e = refl
+past (x ∷ l) c e = absurd (none (length l) e)
+  where
+    none : (n : ℕ) → suc n ≡ 0 → ⊥
+    none n e = omega arith
+
+pub row-at : (fs ss es : List ℕ) → length ss ≡ length fs → length es ≡ length fs → (c : ℕ) → blockAt (blocksOf fs ss es) c ≡ record { frequency = getD fs c 0; first = getD ss c 0; end = getD es c 0 }
+row-at [] ss es p q c = λ i. record { frequency = 0; first = sym (past ss c p) i; end = sym (past es c q) i }
+row-at (f ∷ fs) [] es p q c = absurd (none (length fs) p)
+  where
+    none : (n : ℕ) → 0 ≡ suc n → ⊥
+    none n e = omega arith
+row-at (f ∷ fs) (s ∷ ss) [] p q c = absurd (none (length fs) q)
+  where
+    none : (n : ℕ) → 0 ≡ suc n → ⊥
+    none n e = omega arith
+row-at (f ∷ fs) (s ∷ ss) (e ∷ es) p q zero = refl
+row-at (f ∷ fs) (s ∷ ss) (e ∷ es) p q (suc c) = row-at fs ss es (suc-inj p) (suc-inj q) c
+
+-- ---- a part of each column as long as the list
+pub part-list : (fs ss es : List ℕ) → blocksOf (take (length (blocksOf fs ss es)) fs) (take (length (blocksOf fs ss es)) ss) (take (length (blocksOf fs ss es)) es) ≡ blocksOf fs ss es
+part-list [] ss es = refl
+part-list (f ∷ fs) [] es = refl
+part-list (f ∷ fs) (s ∷ ss) [] = refl
+part-list (f ∷ fs) (s ∷ ss) (e ∷ es) = ap (λ (l : List Block). record { frequency = f; first = s; end = e } ∷ l) (part-list fs ss es)
+
+-- ---- the last end
+pub last-end : (blocks : List Block) → 0 < length blocks → startOf blocks (length blocks) ≡ blockAt blocks (length blocks - 1) .end
+last-end blocks h = go (length blocks) h
+  where
+    go : (n : ℕ) → 0 < n → startOf blocks n ≡ blockAt blocks (n - 1) .end
+    go zero h = absurd (not-suc-le-zero h)
+    go (suc n) h = ap (λ (x : ℕ). blockAt blocks x .end) (less n)
+      where
+        less : (n : ℕ) → n ≡ suc n - 1
+        less n = omega arith
+
+-- ---- what the search relies on
+-- the edges that a side's search takes
+abbrev pub edgesOf : Side → List ℕ → List ℕ → List ℕ
+edgesOf Previous ss es = es
+edgesOf Next ss es = ss
+
+module _ (fs ss es : List ℕ) (after before : ℕ) (w : Between fs ss es after before) where
+  abbrev blocks : List Block
+  blocks = blocksOf fs ss es
+
+  n-is : length blocks ≡ length fs
+  n-is = list-long fs ss es (w .firsts-long) (w .ends-long)
+
+  end-at : (c : ℕ) → blockAt blocks c .end ≡ getD es c 0
+  end-at c = ap (λ (b : Block). b .end) (row-at fs ss es (w .firsts-long) (w .ends-long) c)
+
+  first-at : (c : ℕ) → blockAt blocks c .first ≡ getD ss c 0
+  first-at c = ap (λ (b : Block). b .first) (row-at fs ss es (w .firsts-long) (w .ends-long) c)
+
+  some : 0 < length fs
+  some = lt-of-lt-of-le (w .sound .some) (le-of-eq n-is)
+
+  inside-list : {k : ℕ} → k < length fs → k < length blocks
+  inside-list h = lt-of-lt-of-le h (le-of-eq (sym n-is))
+
+  ends-order : (i k : ℕ) → i ≤ k → k < length fs → getD es i 0 ≤ getD es k 0
+  ends-order i k h l = le-trans (le-of-eq (sym (end-at i))) (le-trans (ends-rise blocks (w .sound) i k h (inside-list l)) (le-of-eq (end-at k)))
+
+  firsts-order : (i k : ℕ) → i ≤ k → k < length fs → getD ss i 0 ≤ getD ss k 0
+  firsts-order i k h l = le-trans (le-of-eq (sym (first-at i))) (le-trans (firsts-rise blocks (w .sound) i k h (inside-list l)) (le-of-eq (first-at k)))
+
+  last-is : startOf blocks (length blocks) ≡ getD es (length fs - 1) 0
+  last-is = last-end blocks (w .sound .some) ∙ end-at (length blocks - 1) ∙ ap (λ (x : ℕ). getD es (x - 1) 0) n-is
+
+  last-inside : length fs - 1 < length fs
+  last-inside = less (length fs) some
+    where
+      less : (n : ℕ) → 0 < n → n - 1 < n
+      less n h = omega arith
+
+  last-limited : getD es (length fs - 1) 0 ≤ endLimit
+  last-limited = le-trans (le-of-eq (sym (end-at (length fs - 1)))) (row-good blocks (w .sound) (length fs - 1) (inside-list last-inside) .limited)
+
+  before-last : before ≤ getD es (length fs - 1) 0
+  before-last = le-trans (w .inside) (le-of-eq last-is)
+
+  pub frequencies : (room : ℕ) → length fs ≤ room → Frequencies fs room
+  frequencies room h =
+      record {
+        few = le-trans (le-of-eq (sym n-is)) (w .sound .few);
+        long = h;
+        sound = λ k l. le-trans (le-of-eq (sym (ap (λ (b : Block). b .frequency) (row-at fs ss es (w .firsts-long) (w .ends-long) k)))) (row-good blocks (w .sound) k (inside-list l) .weighted);
+      }
+
+  -- the block of an instruction below `before`
+  pub searched : (inst : ℕ) → inst < before → Ends es (length fs) inst
+  searched inst h =
+      record {
+        some = some;
+        few = le-trans (le-of-eq (sym n-is)) (w .sound .few);
+        searchable = record { order = zero-le; inside = le-of-eq (sym (w .ends-long)); rising = λ i k _ l m. ends-order i k l m };
+        before = lt-of-lt-of-le h before-last;
+        limited = lt-of-lt-of-le h (le-trans before-last last-limited);
+      }
+
+  pub block-inside : (inst b : ℕ) → inst < before → b ≡ firstBelow (λ (i : ℕ). ltb inst (getD es i 0)) (length fs) → b < length fs
+  block-inside inst b h e =
+      lt-of-le-of-lt (le-trans (le-of-eq e) (first-at-most (λ (i : ℕ). ltb inst (getD es i 0)) (length fs) (length fs - 1) (lt-ltb inst (getD es (length fs - 1) 0) (lt-of-lt-of-le h before-last)))) last-inside
+
+  pub block-found : (inst b : ℕ) → b ≡ firstBelow (λ (i : ℕ). ltb inst (getD es i 0)) (length fs) → b ≡ blockOf blocks inst
+  block-found inst b e =
+      e ∙ first-same (λ (i : ℕ). ltb inst (getD es i 0)) (λ (i : ℕ). ltb inst (blockAt blocks i .end)) (length fs) (λ k _. ap (ltb inst) (sym (end-at k)))
+      ∙ ap (firstBelow (λ (i : ℕ). ltb inst (blockAt blocks i .end))) (sym n-is) ∙ block-of-holds blocks (w .sound) inst
+
+  pub swept-ends : (b : ℕ) → b < length fs → Swept fs es b
+  swept-ends b h = record { inside = h; given = frequencies (length es) (le-of-eq (sym (w .ends-long))); rising = ends-order }
+
+  pub swept-firsts : (b : ℕ) → b < length fs → Swept fs ss b
+  swept-firsts b h = record { inside = h; given = frequencies (length ss) (le-of-eq (sym (w .firsts-long))); rising = firsts-order }
+
+  -- the split point, of the columns
+  edge-at : (side : Side) → _≡_ {A = ℕ → ℕ} (λ c. edge side (blockAt blocks c)) (λ c. getD (edgesOf side ss es) c 0)
+  edge-at Previous = fun-ext end-at
+  edge-at Next = fun-ext first-at
+
+  pub split-columns : (side : Side) → (after + 1 ≡ before → ⊥) → (b : ℕ) → b ≡ blockOf blocks (home side after before)
+      → lastReached side fs (edgesOf side ss es) (farthest side after before) (preferred side after before) b ≡ splitPoint side blocks after before
+  unfolding splitPoint
+  split-columns side apart b e =
+      sym (cond-false before _ (ne-eqb (after + 1) before apart)
+      ∙ ap (λ (place : ℕ → ℕ). lastOr (preferred side after before) (map place (follow side (map (λ (x : Block). x .frequency) blocks) (λ (c : ℕ). reaches side (farthest side after before) (place c)) (length blocks) (blockOf blocks (home side after before))))) (edge-at side)
+      ∙ ap (λ (freqs : List ℕ). lastOr (preferred side after before) (map (λ (c : ℕ). getD (edgesOf side ss es) c 0) (follow side freqs (λ (c : ℕ). reaches side (farthest side after before) (getD (edgesOf side ss es) c 0)) (length blocks) (blockOf blocks (home side after before))))) (frequency-column fs ss es (w .firsts-long) (w .ends-long))
+      ∙ ap (λ (n : ℕ). lastOr (preferred side after before) (map (λ (c : ℕ). getD (edgesOf side ss es) c 0) (follow side fs (λ (c : ℕ). reaches side (farthest side after before) (getD (edgesOf side ss es) c 0)) n (blockOf blocks (home side after before))))) n-is
+      ∙ ap (λ (x : ℕ). lastReached side fs (edgesOf side ss es) (farthest side after before) (preferred side after before) x) (sym e))
+
+-- between neighbours there is one point
+pub split-neighbours : (side : Side) (blocks : List Block) (after before : ℕ) → after + 1 ≡ before → before ≡ splitPoint side blocks after before
+unfolding splitPoint
+split-neighbours side blocks after before e = sym (cond-true before _ (eq-eqb (after + 1) before e))

@@ -1,0 +1,8 @@
+-- The laws of the links layer, lowest first
+pub mod Firsts
+pub mod Rows
+pub mod Checks
+pub mod Linking
+pub mod Following
+pub mod Columns
+pub mod Answers

@@ -1,0 +1,92 @@
+-- `between` sweeps from the block that its definition starts from, on the side that is preferred
+use mathlib.Core.Path.{_≡_, sym, ap, _∙_, subst}
+use mathlib.Core.Bool.{Bool, true, false}
+use Prim.Native.Nat.{ℕ, _+_, _-_, _<_}
+use native.Mathlib.Omega.{arith}
+use Rattle.links.specs.Blocks.{blocksOf}
+use Rattle.links.specs.Split.{sideOf, splitPoint}
+use Rattle.links.specs.declared.lower.Side.the-variants.{Previous, Next}
+use Rattle.links.proofs.Columns.{searched, block-inside, block-found, swept-ends, swept-firsts, split-columns, split-neighbours}
+use borrow.Author.Needs.{needs}
+use Rattle.links.proofs.split.between.Statement.{statement}
+use Rattle.links.proofs.split.between.Tie as tie
+
+-- the instructions that the search starts from lie below `before`
+below : (after before : ℕ) → after < before → (after + 1 ≡ before → ⊥) → after + 1 < before
+below after before h n = omega arith
+
+under : (after before : ℕ) → after < before → before - 1 < before
+under after before h = omega arith
+
+add-if1 : tie.Need-add-if1
+add-if1 c = search needs
+
+returns : tie.Need-returns
+returns c = split-neighbours _ _ _ _ (c .if1 .taken)
+
+add-sweep : tie.Need-add-sweep
+add-sweep c = search needs
+
+block-of-requires : tie.Need-block-of-requires
+block-of-requires c κs = let s = c .before .before .before .before .before in searched (s .args .freq .now) (s .args .first .now) (s .args .end .now) (s .args .after) (s .args .before) (s .pre) (s .args .after + 1) (below (s .args .after) (s .args .before) (s .pre .order) (c .before .if1 .left))
+
+cast-at : tie.Need-cast-at
+cast-at c = search needs
+
+add-sweep-2 : tie.Need-add-sweep-2
+add-sweep-2 c = search needs
+
+sweep-requires : tie.Need-sweep-requires
+sweep-requires c κs =
+    let s = c .before .before .before .before .before .before .before in
+    swept-firsts (s .args .freq .now) (s .args .first .now) (s .args .end .now) (s .args .after) (s .args .before) (s .pre) (c .before .block-of .result .0) (block-inside (s .args .freq .now) (s .args .first .now) (s .args .end .now) (s .args .after) (s .args .before) (s .pre) (s .args .after + 1) (c .before .block-of .result .0) (below (s .args .after) (s .args .before) (s .pre .order) (c .before .before .before .if1 .left)) (c .before .block-of .ensures))
+
+returns-2 : tie.Need-returns-2
+returns-2 c =
+    let s = c .before .before .before .before .before .before .before .before in
+    c .sweep .ensures
+    ∙ split-columns (s .args .freq .now) (s .args .first .now) (s .args .end .now) (s .args .after) (s .args .before) (s .pre) Next (c .before .before .before .before .if1 .left) (c .before .before .block-of .result .0) (block-found (s .args .freq .now) (s .args .first .now) (s .args .end .now) (s .args .after) (s .args .before) (s .pre) (s .args .after + 1) (c .before .before .block-of .result .0) (c .before .before .block-of .ensures))
+    ∙ ap (λ (e : Bool). splitPoint (sideOf e) (blocksOf (s .args .freq .now) (s .args .first .now) (s .args .end .now)) (s .args .after) (s .args .before)) (sym (c .before .before .before .if2 .taken))
+
+sub-sweep : tie.Need-sub-sweep
+sub-sweep c = search needs
+
+block-of-requires-2 : tie.Need-block-of-requires-2
+block-of-requires-2 c κs = let s = c .before .before .before .before .before in searched (s .args .freq .now) (s .args .first .now) (s .args .end .now) (s .args .after) (s .args .before) (s .pre) (s .args .before - 1) (under (s .args .after) (s .args .before) (s .pre .order))
+
+cast-at-2 : tie.Need-cast-at-2
+cast-at-2 c = search needs
+
+add-sweep-3 : tie.Need-add-sweep-3
+add-sweep-3 c = search needs
+
+sweep-requires-2 : tie.Need-sweep-requires-2
+sweep-requires-2 c κs =
+    let s = c .before .before .before .before .before .before .before in
+    swept-ends (s .args .freq .now) (s .args .first .now) (s .args .end .now) (s .args .after) (s .args .before) (s .pre) (c .before .block-of2 .result .0) (block-inside (s .args .freq .now) (s .args .first .now) (s .args .end .now) (s .args .after) (s .args .before) (s .pre) (s .args .before - 1) (c .before .block-of2 .result .0) (under (s .args .after) (s .args .before) (s .pre .order)) (c .before .block-of2 .ensures))
+
+returns-3 : tie.Need-returns-3
+returns-3 c =
+    let s = c .before .before .before .before .before .before .before .before in
+    c .sweep2 .ensures
+    ∙ split-columns (s .args .freq .now) (s .args .first .now) (s .args .end .now) (s .args .after) (s .args .before) (s .pre) Previous (c .before .before .before .before .if1 .left) (c .before .before .block-of2 .result .0) (block-found (s .args .freq .now) (s .args .first .now) (s .args .end .now) (s .args .after) (s .args .before) (s .pre) (s .args .before - 1) (c .before .before .block-of2 .result .0) (c .before .before .block-of2 .ensures))
+    ∙ ap (λ (e : Bool). splitPoint (sideOf e) (blocksOf (s .args .freq .now) (s .args .first .now) (s .args .end .now)) (s .args .after) (s .args .before)) (sym (c .before .before .before .if2 .left))
+
+pub between-spec : {M : Type 1} → statement M
+between-spec =
+    tie.close
+    (tie.spec
+    add-if1
+    returns
+    add-sweep
+    block-of-requires
+    cast-at
+    add-sweep-2
+    sweep-requires
+    returns-2
+    sub-sweep
+    block-of-requires-2
+    cast-at-2
+    add-sweep-3
+    sweep-requires-2
+    returns-3)

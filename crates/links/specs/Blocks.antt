@@ -1,0 +1,86 @@
+-- The block list: its rows, refusals 2 and 3, and the block of an instruction
+use Prim.Native.Nat.{ℕ, zero, suc, _-_, _<_, _≤_}
+use mathlib.Core.Path.{_≡_}
+use mathlib.Core.Bool.{Bool, true, false, not, _&&_, _||_, cond}
+use mathlib.Core.List.{List, [], _∷_}
+use lib.Dec.{T, leb, ltb, eqb}
+use lib.ListN.{length, getD}
+use Rattle.numbers.specs.Weight.{frequencyLimit}
+use Rattle.links.specs.First.{firstBelow, Searchable}
+use Rattle.links.specs.declared.blocks.Refusal.{Refusal}
+use Rattle.links.specs.declared.blocks.Checked.{Checked}
+use Rattle.links.specs.declared.blocks.Checked.the-variants.{Sound, Refused}
+
+-- a block: frequency bits, first instruction, the instruction after its last
+pub record Block : Type 0 where
+  pub frequency : ℕ
+  pub first : ℕ
+  pub end : ℕ
+
+-- no block
+abbrev pub noBlock : Block
+noBlock = record { frequency = 0; first = 0; end = 0 }
+
+-- the block list that three lent columns hold, as long as the shortest
+abbrev pub blocksOf : List ℕ → List ℕ → List ℕ → List Block
+blocksOf [] ss es = []
+blocksOf (f ∷ fs) [] es = []
+blocksOf (f ∷ fs) (s ∷ ss) [] = []
+blocksOf (f ∷ fs) (s ∷ ss) (e ∷ es) = record { frequency = f; first = s; end = e } ∷ blocksOf fs ss es
+
+-- block i
+abbrev pub blockAt : List Block → ℕ → Block
+blockAt blocks i = getD blocks i noBlock
+
+-- where block i has to start: at instruction 0, or where the block before it ends
+abbrev pub startOf : List Block → ℕ → ℕ
+startOf blocks zero = 0
+startOf blocks (suc i) = blockAt blocks i .end
+
+-- limits: 4,096 items in a table, block ends up to 262,144
+abbrev pub itemLimit : ℕ
+itemLimit = 4096
+
+abbrev pub endLimit : ℕ
+endLimit = 262144
+
+-- a block that has to start at a place breaks line 3: it leaves a hole or overlaps, is empty, ends above the limit or has bad frequency bits
+unfoldable pub isBad : ℕ → Block → Bool
+isBad start b = not (eqb (b .first) start) || leb (b .end) (b .first) || ltb endLimit (b .end) || ltb frequencyLimit (b .frequency)
+
+-- block i breaks line 3
+abbrev pub badBlock : List Block → ℕ → Bool
+badBlock blocks i = isBad (startOf blocks i) (blockAt blocks i)
+
+-- a refusal of document 01's table
+abbrev pub refusal : ℕ → ℕ → Checked
+refusal number place = Refused (record { number = number; place = place })
+
+-- the block list's part of line 2, then line 3 at its first bad block
+unfoldable pub checkOf : List Block → Checked
+checkOf blocks =
+    let n = length blocks in
+    let bad = firstBelow (badBlock blocks) n in
+    cond (eqb n 0 || ltb itemLimit n) (refusal 2 0) (cond (ltb bad n) (refusal 3 bad) Sound)
+
+-- a sound block list breaks neither line
+pub record SoundBlocks (blocks : List Block) : Type 0 where
+  pub some : 0 < length blocks
+  pub few : length blocks ≤ itemLimit
+  pub each : (i : ℕ) → i < length blocks → badBlock blocks i ≡ false
+
+-- block i's range holds an instruction
+abbrev pub holds : List Block → ℕ → ℕ → Bool
+holds blocks inst i = leb (blockAt blocks i .first) inst && ltb inst (blockAt blocks i .end)
+
+-- the block of an instruction: the one whose range holds it
+unfoldable pub blockOf : List Block → ℕ → ℕ
+blockOf blocks inst = firstBelow (holds blocks inst) (length blocks)
+
+-- what a search for an instruction's block relies on: ends that do not fall, the instruction before the last of them
+pub record Ends (ends : List ℕ) (n inst : ℕ) : Type 0 where
+  pub some : 0 < n
+  pub few : n ≤ itemLimit
+  pub searchable : Searchable ends 0 n
+  pub before : inst < getD ends (n - 1) 0
+  pub limited : inst < endLimit

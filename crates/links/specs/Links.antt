@@ -1,0 +1,71 @@
+-- Lower links: the nearest block of strictly lower frequency on a side
+use Prim.Native.Nat.{ℕ, _+_, _-_, _<_, _≤_}
+use mathlib.Core.Path.{_≡_}
+use mathlib.Core.Bool.{Bool, cond}
+use mathlib.Core.List.{List}
+use lib.Dec.{ltb, eqb}
+use lib.ListN.{length, getD}
+use lib.Ieee.{Float, lt}
+use Rattle.numbers.specs.Weight.{frequencyLimit, valueOf}
+use Rattle.numbers.specs.declared.MaybeBlock.{MaybeBlock}
+use Rattle.numbers.specs.declared.MaybeBlock.the-variants.{At, Absent}
+use Rattle.links.specs.Blocks.{itemLimit}
+use Rattle.links.specs.First.{firstBelow}
+use Rattle.links.specs.Table.{column}
+use Rattle.links.specs.declared.lower.Side.{Side}
+use Rattle.links.specs.declared.lower.Side.the-variants.{Previous, Next}
+
+-- how many of n blocks lie on a side of block b
+abbrev pub beside : Side → ℕ → ℕ → ℕ
+beside Previous n b = b
+beside Next n b = n - (b + 1)
+
+-- the block on a side of block b with t blocks between
+abbrev pub beyond : Side → ℕ → ℕ → ℕ
+beyond Previous b t = b - (t + 1)
+beyond Next b t = b + 1 + t
+
+-- the link of a block that has none
+abbrev pub absent : ℕ
+absent = 4294967295
+
+-- block k's frequency is strictly lower than block b's, as binary32 values
+unfoldable pub isLower : List ℕ → ℕ → ℕ → Bool
+isLower freqs b k = lt (valueOf frequencyLimit (getD freqs k 0)) (valueOf frequencyLimit (getD freqs b 0))
+
+-- a lower link: the nearest block of strictly lower frequency on its side, absent if none is lower
+unfoldable pub lowerLink : Side → List ℕ → ℕ → ℕ
+lowerLink side freqs b =
+    let n = beside side (length freqs) b in
+    let t = firstBelow (λ (t : ℕ). isLower freqs b (beyond side b t)) n in
+    cond (ltb t n) (beyond side b t) absent
+
+-- all lower links of a side
+abbrev pub linkColumn : Side → List ℕ → List ℕ
+linkColumn side freqs = column (lowerLink side freqs) (length freqs)
+
+-- the answer to a link as it is stored
+abbrev pub linkAnswer : ℕ → MaybeBlock
+linkAnswer link = cond (eqb link absent) Absent (At (record { 0 = link }))
+
+-- block k lies on a side of block b
+abbrev pub Beyond : Side → ℕ → ℕ → Type 0
+Beyond Previous b k = k < b
+Beyond Next b k = b < k
+
+-- the block that is linked after t others: those farthest on the side come first
+abbrev pub nth : Side → ℕ → ℕ → ℕ
+nth Previous n t = t
+nth Next n t = n - (t + 1)
+
+-- what linking relies on, of a block list that the checks have passed and a lent column with room for it
+pub record Frequencies (freqs : List ℕ) (room : ℕ) : Type 0 where
+  pub few : length freqs ≤ itemLimit
+  pub long : length freqs ≤ room
+  pub sound : (k : ℕ) → k < length freqs → getD freqs k 0 ≤ frequencyLimit
+
+-- and each block beyond block b on a side has its link
+pub record LinkedBeyond (side : Side) (freqs links : List ℕ) (b : ℕ) : Type 0 where
+  pub inside : b < length freqs
+  pub given : Frequencies freqs (length links)
+  pub done : (k : ℕ) → k < length freqs → Beyond side b k → getD links k 0 ≡ lowerLink side freqs k

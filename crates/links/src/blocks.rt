@@ -1,0 +1,113 @@
+// The block list: its part of refusal 2, refusal 3, and the block of an instruction.
+ghost use mathlib.Core.Path.{_≡_};
+ghost use Prim.Native.Nat.{ℕ, min, _<_};
+ghost use lib.Dec.{ltb};
+ghost use lib.ListN.{length, getD};
+ghost use Rattle.links.specs.First.{firstBelow};
+ghost use Rattle.links.specs.Blocks.{blocksOf, isBad, badBlock, checkOf, Ends};
+use crate::search;
+use numbers::Block;
+use numbers::Inst;
+use numbers::weights;
+
+// No input table has more items.
+pub const ITEM_LIMIT: usize = 4096;
+
+// No block ends later.
+pub const END_LIMIT: u32 = 262144;
+
+// A line of document 01's table, and its first offending place.
+pub struct Refusal {
+    pub number: u32,
+    pub place: u32,
+}
+
+pub enum Checked {
+    Sound,
+    Refused(Refusal),
+}
+
+fn shorter(a: usize, b: usize) -> usize
+    ensures { λ r. ⌜ r ≡ min a b ⌝ }
+{
+    if a < b { a } else { b }
+}
+
+// How many blocks the columns hold: as many as the shortest.
+pub fn count(freq: &[u32], first: &[u32], end: &[u32]) -> usize
+    ensures { λ r. ⌜ r ≡ length (blocksOf (now (freq .entry)) (now (first .entry)) (now (end .entry))) ⌝ }
+{
+    let n = shorter(freq.len(), first.len());
+    shorter(n, end.len())
+}
+
+// A block that has to start at `start` leaves a hole or overlaps, is empty, ends too late or has bad frequency bits.
+fn is_bad(start: u32, freq: u32, first: u32, end: u32) -> bool
+    ensures { λ r. ⌜ r ≡ isBad start (record { frequency = freq; first = first; end = end }) ⌝ }
+{
+    if first != start {
+        return true;
+    }
+    if end <= first {
+        return true;
+    }
+    if end > END_LIMIT {
+        return true;
+    }
+    freq > weights::FREQUENCY_LIMIT
+}
+
+// The first bad block, or n.
+fn first_bad(freq: &[u32], first: &[u32], end: &[u32], n: usize) -> usize
+    requires { ⌜ n ≡ length (blocksOf (now freq) (now first) (now end)) ⌝ }
+    ensures { λ r. ⌜ r ≡ firstBelow (badBlock (blocksOf (now (freq .entry)) (now (first .entry)) (now (end .entry)))) n ⌝ }
+{
+    let mut start: u32 = 0;
+    let mut i = 0;
+    while i < n {
+        let e = end[i];
+        if is_bad(start, freq[i], first[i], e) {
+            return i;
+        }
+        start = e;
+        i += 1;
+    }
+    n
+}
+
+// Whether the block list is sound, or the first line that it breaks: 2 for no block or too many, 3 for its first bad block.
+pub fn check_blocks(freq: &[u32], first: &[u32], end: &[u32]) -> Checked
+    ensures { λ r. ⌜ r ≡ checkOf (blocksOf (now (freq .entry)) (now (first .entry)) (now (end .entry))) ⌝ }
+{
+    let n = count(freq, first, end);
+    if n == 0 {
+        return Checked::Refused(Refusal {
+            number: 2,
+            place: 0,
+        });
+    }
+    if n > ITEM_LIMIT {
+        return Checked::Refused(Refusal {
+            number: 2,
+            place: 0,
+        });
+    }
+    let bad = first_bad(freq, first, end, n);
+    if bad < n {
+        return Checked::Refused(Refusal {
+            number: 3,
+            place: bad as u32,
+        });
+    }
+    Checked::Sound
+}
+
+// The block of an instruction before the last of n block ends: the first that ends after it. Of a sound block list that is the
+// block whose range holds the instruction.
+pub fn block_of(end: &[u32], n: usize, inst: Inst) -> Block
+    requires { ⌜ Ends (now end) n (inst .0) ⌝ }
+    ensures { λ r. ⌜ r .0 ≡ firstBelow (λ (i : ℕ). ltb (inst .0) (getD (now (end .entry)) i 0)) n ⌝ }
+{
+    let at = search::first_at_least(end, 0, n, inst.0 + 1);
+    Block(at as u32)
+}
