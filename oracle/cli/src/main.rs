@@ -1,1 +1,140 @@
-fn main(){}
+//! The oracle: sheets answered by the supplied Rust, and streams of jobs compared with the second reading.
+
+mod compare;
+
+use std::io::{Read, Write};
+use std::process::ExitCode;
+
+use sheet::{Limits, read_sheet, write_answer, write_sheet, write_tables};
+
+const USAGE: &str = "\
+usage: oracle/run COMMAND
+  answer SHEET             the answer to a sheet (- for standard input)
+  tables SHEET             the answer and the tables filled
+  generate [OPTIONS]       accepted jobs as sheets, an empty line after each
+  compare [OPTIONS]        the Rust against the second reading on accepted jobs
+  points [OPTIONS]         the same for the lower-cost split point
+OPTIONS: --seed N (1), --count N (1000), --from N (0), --size tiny|small|sheet|full|stream (stream)";
+
+fn main() -> ExitCode {
+    let args: Vec<String> = std::env::args().skip(1).collect();
+    let Some((command, rest)) = args.split_first() else {
+        return usage();
+    };
+    match (command.as_str(), rest) {
+        ("answer", [path]) => answer(path, false),
+        ("tables", [path]) => answer(path, true),
+        ("generate", rest) => with(rest, generate),
+        ("compare", rest) => with(rest, compare::jobs),
+        ("points", rest) => with(rest, compare::points),
+        _ => usage(),
+    }
+}
+
+fn usage() -> ExitCode {
+    eprintln!("{USAGE}");
+    ExitCode::from(2)
+}
+
+/// Prints, and ends quietly where nobody reads.
+pub fn print(text: &str) {
+    if std::io::stdout().write_all(text.as_bytes()).is_err() {
+        std::process::exit(0);
+    }
+}
+
+/// What a stream of jobs is made of.
+pub struct Options {
+    pub seed: u64,
+    pub from: u64,
+    pub count: u64,
+    pub size: Option<gen_jobs::Size>,
+}
+
+impl Options {
+    fn read(args: &[String]) -> Option<Self> {
+        let mut options = Self { seed: 1, from: 0, count: 1000, size: None };
+        for pair in args.chunks(2) {
+            let [name, value] = pair else {
+                return None;
+            };
+            match name.as_str() {
+                "--seed" => options.seed = value.parse().ok()?,
+                "--from" => options.from = value.parse().ok()?,
+                "--count" => options.count = value.parse().ok()?,
+                "--size" => {
+                    options.size = match value.as_str() {
+                        "tiny" => Some(gen_jobs::Size::Tiny),
+                        "small" => Some(gen_jobs::Size::Small),
+                        "sheet" => Some(gen_jobs::Size::Sheet),
+                        "full" => Some(gen_jobs::Size::Full),
+                        "stream" => None,
+                        _ => return None,
+                    }
+                }
+                _ => return None,
+            }
+        }
+        Some(options)
+    }
+
+    /// The stream's items, each with its own random numbers.
+    pub fn items(&self) -> impl Iterator<Item = (u64, gen_jobs::Rng)> + use<> {
+        let seed = self.seed;
+        (self.from..self.from + self.count).map(move |item| (item, gen_jobs::Rng::of(seed, item)))
+    }
+
+    pub fn job(&self, rng: &mut gen_jobs::Rng) -> sheet::Job {
+        let size = self.size.unwrap_or_else(|| gen_jobs::Size::of_stream(rng));
+        gen_jobs::accepted(rng, size)
+    }
+}
+
+fn with(args: &[String], run: impl FnOnce(Options) -> ExitCode) -> ExitCode {
+    Options::read(args).map_or_else(usage, run)
+}
+
+fn answer(path: &str, tables: bool) -> ExitCode {
+    let mut text = Vec::new();
+    let read = match path {
+        "-" => std::io::stdin().read_to_end(&mut text).map(|_| ()),
+        _ => std::fs::read(path).map(|bytes| text = bytes),
+    };
+    if let Err(error) = read {
+        eprintln!("oracle: {path}: {error}");
+        return ExitCode::from(2);
+    }
+    // Refusals rest on the second reading; the Rust is asked only about accepted jobs.
+    let job = match read_sheet(&text, Limits::Sheet) {
+        Ok(job) => job,
+        Err((number, place)) => {
+            print(&write_answer(&sheet::Answer::Refused(number, place)));
+            return ExitCode::SUCCESS;
+        }
+    };
+    if let Some((number, place)) = model::refusal(&job) {
+        print(&write_answer(&sheet::Answer::Refused(number, place)));
+        return ExitCode::SUCCESS;
+    }
+    match supplied::run_job(&job) {
+        Ok(ran) => {
+            print(&write_answer(&ran.answer));
+            if tables {
+                print(&write_tables(&ran.tables));
+            }
+            ExitCode::SUCCESS
+        }
+        Err(said) => {
+            print(&format!("! {said}\n"));
+            ExitCode::FAILURE
+        }
+    }
+}
+
+fn generate(options: Options) -> ExitCode {
+    for (_, mut rng) in options.items() {
+        let job = options.job(&mut rng);
+        print(&(write_sheet(&job) + "\n"));
+    }
+    ExitCode::SUCCESS
+}

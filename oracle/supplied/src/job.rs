@@ -1,6 +1,8 @@
 //! A job put into the supplied Rust's own types, and run.
 
-use std::panic::{AssertUnwindSafe, catch_unwind};
+use std::cell::{Cell, RefCell};
+use std::panic::{self, AssertUnwindSafe};
+use std::sync::Once;
 
 use sheet::{
     ABSENT, Answer, FIXED_DEF, FIXED_HINT, Gap, GapSegment, Job, LIVE_IN, LIVE_OUT, Link, Proposal, Tables, UseRow,
@@ -54,11 +56,29 @@ pub fn split_point(blocks: &[sheet::Block], after: u32, before: u32, early: bool
     })
 }
 
+/// What a panic inside `f` said, with the file and line of the supplied Rust (or of the shim) where it did.
 fn caught<T>(f: impl FnOnce() -> T) -> Result<T, String> {
-    catch_unwind(AssertUnwindSafe(f)).map_err(|panic| match panic.downcast::<String>() {
-        Ok(text) => *text,
-        Err(panic) => panic.downcast::<&str>().map_or("panic".to_string(), |text| text.to_string()),
-    })
+    thread_local! {
+        static INSIDE: Cell<bool> = const { Cell::new(false) };
+        static SAID: RefCell<String> = const { RefCell::new(String::new()) };
+    }
+    static HOOK: Once = Once::new();
+    HOOK.call_once(|| {
+        let usual = panic::take_hook();
+        panic::set_hook(Box::new(move |info| {
+            if !INSIDE.get() {
+                return usual(info);
+            }
+            let at = info.location().unwrap();
+            let file = at.file().rsplit('/').next().unwrap();
+            let what = info.payload_as_str().unwrap_or("panic").replace('\n', " ");
+            SAID.set(format!("{file}:{}: {what}", at.line()));
+        }));
+    });
+    INSIDE.set(true);
+    let result = panic::catch_unwind(AssertUnwindSafe(f));
+    INSIDE.set(false);
+    result.map_err(|_| SAID.take())
 }
 
 fn run(job: &Job) -> Ran {
