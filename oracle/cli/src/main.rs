@@ -1,5 +1,6 @@
 //! The oracle: sheets answered by the supplied Rust, and streams of jobs compared with the second reading.
 
+mod cases;
 mod compare;
 
 use std::io::{Read, Write};
@@ -11,6 +12,7 @@ const USAGE: &str = "\
 usage: oracle/run COMMAND
   answer SHEET             the answer to a sheet (- for standard input)
   tables SHEET             the answer and the tables filled
+  cases                    document 01's cases A to M
   generate [OPTIONS]       accepted jobs as sheets, an empty line after each
   compare [OPTIONS]        the Rust against the second reading on accepted jobs
   points [OPTIONS]         the same for the lower-cost split point
@@ -24,6 +26,7 @@ fn main() -> ExitCode {
     match (command.as_str(), rest) {
         ("answer", [path]) => answer(path, false),
         ("tables", [path]) => answer(path, true),
+        ("cases", []) => cases::cases(),
         ("generate", rest) => with(rest, generate),
         ("compare", rest) => with(rest, compare::jobs),
         ("points", rest) => with(rest, compare::points),
@@ -104,30 +107,27 @@ fn answer(path: &str, tables: bool) -> ExitCode {
         eprintln!("oracle: {path}: {error}");
         return ExitCode::from(2);
     }
-    // Refusals rest on the second reading; the Rust is asked only about accepted jobs.
-    let job = match read_sheet(&text, Limits::Sheet) {
-        Ok(job) => job,
-        Err((number, place)) => {
-            print(&write_answer(&sheet::Answer::Refused(number, place)));
-            return ExitCode::SUCCESS;
-        }
+    let text = answer_text(&text, tables);
+    print(&text);
+    if text.starts_with('!') { ExitCode::FAILURE } else { ExitCode::SUCCESS }
+}
+
+/// The answer to a sheet as text, with the tables if they are wanted; `!` and an assertion that fired.
+///
+/// Refusals rest on the second reading: the Rust is asked only about accepted jobs.
+pub fn answer_text(text: &[u8], tables: bool) -> String {
+    let job = read_sheet(text, Limits::Sheet);
+    let refused = match &job {
+        Ok(job) => model::refusal(job),
+        Err(refusal) => Some(*refusal),
     };
-    if let Some((number, place)) = model::refusal(&job) {
-        print(&write_answer(&sheet::Answer::Refused(number, place)));
-        return ExitCode::SUCCESS;
+    if let Some((number, place)) = refused {
+        return write_answer(&sheet::Answer::Refused(number, place));
     }
-    match supplied::run_job(&job) {
-        Ok(ran) => {
-            print(&write_answer(&ran.answer));
-            if tables {
-                print(&write_tables(&ran.tables));
-            }
-            ExitCode::SUCCESS
-        }
-        Err(said) => {
-            print(&format!("! {said}\n"));
-            ExitCode::FAILURE
-        }
+    match supplied::run_job(&job.unwrap()) {
+        Ok(ran) if tables => write_answer(&ran.answer) + &write_tables(&ran.tables),
+        Ok(ran) => write_answer(&ran.answer),
+        Err(said) => format!("! {said}\n"),
     }
 }
 

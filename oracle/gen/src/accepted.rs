@@ -270,7 +270,14 @@ fn reservations(rng: &mut Rng, size: Size, job: &mut Job) {
     let free = Reading::of(job).read();
     let tested: Vec<f32> = free.tries.iter().map(|t| t.tested).collect();
     let weights = count(rng, size, 4, 10, 128);
-    job.weights = (0..weights).map(|_| pick_weight(rng, &tested)).collect();
+    // A calm job has light rows, so that its region grows far.
+    let calm = rng.chance(1, 3);
+    let lightest = tested.iter().copied().fold(f32::INFINITY, f32::min);
+    let weight = |rng: &mut Rng| match calm && rng.chance(9, 10) {
+        true => (lightest.min(f32::MAX) * rng.pick(&[0.0, 0.1, 0.5, 0.9])).to_bits(),
+        false => pick_weight(rng, &tested),
+    };
+    job.weights = (0..weights).map(|_| weight(rng)).collect();
     if rng.chance(1, 12) {
         job.weights.clear();
     }
@@ -282,8 +289,8 @@ fn reservations(rng: &mut Rng, size: Size, job: &mut Job) {
         per_unit: most_rows.div_ceil(job.units).max(1),
         fixed_per_unit: most_fixed.div_ceil(job.units).max(1),
         light_own: rng.chance(4, 5),
-        fixed_rows: rng.pick(&[0, 1, 4]),
-        strange: rng.pick(&[1, 3, 6]),
+        fixed_rows: if calm { 0 } else { rng.pick(&[0, 1, 4]) },
+        strange: if calm { rng.below(2) } else { rng.pick(&[1, 3, 6]) },
     };
     for unit in 0..job.units {
         fixed_uses(rng, job, &free.tables, unit, most_fixed, &style);

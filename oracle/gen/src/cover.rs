@@ -52,7 +52,7 @@ pub fn features(job: &Job, read: &Read) -> BTreeSet<String> {
     blocks(job, &mut when);
     segments(job, read, &mut when);
     rows(job, read, &mut when);
-    growth(job, read, &mut when);
+    growth(read, &mut when);
     let most = *job.sizes().iter().max().unwrap();
     when(most <= 4, "size: no table above 4 items");
     when(job.fits_sheet() && most >= 128, "size: a sheet with 128 lines of a kind or more");
@@ -122,7 +122,7 @@ fn rows(job: &Job, read: &Read, when: &mut impl FnMut(bool, &str)) {
     }
 }
 
-fn growth(job: &Job, read: &Read, when: &mut impl FnMut(bool, &str)) {
+fn growth(read: &Read, when: &mut impl FnMut(bool, &str)) {
     match read.answer {
         Answer::None(1) => {
             when(read.tables.uses.len() == 1, "none 1: a table of one row");
@@ -168,9 +168,11 @@ fn growth(job: &Job, read: &Read, when: &mut impl FnMut(bool, &str)) {
     };
     when(grown_after(Side::Left), "growth goes on with the left side barred");
     when(grown_after(Side::Right), "growth goes on with the right side barred");
+    when(read.tries.len() >= 20, "growth: 20 tries or more");
+    when(read.tries.len() >= 1000, "growth: 1,000 tries or more");
     let gaps = &read.tables.gaps;
     when(gaps.len() > read.tables.uses.len(), "gaps: cut at a block");
     when(gaps.iter().any(|g| g.live_insts == 0), "gaps: one without live instructions");
-    when(gaps.len() == 8192, "gaps: 8,192");
-    when(job.last_end() > 0 && gaps.windows(3).any(|w| w[1].weight == 0), "gaps: one of weight zero between");
+    when(gaps.len() >= 4096, "gaps: 4,096 or more");
+    when(gaps.windows(3).any(|w| w[1].weight == 0), "gaps: one of weight zero between");
 }

@@ -8,9 +8,9 @@ mod region;
 mod slips;
 mod tables;
 
-pub use refuse::{Rooms, refusal, refusal_with_rooms, split_point_refusal};
+pub use refuse::{ROOMY, Rooms, refusal, refusal_with, split_point_refusal};
 pub use region::{Outcome, Side, Try};
-pub use slips::Slip;
+pub use slips::{CheckSlip, Clause, PointSlip, Slip};
 
 use sheet::{Answer, Block, Job, Tables};
 
@@ -69,25 +69,21 @@ pub fn answer(job: &Job) -> Answer {
 /// The lower-cost split point: the cheapest place between, the one nearest to the preferred end.
 ///
 /// Early looks at the blocks that a point from `after + 1` on may start in, late at those that it may stand behind.
-pub fn split_point(blocks: &[Block], after: u32, before: u32, early: bool, slip: Option<Slip>) -> u32 {
-    let first = after + 1;
+pub fn split_point(blocks: &[Block], after: u32, before: u32, early: bool, slip: Option<PointSlip>) -> u32 {
+    let first = if slip == Some(PointSlip::FromAfter) { after } else { after + 1 };
     if first == before {
         return before;
     }
-    let late_on_ties = slip == Some(Slip::PointTies);
-    let freq = |b: &&Block| f32::from_bits(b.freq);
-    let least = |met: &[&Block]| met.iter().map(freq).fold(f32::INFINITY, f32::min);
-    if early {
-        let met: Vec<&Block> = blocks.iter().filter(|b| b.end > first && b.first <= before).collect();
-        let low = least(&met);
-        let mut lowest = met.iter().filter(|b| freq(b) == low);
-        let block = if late_on_ties { lowest.next_back() } else { lowest.next() };
-        block.unwrap().first.max(first)
-    } else {
-        let met: Vec<&Block> = blocks.iter().filter(|b| b.end >= first && b.first < before).collect();
-        let low = least(&met);
-        let mut lowest = met.iter().filter(|b| freq(b) == low);
-        let block = if late_on_ties { lowest.next() } else { lowest.next_back() };
-        block.unwrap().end.min(before)
-    }
+    let early = early != (slip == Some(PointSlip::Exchanged));
+    let short = (slip == Some(PointSlip::Short)) as u32;
+    let met = |b: &&Block| match early {
+        true => b.end > first && b.first + short <= before,
+        false => b.end >= first + short && b.first < before,
+    };
+    let freq = |b: &Block| f32::from_bits(b.freq);
+    let least = blocks.iter().filter(met).map(freq).fold(f32::INFINITY, f32::min);
+    let mut lowest = blocks.iter().filter(met).filter(|b| freq(b) == least);
+    let takes_first = early != (slip == Some(PointSlip::Ties));
+    let block = if takes_first { lowest.next() } else { lowest.next_back() }.unwrap();
+    if early { block.first.max(first) } else { block.end.min(before) }
 }

@@ -72,5 +72,76 @@ slips! {
     NoCap: "normalised weight not capped";
     OwnUntested: "own gap not tested when nothing is met";
     OwnLive: "own gap's instruction counted twice";
-    PointTies: "split point: the other one of equal blocks";
+}
+
+/// Slips in the lower-cost split point.
+#[derive(Clone, Copy, Debug, PartialEq, Eq)]
+pub enum PointSlip {
+    /// The other one of blocks with equal frequency.
+    Ties,
+    /// Early and late exchanged.
+    Exchanged,
+    /// The point at the end not preferred may not be taken.
+    Short,
+    /// The first instruction itself is looked at.
+    FromAfter,
+}
+
+impl PointSlip {
+    pub const ALL: [PointSlip; 4] =
+        [PointSlip::Ties, PointSlip::Exchanged, PointSlip::Short, PointSlip::FromAfter];
+}
+
+/// Slips in the checks.
+#[derive(Clone, Copy, Debug, PartialEq, Eq)]
+pub enum CheckSlip {
+    /// A clause left out.
+    LeftOut(Clause),
+    /// A limit one too high.
+    Looser(Clause),
+    /// A limit one too low.
+    Tighter(Clause),
+    /// A number's check made after the next one's.
+    Later(u32),
+    /// The last failing place instead of the first.
+    LastPlace(u32),
+}
+
+macro_rules! clauses {
+    (limits { $($limit:ident)* } others { $($other:ident)* }) => {
+        /// The clauses of document 01's table, limits first.
+        #[derive(Clone, Copy, Debug, PartialEq, Eq)]
+        pub enum Clause {
+            $($limit,)*
+            $($other,)*
+        }
+
+        const LIMITS: &[Clause] = &[$(Clause::$limit,)*];
+        const OTHERS: &[Clause] = &[$(Clause::$other,)*];
+    };
+}
+
+clauses! {
+    limits {
+        K Scale1 Scale2 Scale3 Units Items BlockEnd Frequency Code SegmentEmpty SegmentEnd SegmentOrder SegmentValue
+        Flags ListPast MemoryField ClassCost UseKind UsePastBlocks UseBefore UseBehind LastEnd Weight RowUnit RowOrder
+        RowEmpty RowEnd RowWeight RowFixed RowValue FixedUnit FixedPoint FixedOrder FixedValue UseRoom GapRoom
+        GapSegmentRoom LinkRoom AfterBefore BeforeEnd
+    }
+    others {
+        NoBlock NoSegment NoUnit Hole Overlap EmptyBlock StartSlot EndSlot ListStart ListFalls ListShort DefBoundary
+        DefInst DefMissing DefKind DefPosition NoCostField UseFalls OutBoundary OutUse LastNoUse RowUnitFalls
+        RowStartSlot RowEndSlot Kind1Fields Kind2Fixed RowKind FixedUnitFalls FixedBoundary
+    }
+}
+
+impl CheckSlip {
+    /// Every clause left out, every limit moved by one either way, each pair of checks exchanged, each last place.
+    pub fn all() -> Vec<CheckSlip> {
+        let limits = LIMITS.iter().flat_map(|c| [CheckSlip::LeftOut(*c), CheckSlip::Looser(*c), CheckSlip::Tighter(*c)]);
+        let others = OTHERS.iter().map(|c| CheckSlip::LeftOut(*c));
+        let later = (1..12).map(CheckSlip::Later);
+        let last = (3..13).map(CheckSlip::LastPlace);
+        limits.chain(others).chain(later).chain(last).collect()
+    }
 }
