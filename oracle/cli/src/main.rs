@@ -2,6 +2,8 @@
 
 mod cases;
 mod compare;
+mod record;
+mod replay;
 
 use std::io::{Read, Write};
 use std::process::ExitCode;
@@ -16,6 +18,9 @@ usage: oracle/run COMMAND
   generate [OPTIONS]       accepted jobs as sheets, an empty line after each
   compare [OPTIONS]        the Rust against the second reading on accepted jobs
   points [OPTIONS]         the same for the lower-cost split point
+  record                   writes recorded/*.txt again
+  replay                   the Rust and the second reading against recorded/*.txt
+  slips                    for each slip the recorded sheets that notice it
 OPTIONS: --seed N (1), --count N (1000), --from N (0), --size tiny|small|sheet|full|stream (stream)";
 
 fn main() -> ExitCode {
@@ -27,6 +32,9 @@ fn main() -> ExitCode {
         ("answer", [path]) => answer(path, false),
         ("tables", [path]) => answer(path, true),
         ("cases", []) => cases::cases(),
+        ("record", []) => record::write(),
+        ("replay", []) => replay::replay(),
+        ("slips", []) => replay::slips(),
         ("generate", rest) => with(rest, generate),
         ("compare", rest) => with(rest, compare::jobs),
         ("points", rest) => with(rest, compare::points),

@@ -2,8 +2,10 @@
 
 mod accepted;
 mod cover;
+mod damaged;
 mod rng;
 
 pub use accepted::{Size, accepted, point_call};
 pub use cover::{Cover, features};
+pub use damaged::{damaged, damaged_often, damaged_text, damages, text_damages};
 pub use rng::Rng;

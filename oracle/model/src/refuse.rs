@@ -68,7 +68,7 @@ impl Checks<'_> {
     fn over(&self, clause: Clause, value: u64, limit: u64) -> bool {
         match self.slip {
             Some(CheckSlip::LeftOut(c)) if c == clause => false,
-            Some(CheckSlip::Looser(c)) if c == clause => value > limit + 1,
+            Some(CheckSlip::Looser(c)) if c == clause => value > limit.saturating_add(1),
             Some(CheckSlip::Tighter(c)) if c == clause => value + 1 > limit,
             _ => value > limit,
         }
@@ -181,6 +181,7 @@ impl Checks<'_> {
         let Some(s) = job.segments.get(job.segments.partition_point(|s| s.end_use as usize <= i)) else {
             return false;
         };
+        let last = i.checked_sub(1).map(|last| job.uses[last]);
         let is_first = i == s.first_use as usize;
         let is_fixed_def = is_first && s.flags & FIXED_DEF != 0;
         let (p, start, end) = (u.pos as u64, s.start as u64, s.end as u64);
@@ -191,7 +192,7 @@ impl Checks<'_> {
         };
         self.over(Clause::UseKind, u.kind as u64, 9)
             || bad_cost
-            || self.holds(Clause::UseFalls, !is_first && u.pos < job.uses[i - 1].pos)
+            || self.holds(Clause::UseFalls, !is_first && last.is_some_and(|last| u.pos < last.pos))
             || self.over(Clause::UsePastBlocks, p + 1, job.last_end() as u64)
             || (!is_fixed_def
                 && (self.over(Clause::UseBefore, start / 4, p) || self.over(Clause::UseBehind, p, end / 4)))
