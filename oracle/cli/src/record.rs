@@ -11,6 +11,7 @@ use sheet::{Answer, Block, Job, Limits, Tables, fields, read_sheet, write_answer
 use crate::cases::recorded;
 
 const SEED: u64 = 20_261_115;
+const ONE: u32 = 1_065_353_216;
 
 /// How many sheets are kept, how many of them are to notice each slip, and how many have each feature.
 const SHEETS: usize = 300;
@@ -54,6 +55,7 @@ pub fn write() -> ExitCode {
     save("refusals.txt", &refusals());
     save("rooms.txt", &rooms());
     save("points.txt", &points());
+    save("long.txt", &long());
     ExitCode::SUCCESS
 }
 
@@ -188,7 +190,7 @@ fn refusals() -> Vec<Vec<u8>> {
         count(&job, 0);
         records.push(sheet_record(write_sheet(&job).as_bytes()));
     }
-    for item in 0..40_000 {
+    for item in 0..200_000 {
         let job = gen_jobs::damaged_often(&mut Rng::of(SEED + 2, item));
         if write_sheet(&job).len() < 900 && count(&job, 3) {
             records.push(sheet_record(write_sheet(&job).as_bytes()));
@@ -211,10 +213,14 @@ fn refusals() -> Vec<Vec<u8>> {
 /// Work tables of exactly the rows asked for, one less in each place, and faults before them.
 fn rooms() -> Vec<Vec<u8>> {
     let mut records = vec![];
-    for item in 0..8 {
+    for item in 0..9 {
         let mut rng = Rng::of(SEED + 4, item);
+        let mut damage = |name| gen_jobs::damaged(&mut rng, gen_jobs::damage_named(name)).unwrap().1;
         let job = match item {
-            6 | 7 => gen_jobs::damaged_often(&mut rng),
+            5 => damage("k one past"),
+            6 => damage("row: unknown unit"),
+            7 => damage("fixed use: unknown value"),
+            8 => damage("fixed use: at the blocks' end"),
             _ => gen_jobs::accepted(&mut rng, Size::Tiny),
         };
         let (u, b, s) = (job.uses.len(), job.blocks.len(), job.segments.len());
@@ -240,6 +246,56 @@ fn rooms() -> Vec<Vec<u8>> {
         }
     }
     records
+}
+
+/// Tables of 4,096 and 4,097 items, told by a sheet and how often a table's last line stands in the job.
+fn long() -> Vec<Vec<u8>> {
+    let mut records = vec![];
+    let sheet = [
+        fields('P', &[0, ONE, ONE, ONE, 1]),
+        fields('B', &[ONE, 0, 4]),
+        fields('V', &[0]),
+        fields('S', &[2, 14, 0, 0, 2, 0]),
+        fields('U', &[0, 5, ONE]),
+        fields('U', &[3, 4, ONE]),
+        fields('W', &[0]),
+        fields('E', &[0, 8, 12, 0, 0, 0]),
+        fields('F', &[0, 8, 0]),
+    ]
+    .concat();
+    let job = read_sheet(sheet.as_bytes(), Limits::Sheet).unwrap();
+    for table in 0..7 {
+        for items in [4096, 4097] {
+            let longer = lengthened(&job, table, items);
+            let (answer, tables) = match model::refusal(&longer) {
+                Some((number, place)) => (Answer::Refused(number, place), Tables::default()),
+                None => supplied::run_job(&longer).map(|ran| (ran.answer, ran.tables)).unwrap(),
+            };
+            let by_rust = !matches!(answer, Answer::Refused(..));
+            let mut text = fields('n', &[table as u32, items as u32]).into_bytes();
+            text.extend(record(sheet.as_bytes(), &answer, &tables, by_rust));
+            records.push(text);
+        }
+    }
+    records
+}
+
+/// The job with the last row of a table (in sheet order, from 0) repeated until it has so many.
+pub fn lengthened(job: &Job, table: usize, items: usize) -> Job {
+    fn fill<T: Copy>(rows: &mut Vec<T>, items: usize) {
+        rows.resize(items, *rows.last().unwrap());
+    }
+    let mut job = job.clone();
+    match table {
+        0 => fill(&mut job.blocks, items),
+        1 => fill(&mut job.values, items),
+        2 => fill(&mut job.segments, items),
+        3 => fill(&mut job.uses, items),
+        4 => fill(&mut job.weights, items),
+        5 => fill(&mut job.rows, items),
+        _ => fill(&mut job.fixed, items),
+    }
+    job
 }
 
 /// Block lists with calls for the lower-cost split point.
@@ -280,16 +336,15 @@ fn points() -> Vec<Vec<u8>> {
     }
     // Block lists refused by 2 and 3, where 13 would hold too.
     let b = |freq, first, end| Block { freq, first, end };
-    let one = 1_065_353_216;
     for blocks in [
         vec![],
-        vec![b(one, 1, 4)],
-        vec![b(one, 0, 4), b(one, 5, 6)],
-        vec![b(one, 0, 4), b(one, 4, 4)],
-        vec![b(one, 0, 262_144)],
-        vec![b(one, 0, 262_145)],
+        vec![b(ONE, 1, 4)],
+        vec![b(ONE, 0, 4), b(ONE, 5, 6)],
+        vec![b(ONE, 0, 4), b(ONE, 4, 4)],
+        vec![b(ONE, 0, 262_144)],
+        vec![b(ONE, 0, 262_145)],
         vec![b(2_139_095_039, 0, 4)],
-        vec![b(one, 0, 1), b(2_139_095_040, 1, 4)],
+        vec![b(ONE, 0, 1), b(2_139_095_040, 1, 4)],
     ] {
         let calls = [(0, 4, true), (0, 4, false), (3, 3, true), (5, 2, false), (0, u32::MAX, true), (u32::MAX, 0, true)];
         records.push(point_record(&blocks, &calls));

@@ -7,14 +7,24 @@ use model::{CheckSlip, PointSlip, ROOMY, Reading, Rooms, Slip};
 use sheet::{Answer, Block, Job, Limits, number_at, read_sheet, write_answer, write_tables};
 
 use crate::cases::recorded;
+use crate::record::lengthened;
 
 /// A recorded sheet with its answer and tables as text.
 struct Record {
     rooms: Rooms,
+    /// A table whose last line is repeated, and up to how many.
+    long: Option<(usize, usize)>,
     sheet: Vec<u8>,
     answer: String,
     tables: String,
     by_rust: bool,
+}
+
+impl Record {
+    fn job(&self) -> Result<Job, (u32, u32)> {
+        let job = read_sheet(&self.sheet, Limits::Sheet)?;
+        Ok(self.long.map_or(job.clone(), |(table, items)| lengthened(&job, table, items)))
+    }
 }
 
 /// A recorded call for the lower-cost split point, and the point or the refusal.
@@ -75,12 +85,17 @@ fn read_records(name: &str) -> Vec<Record> {
             let told = text.line('t');
             rooms = [told[0], told[1], told[2], told[3]].map(|n| n as usize);
         }
+        let mut long = None;
+        if text.letter() == 'n' {
+            let told = text.line('n');
+            long = Some((told[0] as usize, told[1] as usize));
+        }
         let head = text.line('s');
         let sheet = text.take(head[0] as usize);
         let answer = String::from_utf8(text.take(head[1] as usize)).unwrap();
         let tables = text.lines(head[2..6].iter().sum());
         text.line('=');
-        records.push(Record { rooms, sheet, answer, tables, by_rust: head[6] == 1 });
+        records.push(Record { rooms, long, sheet, answer, tables, by_rust: head[6] == 1 });
     }
     assert_eq!(text.at, text.bytes.len());
     records
@@ -119,7 +134,7 @@ fn read_points() -> Vec<PointCall> {
 
 /// The reading's answer and tables to a sheet with these rooms, with at most one slip of each sort.
 fn read_text(record: &Record, slip: Option<Slip>, check: Option<CheckSlip>) -> (String, String) {
-    let refused = match read_sheet(&record.sheet, Limits::Sheet) {
+    let refused = match record.job() {
         Err(refusal) => Err(refusal),
         Ok(job) => model::refusal_with(&job, record.rooms, check).map_or(Ok(job), Err),
     };
@@ -144,7 +159,7 @@ fn rust_text(job: &Job) -> (String, String) {
 
 pub fn replay() -> ExitCode {
     let mut differing = 0;
-    for name in ["answers.txt", "refusals.txt", "rooms.txt"] {
+    for name in ["answers.txt", "refusals.txt", "rooms.txt", "long.txt"] {
         let records = read_records(name);
         let mut by_rust = 0;
         for (at, record) in records.iter().enumerate() {
@@ -152,7 +167,7 @@ pub fn replay() -> ExitCode {
             let mut agrees = read_text(record, None, None) == told;
             if record.by_rust {
                 by_rust += 1;
-                agrees &= rust_text(&read_sheet(&record.sheet, Limits::Sheet).unwrap()) == told;
+                agrees &= rust_text(&record.job().unwrap()) == told;
             } else {
                 agrees &= record.answer.starts_with('R');
             }
@@ -199,8 +214,9 @@ pub fn slips() -> ExitCode {
 
     let mut checked = read_records("refusals.txt");
     checked.extend(read_records("rooms.txt"));
+    checked.extend(read_records("long.txt"));
     let calls = read_points();
-    println!("slips in the checks, of {} sheets in refusals.txt and rooms.txt and {} calls:", checked.len(), calls.len());
+    println!("slips in the checks, of {} sheets in refusals.txt, rooms.txt and long.txt and {} calls:", checked.len(), calls.len());
     for slip in CheckSlip::all() {
         let sheets = checked.iter().filter(|r| read_text(r, None, Some(slip)).0 != r.answer).count();
         let refused = |c: &PointCall| model::split_point_refusal(&c.blocks, c.after, c.before, Some(slip));

@@ -116,9 +116,9 @@ const DAMAGES: &[Damage] = &[
     ("units largest", |_, j| { j.units = u32::MAX; true }),
     // 3
     ("block: hole", |r, j| one!(r, j, blocks, b => b.first += 1)),
-    ("block: overlap", |r, j| later!(r, j, blocks, _l b => b.first -= 1)),
+    ("block: overlap", |r, j| later!(r, j, blocks, _l b => b.first = b.first.saturating_sub(1))),
     ("block: empty", |r, j| one!(r, j, blocks, b => b.end = b.first)),
-    ("block: ends before it starts", |r, j| later!(r, j, blocks, _l b => b.end = b.first - 1)),
+    ("block: ends before it starts", |r, j| later!(r, j, blocks, _l b => b.end = b.first.saturating_sub(1))),
     ("blocks end at their limit", |_, j| { j.blocks.last_mut().unwrap().end = 262_144; true }),
     ("blocks end one past", |_, j| { j.blocks.last_mut().unwrap().end = 262_145; true }),
     ("block: end largest", |r, j| one!(r, j, blocks, b => b.end = u32::MAX)),
@@ -141,7 +141,7 @@ const DAMAGES: &[Damage] = &[
     ("segment: end one past the blocks", |_, j| { j.segments.last_mut().unwrap().end = 4 * j.last_end() + 1; true }),
     ("segment: end largest", |r, j| one!(r, j, segments, s => s.end = u32::MAX - 3)),
     ("segment: start at the previous end", |r, j| later!(r, j, segments, l s => s.start = l.end)),
-    ("segment: start before the previous end", |r, j| later!(r, j, segments, l s => s.start = l.end - 1)),
+    ("segment: start before the previous end", |r, j| later!(r, j, segments, l s => s.start = l.end.wrapping_sub(1))),
     ("segment: last value", |r, j| { let n = j.values.len() as u32; one!(r, j, segments, s => s.value = n - 1) }),
     ("segment: unknown value", |r, j| { let n = j.values.len() as u32; one!(r, j, segments, s => s.value = n) }),
     ("segment: value largest", |r, j| one!(r, j, segments, s => s.value = u32::MAX)),
@@ -173,6 +173,15 @@ const DAMAGES: &[Damage] = &[
         let s = &mut j.segments[0];
         (s.start, s.flags) = (0, s.flags | FIXED_DEF);
         true
+    }),
+    ("fixed def: instruction 0, position wraps", |_, j| {
+        let s = &mut j.segments[0];
+        (s.start, s.flags) = (0, s.flags | FIXED_DEF);
+        let first = s.first_use < s.end_use;
+        if first {
+            j.uses[0] = Use { pos: u32::MAX, kind: 0, cost: 0 };
+        }
+        first
     }),
     ("fixed def: no use", |r, j| {
         one_of!(r, j, segments, s if s.first_use == s.end_use && s.start % 4 == 0 && s.start > 0
@@ -410,6 +419,11 @@ fn on_segment(rng: &mut Rng, job: &mut Job, change: impl Fn(&Segment, &mut Use))
 /// How many kinds of damage there are.
 pub fn damages() -> usize {
     DAMAGES.len()
+}
+
+/// The number of a damage by its name.
+pub fn damage_named(name: &str) -> usize {
+    DAMAGES.iter().position(|damage| damage.0 == name).unwrap()
 }
 
 /// A small job with one damage, by its number, and the damage's name.

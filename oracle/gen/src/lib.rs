@@ -7,5 +7,5 @@ mod rng;
 
 pub use accepted::{Size, accepted, point_call};
 pub use cover::{Cover, features};
-pub use damaged::{damaged, damaged_often, damaged_text, damages, text_damages};
+pub use damaged::{damage_named, damaged, damaged_often, damaged_text, damages, text_damages};
 pub use rng::Rng;

@@ -170,7 +170,7 @@ impl Checks<'_> {
             || self.holds(Clause::DefMissing, first.is_none())
             || first.is_some_and(|u| {
                 self.holds(Clause::DefKind, u.kind != 0)
-                    || self.holds(Clause::DefPosition, u.pos as u64 + 1 != s.start as u64 / 4)
+                    || self.holds(Clause::DefPosition, u.pos.wrapping_add(1) != s.start / 4)
             })
     }
 
@@ -255,7 +255,7 @@ impl Checks<'_> {
             || self.holds(Clause::FixedUnitFalls, last.is_some_and(|last| f.unit < last.unit))
             || self.holds(Clause::FixedBoundary, f.point % 4 != 0)
             || self.over(Clause::FixedPoint, f.point as u64 / 4 + 1, job.last_end() as u64)
-            || self.over(Clause::FixedOrder, last_point as u64, f.point as u64)
+            || self.over(Clause::FixedOrder, last_point as u64 / 4, f.point as u64 / 4)
             || self.over(Clause::FixedValue, f.value as u64 + 1, job.values.len() as u64)
     }
 
