@@ -4,7 +4,7 @@ use std::fs;
 use std::path::PathBuf;
 use std::process::ExitCode;
 
-use crate::answer_text;
+use crate::{Wanted, answer_text};
 
 /// The repository's folder of recorded data.
 pub fn recorded() -> PathBuf {
@@ -22,7 +22,7 @@ pub fn cases() -> ExitCode {
     let mut differing = 0;
     for name in &names {
         let text = fs::read(folder.join(format!("{name}.sheet"))).unwrap();
-        let all = answer_text(&text, true);
+        let all = answer_text(&text, Wanted::Tables);
         // What the document gives: the answer lines, or the links.
         let expected_of = |what: &str| fs::read_to_string(folder.join(format!("{name}.{what}"))).ok();
         let lines = |upper: bool| -> String {

@@ -14,8 +14,11 @@ const USAGE: &str = "\
 usage: oracle/run COMMAND
   answer SHEET             the answer to a sheet (- for standard input)
   tables SHEET             the answer and the tables filled
+  unchecked SHEET          the same without the checks 1 to 11: shows which assertion a refused job would fire
   cases                    document 01's cases A to M
   generate [OPTIONS]       accepted jobs as sheets, an empty line after each
+  stream [OPTIONS]         the same as records with the Rust's answers and tables (recorded/README.md)
+  damage [OPTIONS]         damaged jobs and texts as records; refusals rest on the second reading
   compare [OPTIONS]        the Rust against the second reading on accepted jobs
   points [OPTIONS]         the same for the lower-cost split point
   record                   writes recorded/*.txt again
@@ -29,13 +32,16 @@ fn main() -> ExitCode {
         return usage();
     };
     match (command.as_str(), rest) {
-        ("answer", [path]) => answer(path, false),
-        ("tables", [path]) => answer(path, true),
+        ("answer", [path]) => answer(path, Wanted::Answer),
+        ("tables", [path]) => answer(path, Wanted::Tables),
+        ("unchecked", [path]) => answer(path, Wanted::Unchecked),
         ("cases", []) => cases::cases(),
         ("record", []) => record::write(),
         ("replay", []) => replay::replay(),
         ("slips", []) => replay::slips(),
         ("generate", rest) => with(rest, generate),
+        ("stream", rest) => with(rest, record::stream),
+        ("damage", rest) => with(rest, record::damage),
         ("compare", rest) => with(rest, compare::jobs),
         ("points", rest) => with(rest, compare::points),
         _ => usage(),
@@ -48,8 +54,8 @@ fn usage() -> ExitCode {
 }
 
 /// Prints, and ends quietly where nobody reads.
-pub fn print(text: &str) {
-    if std::io::stdout().write_all(text.as_bytes()).is_err() {
+pub fn print(text: &[u8]) {
+    if std::io::stdout().write_all(text).is_err() {
         std::process::exit(0);
     }
 }
@@ -105,7 +111,16 @@ fn with(args: &[String], run: impl FnOnce(Options) -> ExitCode) -> ExitCode {
     Options::read(args).map_or_else(usage, run)
 }
 
-fn answer(path: &str, tables: bool) -> ExitCode {
+/// What is printed of a sheet.
+#[derive(Clone, Copy, PartialEq, Eq)]
+pub enum Wanted {
+    Answer,
+    Tables,
+    /// Answer and tables, and the Rust is asked whatever the checks say.
+    Unchecked,
+}
+
+fn answer(path: &str, wanted: Wanted) -> ExitCode {
     let mut text = Vec::new();
     let read = match path {
         "-" => std::io::stdin().read_to_end(&mut text).map(|_| ()),
@@ -115,17 +130,18 @@ fn answer(path: &str, tables: bool) -> ExitCode {
         eprintln!("oracle: {path}: {error}");
         return ExitCode::from(2);
     }
-    let text = answer_text(&text, tables);
-    print(&text);
+    let text = answer_text(&text, wanted);
+    print(text.as_bytes());
     if text.starts_with('!') { ExitCode::FAILURE } else { ExitCode::SUCCESS }
 }
 
 /// The answer to a sheet as text, with the tables if they are wanted; `!` and an assertion that fired.
 ///
 /// Refusals rest on the second reading: the Rust is asked only about accepted jobs.
-pub fn answer_text(text: &[u8], tables: bool) -> String {
+pub fn answer_text(text: &[u8], wanted: Wanted) -> String {
     let job = read_sheet(text, Limits::Sheet);
     let refused = match &job {
+        Ok(_) if wanted == Wanted::Unchecked => None,
         Ok(job) => model::refusal(job),
         Err(refusal) => Some(*refusal),
     };
@@ -133,8 +149,8 @@ pub fn answer_text(text: &[u8], tables: bool) -> String {
         return write_answer(&sheet::Answer::Refused(number, place));
     }
     match supplied::run_job(&job.unwrap()) {
-        Ok(ran) if tables => write_answer(&ran.answer) + &write_tables(&ran.tables),
-        Ok(ran) => write_answer(&ran.answer),
+        Ok(ran) if wanted == Wanted::Answer => write_answer(&ran.answer),
+        Ok(ran) => write_answer(&ran.answer) + &write_tables(&ran.tables),
         Err(said) => format!("! {said}\n"),
     }
 }
@@ -142,7 +158,7 @@ pub fn answer_text(text: &[u8], tables: bool) -> String {
 fn generate(options: Options) -> ExitCode {
     for (_, mut rng) in options.items() {
         let job = options.job(&mut rng);
-        print(&(write_sheet(&job) + "\n"));
+        print((write_sheet(&job) + "\n").as_bytes());
     }
     ExitCode::SUCCESS
 }

@@ -9,6 +9,7 @@ use model::{CheckSlip, PointSlip, ROOMY, Reading, Rooms, Slip};
 use sheet::{Answer, Block, Job, Limits, Tables, fields, read_sheet, write_answer, write_sheet, write_tables};
 
 use crate::cases::recorded;
+use crate::{Options, print};
 
 const SEED: u64 = 20_261_115;
 const ONE: u32 = 1_065_353_216;
@@ -63,6 +64,36 @@ pub fn write() -> ExitCode {
 fn rust_record(job: &Job) -> Vec<u8> {
     let ran = supplied::run_job(job).unwrap();
     record(write_sheet(job).as_bytes(), &ran.answer, &ran.tables, true)
+}
+
+/// Prints accepted jobs as records. A job on which an assertion fires stands as its text behind `!` on standard error.
+pub fn stream(options: Options) -> ExitCode {
+    let mut records = vec![];
+    for (item, mut rng) in options.items() {
+        let job = options.job(&mut rng);
+        match supplied::run_job(&job) {
+            Ok(ran) => records.push(record(write_sheet(&job).as_bytes(), &ran.answer, &ran.tables, true)),
+            Err(said) => eprintln!("! item {item}: {said}"),
+        }
+    }
+    print_records(&records)
+}
+
+/// Prints damaged jobs and damaged texts as records.
+pub fn damage(options: Options) -> ExitCode {
+    let made = options.items().map(|(item, mut rng)| match item % 4 {
+        0 => gen_jobs::damaged_text(&mut rng).1,
+        _ => write_sheet(&gen_jobs::damaged_often(&mut rng)).into_bytes(),
+    });
+    print_records(&made.map(|text| sheet_record(&text)).collect::<Vec<_>>())
+}
+
+fn print_records(records: &[Vec<u8>]) -> ExitCode {
+    print(fields('c', &[records.len() as u32]).as_bytes());
+    for record in records {
+        print(record);
+    }
+    ExitCode::SUCCESS
 }
 
 /// The slips that a job notices: in the answer, and in answer or tables.

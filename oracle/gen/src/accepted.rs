@@ -1,7 +1,7 @@
 //! Jobs that no check refuses, aimed at the corners.
 
-use model::Reading;
-use sheet::{ABSENT, Block, FIXED_DEF, FixedUse, GapSegment, Job, LIVE_OUT, Row, Segment, Tables, Use};
+use model::{Read, Reading};
+use sheet::{ABSENT, Answer, Block, FIXED_DEF, FixedUse, GapSegment, Job, LIVE_OUT, Row, Segment, Tables, Use};
 
 use crate::Rng;
 
@@ -54,8 +54,18 @@ pub fn accepted(rng: &mut Rng, size: Size) -> Job {
     job.blocks = blocks(rng, size);
     let values = count(rng, size, 2, 4, 128);
     job.values = (0..values).map(|_| if rng.chance(1, 2) { 0 } else { rng.below(4) }).collect();
-    segments(rng, size, &mut job);
-    reservations(rng, size, &mut job);
+    // A job without a best use says little: most are tried again.
+    let mut free;
+    loop {
+        segments(rng, size, &mut job);
+        free = Reading::of(&job).read();
+        if free.answer != Answer::None(1) || rng.chance(1, 3) {
+            break;
+        }
+        job.segments.clear();
+        job.uses.clear();
+    }
+    reservations(rng, size, &mut job, &free);
     debug_assert_eq!(model::refusal(&job), None);
     job
 }
@@ -134,6 +144,9 @@ fn segments(rng: &mut Rng, size: Size, job: &mut Job) {
     let apart = rng.pick(&[0, 0, 1, 3, 8, spread]);
     let density = rng.pick(&[1, 3, 4, 6]);
     let costs = Costs::pick(rng);
+    if matches!(size, Size::Sheet | Size::Full) && rng.chance(1, 5) {
+        return long_segment(rng, job, most_uses, &costs);
+    }
 
     let mut at = sound_point(if rng.chance(1, 2) { 0 } else { rng.below(spread.min(last_point - 1).max(1)) });
     for i in 0..wanted {
@@ -157,6 +170,15 @@ fn segments(rng: &mut Rng, size: Size, job: &mut Job) {
         put_segment(rng, job, s, density, &costs, true);
     }
     mend_last(rng, job, &costs);
+}
+
+/// One segment over all instructions, its uses spread over them.
+fn long_segment(rng: &mut Rng, job: &mut Job, uses: u32, costs: &Costs) {
+    let insts = job.last_end();
+    let value = rng.below(job.values.len() as u32);
+    let spread = |i: u32| (i as u64 * insts as u64 / uses as u64) as u32;
+    job.uses = (0..uses).map(|i| costs.pick_use(rng, spread(i))).collect();
+    job.segments = vec![Segment { start: 0, end: 4 * insts, value, first_use: 0, end_use: uses, flags: LIVE_OUT }];
 }
 
 /// A segment from `at` on, without its uses.
@@ -266,8 +288,7 @@ impl Costs {
 }
 
 /// Weights, rows and fixed uses, aimed at what the job meets when it grows freely.
-fn reservations(rng: &mut Rng, size: Size, job: &mut Job) {
-    let free = Reading::of(job).read();
+fn reservations(rng: &mut Rng, size: Size, job: &mut Job, free: &Read) {
     let tested: Vec<f32> = free.tries.iter().map(|t| t.tested).collect();
     let weights = count(rng, size, 4, 10, 128);
     // A calm job has light rows, so that its region grows far.
