@@ -227,17 +227,25 @@ fn refusals() -> Vec<Vec<u8>> {
             records.push(sheet_record(write_sheet(&job).as_bytes()));
         }
     }
-    let mut texts: BTreeMap<&str, Vec<u8>> = BTreeMap::new();
-    for item in 0..40_000 {
+    // Of every damaged text the shortest ones with different answers, the long ones once.
+    let mut texts: BTreeMap<&str, Vec<Vec<u8>>> = BTreeMap::new();
+    for item in 0..20_000 {
         let (name, text) = gen_jobs::damaged_text(&mut Rng::of(SEED + 3, item));
-        let shortest = texts.entry(name).or_insert_with(|| text.clone());
-        // Not the first line, which P alone may hold, where another will do.
-        if text.len() < shortest.len() && text.len() > 200 {
-            *shortest = text;
-        }
+        texts.entry(name).or_default().push(text);
     }
     assert_eq!(texts.len(), gen_jobs::text_damages());
-    records.extend(texts.values().map(|text| sheet_record(text)));
+    for list in texts.values_mut() {
+        list.sort_by_key(|text| text.len());
+        let most = if list[0].len() > 6000 { 1 } else { 3 };
+        let mut kept: BTreeMap<String, &[u8]> = BTreeMap::new();
+        for text in list.iter() {
+            let answer = format!("{:?}", read_sheet(text, Limits::Sheet).map(|job| model::refusal(&job)));
+            if kept.len() < most {
+                kept.entry(answer).or_insert(text);
+            }
+        }
+        records.extend(kept.values().map(|text| sheet_record(text)));
+    }
     records
 }
 

@@ -4,7 +4,8 @@ use std::fs;
 use std::process::ExitCode;
 
 use model::{CheckSlip, PointSlip, ROOMY, Reading, Rooms, Slip};
-use sheet::{Answer, Block, Job, Limits, number_at, read_sheet, write_answer, write_tables};
+use sheet::{Answer, Block, Job, Limits, ReadSlip};
+use sheet::{number_at, read_sheet, read_sheet_with, write_answer, write_tables};
 
 use crate::cases::recorded;
 use crate::record::lengthened;
@@ -223,6 +224,21 @@ pub fn slips() -> ExitCode {
         let points = calls.iter().filter(|c| refused(c) != c.result.err()).count();
         unnoticed += (sheets + points == 0) as u32;
         println!("{:>5}        {slip:?}", sheets + points);
+    }
+
+    println!("slips in the reading of sheets, of {} sheets in refusals.txt:", read_records("refusals.txt").len());
+    for slip in ReadSlip::all() {
+        let refused = |r: &Record| match read_sheet_with(&r.sheet, slip) {
+            Err(refusal) => Some(refusal),
+            Ok(job) => model::refusal(&job),
+        };
+        let told = |r: &Record| match r.answer.strip_prefix('R') {
+            Some(told) => Some((number_at(&told.as_bytes()[..11]).unwrap(), number_at(&told.as_bytes()[11..22]).unwrap())),
+            None => None,
+        };
+        let noticed = checked.iter().filter(|r| r.long.is_none() && r.rooms == ROOMY && refused(r) != told(r)).count();
+        unnoticed += (noticed == 0) as u32;
+        println!("{noticed:>5}        {slip:?}");
     }
 
     println!("slips in the split point, of {} calls:", calls.len());

@@ -499,6 +499,7 @@ const TEXT_DAMAGES: &[TextDamage] = &[
         let letter = r.pick(&["G", "A", "Q", "b", "u", " ", "0", "\0"]);
         l[at].replace_range(0..1, letter)
     }),
+    ("lower-case letter", |_, l, at| { let letter = l[at][..1].to_lowercase(); l[at].replace_range(0..1, &letter) }),
     ("leading zero", |r, l, at| { let f = r.below(6); put_field(&mut l[at], f, "07") }),
     ("two zeros", |r, l, at| { let f = r.below(6); put_field(&mut l[at], f, "00") }),
     ("zero", |r, l, at| { let f = r.below(6); put_field(&mut l[at], f, "0") }),

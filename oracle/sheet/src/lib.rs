@@ -5,7 +5,7 @@ mod read;
 mod write;
 
 pub use answer::{Answer, Gap, GapSegment, Link, Proposal, Tables, UseRow, h_figure};
-pub use read::{Limits, number_at, read_sheet};
+pub use read::{Limits, ReadSlip, number_at, read_sheet, read_sheet_with};
 pub use write::{fields, write_answer, write_sheet, write_tables};
 
 /// What stands for an absent link or an absent fixed row.
