@@ -44,7 +44,10 @@ pub fn jobs(options: Options) -> ExitCode {
     }
     cover.print();
     let seconds = started.elapsed().as_secs_f64();
-    println!("{} jobs, seed {}: {differing} differ, {fired} assertions fired, {seconds:.1} s", options.count, options.seed);
+    println!(
+        "{} jobs, seed {}: {differing} differ, {fired} assertions fired, {seconds:.1} s",
+        options.count, options.seed
+    );
     if differing + fired == 0 { ExitCode::SUCCESS } else { ExitCode::FAILURE }
 }
 

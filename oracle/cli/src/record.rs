@@ -5,7 +5,7 @@ use std::fs;
 use std::process::ExitCode;
 
 use gen_jobs::{Rng, Size};
-use model::{CheckSlip, PointSlip, ROOMY, Reading, Rooms, Slip};
+use model::{CheckSlip, Outcome, PointSlip, ROOMY, Reading, Rooms, Slip};
 use sheet::{Answer, Block, Job, Limits, Tables, fields, read_sheet, write_answer, write_sheet, write_tables};
 
 use crate::cases::recorded;
@@ -172,11 +172,13 @@ fn answers() -> Vec<Vec<u8>> {
         println!("answers.txt: {left} more wanted with: {what}");
     }
     println!("answers.txt: {} sheets chosen for a slip or a feature", kept.len());
-    // The rest from all over the pool, as long as they are short.
+    // The rest from all over the pool: short ones that grow and are barred.
     let mut rng = Rng::of(SEED, u64::MAX);
     while kept.len() < SHEETS {
         let at = rng.below(pool.len() as u32) as usize;
-        if lengths[at] < 1500 {
+        let tries = Reading::of(&pool[at]).read().tries;
+        let barred = tries.iter().any(|t| t.outcome != Outcome::Grown);
+        if lengths[at] < 800 && tries.len() >= 3 && barred {
             kept.insert(at);
         }
     }
@@ -385,7 +387,8 @@ fn points() -> Vec<Vec<u8>> {
         vec![b(2_139_095_039, 0, 4)],
         vec![b(ONE, 0, 1), b(2_139_095_040, 1, 4)],
     ] {
-        let calls = [(0, 4, true), (0, 4, false), (3, 3, true), (5, 2, false), (0, u32::MAX, true), (u32::MAX, 0, true)];
+        let calls =
+            [(0, 4, true), (0, 4, false), (3, 3, true), (5, 2, false), (0, u32::MAX, true), (u32::MAX, 0, true)];
         records.push(point_record(&blocks, &calls));
     }
     records

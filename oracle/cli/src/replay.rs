@@ -108,10 +108,8 @@ fn read_points() -> Vec<PointCall> {
     let mut calls = vec![];
     for _ in 0..count {
         let head = text.line('b');
-        let blocks: Vec<Block> = (0..head[0])
-            .map(|_| text.line('B'))
-            .map(|b| Block { freq: b[0], first: b[1], end: b[2] })
-            .collect();
+        let blocks: Vec<Block> =
+            (0..head[0]).map(|_| text.line('B')).map(|b| Block { freq: b[0], first: b[1], end: b[2] }).collect();
         for _ in 0..head[1] {
             let (line, result) = match text.letter() {
                 'p' => {
@@ -217,7 +215,11 @@ pub fn slips() -> ExitCode {
     checked.extend(read_records("rooms.txt"));
     checked.extend(read_records("long.txt"));
     let calls = read_points();
-    println!("slips in the checks, of {} sheets in refusals.txt, rooms.txt and long.txt and {} calls:", checked.len(), calls.len());
+    println!(
+        "slips in the checks, of {} sheets in refusals.txt, rooms.txt and long.txt and {} calls:",
+        checked.len(),
+        calls.len()
+    );
     for slip in CheckSlip::all() {
         let sheets = checked.iter().filter(|r| read_text(r, None, Some(slip)).0 != r.answer).count();
         let refused = |c: &PointCall| model::split_point_refusal(&c.blocks, c.after, c.before, Some(slip));
@@ -232,11 +234,12 @@ pub fn slips() -> ExitCode {
             Err(refusal) => Some(refusal),
             Ok(job) => model::refusal(&job),
         };
-        let told = |r: &Record| match r.answer.strip_prefix('R') {
-            Some(told) => Some((number_at(&told.as_bytes()[..11]).unwrap(), number_at(&told.as_bytes()[11..22]).unwrap())),
-            None => None,
+        let told = |r: &Record| {
+            let told = r.answer.strip_prefix('R')?.as_bytes();
+            Some((number_at(&told[..11]).unwrap(), number_at(&told[11..22]).unwrap()))
         };
-        let noticed = checked.iter().filter(|r| r.long.is_none() && r.rooms == ROOMY && refused(r) != told(r)).count();
+        let noticed =
+            checked.iter().filter(|r| r.long.is_none() && r.rooms == ROOMY && refused(r) != told(r)).count();
         unnoticed += (noticed == 0) as u32;
         println!("{noticed:>5}        {slip:?}");
     }

@@ -185,7 +185,7 @@ fn long_segment(rng: &mut Rng, job: &mut Job, uses: u32, costs: &Costs) {
 fn segment(rng: &mut Rng, job: &Job, at: u32, longest: u32, apart: u32, last: bool) -> Option<Segment> {
     let last_point = 4 * job.last_end();
     let mut start = at;
-    let mut flags = rng.below(2) | 4 * rng.below(2);
+    let mut flags = rng.below(2) | (4 * rng.below(2));
     // A fixed def, often right behind a use at the end of the segment before.
     if rng.chance(1, 4) && start.div_ceil(4) >= 1 && start.next_multiple_of(4) < last_point {
         start = start.next_multiple_of(4);
@@ -344,7 +344,7 @@ fn pick_weight(rng: &mut Rng, tested: &[f32]) -> u32 {
 
 /// A gap segment of the free growth, or one made up where there is none.
 fn some_segment(rng: &mut Rng, job: &Job, tables: &Tables) -> GapSegment {
-    if let [] = tables.gap_segments[..] {
+    if tables.gap_segments.is_empty() {
         let s = rng.pick(&job.segments);
         return GapSegment { from: s.start, to: s.end, value: s.value, gap: ABSENT };
     }
@@ -368,15 +368,7 @@ fn fixed_uses(rng: &mut Rng, job: &mut Job, tables: &Tables, unit: u32, most: u3
     job.fixed.extend(list);
 }
 
-fn rows(
-    rng: &mut Rng,
-    job: &mut Job,
-    tables: &Tables,
-    unit: u32,
-    most: u32,
-    own: Option<u32>,
-    style: &Style,
-) {
+fn rows(rng: &mut Rng, job: &mut Job, tables: &Tables, unit: u32, most: u32, own: Option<u32>, style: &Style) {
     let wanted = if rng.chance(1, 6) { 0 } else { rng.within(0, style.per_unit) };
     let room = most.saturating_sub(job.rows.len() as u32);
     let mut ranges: Vec<(u32, u32, GapSegment)> = (0..wanted.min(room))
@@ -396,7 +388,8 @@ fn rows(
         }
         free_from = end;
         let is_own = own == Some(s.gap) && style.light_own;
-        let row = pick_row(rng, job, &fixed, Row { unit, start, end, kind: 0, index: 0, fixed: 0 }, &s, is_own, style);
+        let row =
+            pick_row(rng, job, &fixed, Row { unit, start, end, kind: 0, index: 0, fixed: 0 }, &s, is_own, style);
         job.rows.push(row);
     }
 }

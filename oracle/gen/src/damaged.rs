@@ -29,8 +29,7 @@ macro_rules! one {
 /// Changes one item that passes a test.
 macro_rules! one_of {
     ($rng:ident, $job:ident, $table:ident, $item:ident if $test:expr => $change:expr) => {{
-        let places: Vec<usize> =
-            $job.$table.iter().enumerate().filter(|(_, $item)| $test).map(|(i, _)| i).collect();
+        let places: Vec<usize> = $job.$table.iter().enumerate().filter(|(_, $item)| $test).map(|(i, _)| i).collect();
         let Some(i) = some($rng, &places) else {
             return false;
         };
@@ -93,6 +92,8 @@ fn put_fixed(job: &mut Job, f: FixedUse) {
     job.fixed.insert(at, f);
 }
 
+/// In the order of document 01's table.
+#[rustfmt::skip]
 const DAMAGES: &[Damage] = &[
     ("none", always),
     // 1
@@ -384,10 +385,8 @@ const DAMAGES: &[Damage] = &[
 
 /// Changes the first use of a segment with a fixed def.
 fn first_use(rng: &mut Rng, job: &mut Job, change: impl Fn(&mut Use)) -> bool {
-    let places: Vec<usize> = (job.segments.iter())
-        .filter(|s| s.flags & FIXED_DEF != 0)
-        .map(|s| s.first_use as usize)
-        .collect();
+    let places: Vec<usize> =
+        (job.segments.iter()).filter(|s| s.flags & FIXED_DEF != 0).map(|s| s.first_use as usize).collect();
     let Some(i) = some(rng, &places) else {
         return false;
     };
@@ -487,6 +486,7 @@ fn fill(lines: &mut Vec<String>, letter: char, n: usize) {
     }
 }
 
+#[rustfmt::skip]
 const TEXT_DAMAGES: &[TextDamage] = &[
     ("sound", |_, _, _| {}),
     ("empty", |_, l, _| l.clear()),
@@ -494,6 +494,8 @@ const TEXT_DAMAGES: &[TextDamage] = &[
     ("two P", |_, l, at| { let p = l[0].clone(); l.insert(at + 1, p); }),
     ("P alone", |_, l, _| l.truncate(1)),
     ("a line gone", |_, l, at| { l.remove(at); }),
+    ("E before W", |_, l, _| { fill(l, 'W', 1); let w = l.iter().position(|x| x.starts_with('W')).unwrap();
+        let line = l.remove(w); l.push(format!("E{}", format!("{:>11}", 0).repeat(6))); l.push(line) }),
     ("two lines exchanged", |r, l, at| { let b = r.below(l.len() as u32) as usize; l.swap(at, b); }),
     ("unknown letter", |r, l, at| {
         let letter = r.pick(&["G", "A", "Q", "b", "u", " ", "0", "\0"]);

@@ -6,11 +6,11 @@ impl Rng {
     /// The stream of one item of a seed.
     pub fn of(seed: u64, item: u64) -> Self {
         let mut rng = Self(seed.wrapping_mul(0x9e37_79b9_7f4a_7c15) ^ item);
-        rng.next();
-        Self(rng.next() ^ item.rotate_left(32))
+        rng.bits();
+        Self(rng.bits() ^ item.rotate_left(32))
     }
 
-    pub fn next(&mut self) -> u64 {
+    fn bits(&mut self) -> u64 {
         self.0 = self.0.wrapping_add(0x9e37_79b9_7f4a_7c15);
         let mut z = self.0;
         z = (z ^ (z >> 30)).wrapping_mul(0xbf58_476d_1ce4_e5b9);
@@ -20,7 +20,7 @@ impl Rng {
 
     /// A number below `n`, which isn't 0.
     pub fn below(&mut self, n: u32) -> u32 {
-        ((self.next() >> 32) * n as u64 >> 32) as u32
+        (((self.bits() >> 32) * n as u64) >> 32) as u32
     }
 
     /// A number from `low` to `high`, both included.

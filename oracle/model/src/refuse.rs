@@ -165,7 +165,7 @@ impl Checks<'_> {
             return false;
         }
         let first = self.uses_of(s).first();
-        self.holds(Clause::DefBoundary, s.start % 4 != 0)
+        self.holds(Clause::DefBoundary, !s.start.is_multiple_of(4))
             || self.holds(Clause::DefInst, s.start < 4)
             || self.holds(Clause::DefMissing, first.is_none())
             || first.is_some_and(|u| {
@@ -202,7 +202,7 @@ impl Checks<'_> {
         let s = &self.job.segments[i];
         let uses = self.uses_of(s);
         if s.flags & LIVE_OUT != 0 {
-            return self.holds(Clause::OutBoundary, s.end % 4 != 0)
+            return self.holds(Clause::OutBoundary, !s.end.is_multiple_of(4))
                 || self.holds(Clause::OutUse, uses.iter().any(|u| u.pos == s.end / 4));
         }
         let is_last = i + 1 == self.job.segments.len();
@@ -253,7 +253,7 @@ impl Checks<'_> {
         let last_point = last.filter(|last| last.unit == f.unit).map_or(0, |last| last.point);
         self.over(Clause::FixedUnit, f.unit as u64 + 1, job.units as u64)
             || self.holds(Clause::FixedUnitFalls, last.is_some_and(|last| f.unit < last.unit))
-            || self.holds(Clause::FixedBoundary, f.point % 4 != 0)
+            || self.holds(Clause::FixedBoundary, !f.point.is_multiple_of(4))
             || self.over(Clause::FixedPoint, f.point as u64 / 4 + 1, job.last_end() as u64)
             || self.over(Clause::FixedOrder, last_point as u64 / 4, f.point as u64 / 4)
             || self.over(Clause::FixedValue, f.value as u64 + 1, job.values.len() as u64)

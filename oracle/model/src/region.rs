@@ -103,10 +103,9 @@ impl<'a> Reading<'a> {
         let first = gap_segments.partition_point(|s| (s.gap as usize) < gap);
         let of_gap = gap_segments[first..].iter().take_while(|s| s.gap as usize == gap);
         let nothing = Met { fixed: false, heaviest: 0.0 };
-        of_gap.map(|s| self.meets(units, s)).fold(nothing, |a, b| Met {
-            fixed: a.fixed || b.fixed,
-            heaviest: a.heaviest.max(b.heaviest),
-        })
+        of_gap
+            .map(|s| self.meets(units, s))
+            .fold(nothing, |a, b| Met { fixed: a.fixed || b.fixed, heaviest: a.heaviest.max(b.heaviest) })
     }
 
     /// weight / (instructions + k), at most the largest finite weight.
@@ -204,8 +203,7 @@ impl<'a> Reading<'a> {
 
         let outside = if self.slips(Slip::CostOfOwnGap) { 0 } else { 1 };
         let left_cost = if left > 0 { freq(left - outside) } else { 0.0 };
-        let right_cost =
-            if right < last && !self.slips(Slip::CostOneSide) { freq(right + outside) } else { 0.0 };
+        let right_cost = if right < last && !self.slips(Slip::CostOneSide) { freq(right + outside) } else { 0.0 };
         let proposal = Proposal {
             left: (left > 0).then(|| gaps[left].from),
             right: (right < last).then(|| gaps[right].to),

@@ -88,8 +88,7 @@ pub enum PointSlip {
 }
 
 impl PointSlip {
-    pub const ALL: [PointSlip; 4] =
-        [PointSlip::Ties, PointSlip::Exchanged, PointSlip::Short, PointSlip::FromAfter];
+    pub const ALL: [PointSlip; 4] = [PointSlip::Ties, PointSlip::Exchanged, PointSlip::Short, PointSlip::FromAfter];
 }
 
 /// Slips in the checks.
@@ -138,7 +137,8 @@ clauses! {
 impl CheckSlip {
     /// Every clause left out, every limit moved by one either way, each pair of checks exchanged, each last place.
     pub fn all() -> Vec<CheckSlip> {
-        let limits = LIMITS.iter().flat_map(|c| [CheckSlip::LeftOut(*c), CheckSlip::Looser(*c), CheckSlip::Tighter(*c)]);
+        let limits =
+            LIMITS.iter().flat_map(|c| [CheckSlip::LeftOut(*c), CheckSlip::Looser(*c), CheckSlip::Tighter(*c)]);
         let others = OTHERS.iter().map(|c| CheckSlip::LeftOut(*c));
         let later = (1..12).map(CheckSlip::Later);
         let last = (3..13).map(CheckSlip::LastPlace);

@@ -92,7 +92,8 @@ impl Reading<'_> {
         uses.iter().filter_map(move |u| {
             let cost = self.cost(u, s.value);
             let freq = self.freq(self.block_of(u.pos));
-            if cost == 0.0 && !self.slips(Slip::ZeroCostRow) || self.slips(Slip::ZeroFreqNoRow) && cost * freq == 0.0 {
+            if cost == 0.0 && !self.slips(Slip::ZeroCostRow) || self.slips(Slip::ZeroFreqNoRow) && cost * freq == 0.0
+            {
                 return None;
             }
             let place = if 4 * (u.pos + 1) == s.start && !self.slips(Slip::DefInside) {
@@ -221,7 +222,7 @@ impl Reading<'_> {
                 for g in 0..=near {
                     let mut weight = if g == near { later.left } else { 0.0 };
                     if g == 0 && self.slips(Slip::AddLeftGap) {
-                        weight = earlier.right + earlier.main + weight;
+                        weight += earlier.right + earlier.main;
                     } else if g == 0 {
                         weight = weight + earlier.right + earlier.main;
                     }
@@ -240,7 +241,7 @@ impl Reading<'_> {
                 for g in 0..=far {
                     let mut weight = if g == 0 { earlier.right } else { 0.0 };
                     if g == far && self.slips(Slip::AddRightGap) {
-                        weight = later.left + later.main + weight;
+                        weight += later.left + later.main;
                     } else if g == far {
                         weight = weight + later.left + later.main;
                     }

@@ -5,6 +5,7 @@
 
 // The supplied files are taken as they are.
 #![allow(dead_code, unused_variables, unused_imports, unused_macros, unexpected_cfgs, mismatched_lifetime_syntaxes)]
+#![allow(clippy::all)]
 
 extern crate alloc;
 

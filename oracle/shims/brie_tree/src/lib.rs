@@ -77,18 +77,12 @@ impl<K: BTreeKey, T> BTree<K, T> {
     }
 
     pub fn cursor_at(&self, bound: Bound<K>) -> Cursor<'_, K, T> {
-        Cursor {
-            rows: &self.rows,
-            at: self.first_from(bound),
-        }
+        Cursor { rows: &self.rows, at: self.first_from(bound) }
     }
 
     pub fn cursor_mut_at(&mut self, bound: Bound<K>) -> CursorMut<'_, K, T> {
         let at = self.first_from(bound);
-        CursorMut {
-            rows: &mut self.rows,
-            at,
-        }
+        CursorMut { rows: &mut self.rows, at }
     }
 }
 
@@ -137,10 +131,7 @@ impl<'a, K: BTreeKey, T> Cursor<'a, K, T> {
 
     /// All elements from the cursor on.
     pub fn iter(&self) -> Iter<'a, K, T> {
-        Iter {
-            rows: self.rows,
-            at: self.at,
-        }
+        Iter { rows: self.rows, at: self.at }
     }
 }
 
