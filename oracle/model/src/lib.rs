@@ -1,7 +1,7 @@
 //! A second reading of document 01, by its definitions: no cursor, no stack, no running cost.
 //!
-//! It is written from the document and not from the supplied Rust. It answers what the Rust can't (the refusals),
-//! is compared with it on what it can, and takes the slips that recorded sheets are to notice.
+//! It follows the document's words and not the steps of the supplied Rust. It answers what the Rust can't (the
+//! refusals), is compared with it on what it can, and takes the slips that recorded sheets are to notice.
 
 mod refuse;
 mod region;

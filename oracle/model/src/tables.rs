@@ -109,12 +109,16 @@ impl Reading<'_> {
 
     fn first_inst(&self) -> u32 {
         let s = self.job.segments[0];
-        s.start / 4 - (s.flags & FIXED_DEF != 0) as u32
+        s.start / 4 - (s.flags & FIXED_DEF != 0 && !self.slips(Slip::FirstWithoutDef)) as u32
     }
 
     fn last_inst(&self) -> u32 {
         let s = self.job.segments.last().unwrap();
-        if s.flags & LIVE_OUT != 0 { s.end / 4 - 1 } else { self.job.uses.last().unwrap().pos }
+        if s.flags & LIVE_OUT != 0 || self.slips(Slip::LastCovered) {
+            s.end.div_ceil(4) - 1
+        } else {
+            self.job.uses.last().unwrap().pos
+        }
     }
 
     /// One row for each instruction with a use that counts, and for the first and the last.
@@ -211,6 +215,7 @@ impl Reading<'_> {
             gaps.push(Gap { from, to, weight: weight.to_bits(), live_insts: 0, freq });
             gaps.len() - 1
         };
+        let side = |near: usize, far: usize| if self.slips(Slip::NearWeightFar) { far } else { near };
         let mut own = 0;
         for i in 0..rows.len() {
             if i > 0 && i <= best {
@@ -220,7 +225,7 @@ impl Reading<'_> {
                 ends.push(later.inst);
                 let near = ends.len() - 2;
                 for g in 0..=near {
-                    let mut weight = if g == near { later.left } else { 0.0 };
+                    let mut weight = if g == side(near, 0) { later.left } else { 0.0 };
                     if g == 0 && self.slips(Slip::AddLeftGap) {
                         weight += earlier.right + earlier.main;
                     } else if g == 0 {
@@ -239,7 +244,7 @@ impl Reading<'_> {
                 ends.push(later.inst + 1);
                 let far = ends.len() - 2;
                 for g in 0..=far {
-                    let mut weight = if g == 0 { earlier.right } else { 0.0 };
+                    let mut weight = if g == side(0, far) { earlier.right } else { 0.0 };
                     if g == far && self.slips(Slip::AddRightGap) {
                         weight += later.left + later.main;
                     } else if g == far {

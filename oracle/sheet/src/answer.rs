@@ -78,3 +78,21 @@ pub fn h_figure(bits: u32) -> u32 {
     };
     figure.min(MOST) as u32
 }
+
+#[cfg(test)]
+mod tests {
+    use super::h_figure;
+
+    /// A weight times 1000 is exact in 53 bits.
+    #[test]
+    fn h_figure_cuts_off() {
+        let exact = |bits: u32| (f32::from_bits(bits) as f64 * 1000.0).floor().min(999_999_999.0) as u32;
+        let mut bits = 0u32;
+        while bits < 0x7f80_0000 {
+            assert_eq!(h_figure(bits), exact(bits), "{bits}");
+            bits += 997;
+        }
+        assert_eq!(h_figure(0.009f32.to_bits()), 8);
+        assert_eq!(h_figure(f32::MAX.to_bits()), 999_999_999);
+    }
+}

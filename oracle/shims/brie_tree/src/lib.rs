@@ -157,3 +157,50 @@ impl<K: BTreeKey, T> CursorMut<'_, K, T> {
         self.at += 1;
     }
 }
+
+#[cfg(test)]
+mod tests {
+    use super::*;
+    use std::collections::BTreeMap;
+
+    impl BTreeKey for u32 {
+        type Int = u32;
+
+        fn to_int(self) -> u32 {
+            self
+        }
+
+        fn from_int(int: u32) -> u32 {
+            int
+        }
+    }
+
+    /// The same elements, the same iteration and the same steps back as the standard map, from every bound.
+    #[test]
+    fn as_the_standard_map() {
+        let (mut tree, mut map) = (BTree::default(), BTreeMap::new());
+        let mut state = 1u32;
+        for _ in 0..2000 {
+            state = state.wrapping_mul(1_664_525).wrapping_add(1_013_904_223);
+            let (key, value) = (state >> 26, state >> 8);
+            if state & 4 == 0 {
+                assert_eq!(tree.remove(key), map.remove(&key));
+            } else {
+                assert_eq!(tree.insert(key, value), map.insert(key, value));
+            }
+            for bound in [Bound::Unbounded, Bound::Included(key), Bound::Excluded(key)] {
+                let range = (bound, Bound::Unbounded);
+                assert!(tree.iter_from(bound).eq(map.range(range).map(|(k, v)| (*k, v))));
+                let mut cursor = tree.cursor_at(bound);
+                let at = map.range(range).next().map(|(k, _)| *k);
+                assert_eq!(cursor.entry().map(|e| e.0), at);
+                let before: Vec<u32> = map.keys().copied().filter(|k| at.is_none_or(|at| *k < at)).collect();
+                for key in before.iter().rev() {
+                    assert!(cursor.prev());
+                    assert_eq!(cursor.entry().map(|e| e.0), Some(*key));
+                }
+                assert!(!cursor.prev());
+            }
+        }
+    }
+}
