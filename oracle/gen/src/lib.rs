@@ -1,0 +1,11 @@
+//! Seeded generators: accepted jobs, damaged jobs, block lists, and what they covered.
+
+mod accepted;
+mod cover;
+mod damaged;
+mod rng;
+
+pub use accepted::{Size, accepted, point_call};
+pub use cover::{Cover, features};
+pub use damaged::{damage_named, damaged, damaged_often, damaged_text, damages, text_damages};
+pub use rng::Rng;

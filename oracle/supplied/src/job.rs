@@ -1,0 +1,361 @@
+//! A job put into the supplied Rust's own types, and run.
+
+use std::cell::{Cell, RefCell};
+use std::panic::{self, AssertUnwindSafe};
+use std::sync::Once;
+
+use sheet::{
+    ABSENT, Answer, FIXED_DEF, FIXED_HINT, Gap, GapSegment, Job, LIVE_IN, LIVE_OUT, Link, Proposal, Tables, UseRow,
+};
+
+use crate::Options;
+use crate::function::{
+    Block, Function, IndirectRemat, Inst, InstRange, Operand, OperandConstraint, RematCost, TerminatorKind, Value,
+    ValueGroup,
+};
+use crate::internal::allocator::queue::AllocationQueue;
+use crate::internal::allocator::split::{OracleRun, Splitter};
+use crate::internal::allocator::{AllocationOrder, Allocator, Context};
+use crate::internal::coalescing::Coalescing;
+use crate::internal::hints::Hints;
+use crate::internal::live_range::{LiveRangePoint, LiveRangeSegment, ValueSegment};
+use crate::internal::reg_matrix::RegMatrix;
+use crate::internal::spill_allocator::SpillAllocator;
+use crate::internal::split_placement::SplitPlacement;
+use crate::internal::uses::{Use, UseKind, Uses};
+use crate::internal::virt_regs::VirtRegs;
+use crate::internal::virt_regs::builder::{VirtRegBuilder, normalize_spill_weight};
+use crate::options::{SplitStrategy, Stats};
+use crate::reginfo::{PhysReg, RegBank, RegClass, RegInfo, RegUnit};
+
+/// The register asked about, one in memory, and one that isn't.
+const ASKED: usize = 0;
+const IN_MEMORY: usize = 1;
+const IN_REGISTER: usize = 2;
+
+/// A run that ended: its answer and the tables filled.
+pub struct Ran {
+    pub answer: Answer,
+    pub tables: Tables,
+}
+
+/// Runs an accepted job. An assertion that fires, or any other panic, is the error's text.
+pub fn run_job(job: &Job) -> Result<Ran, String> {
+    caught(|| run(job))
+}
+
+/// `find_optimal_split_point` over a sound block list, `after` below `before` and `before` within it.
+pub fn split_point(blocks: &[sheet::Block], after: u32, before: u32, early: bool) -> Result<u32, String> {
+    caught(|| {
+        let job = Job { blocks: blocks.to_vec(), ..Job::default() };
+        let func = JobFunction(&job);
+        let mut placement = SplitPlacement::new();
+        placement.prepare(&func);
+        let (after, before) = (Inst::new(after as usize), Inst::new(before as usize));
+        placement.find_optimal_split_point(after, before, early, &func).index() as u32
+    })
+}
+
+/// What a panic inside `f` said, with the file and line of the supplied Rust (or of the shim) where it did.
+fn caught<T>(f: impl FnOnce() -> T) -> Result<T, String> {
+    thread_local! {
+        static INSIDE: Cell<bool> = const { Cell::new(false) };
+        static SAID: RefCell<String> = const { RefCell::new(String::new()) };
+    }
+    static HOOK: Once = Once::new();
+    HOOK.call_once(|| {
+        let usual = panic::take_hook();
+        panic::set_hook(Box::new(move |info| {
+            if !INSIDE.get() {
+                return usual(info);
+            }
+            let at = info.location().unwrap();
+            let file = at.file().rsplit('/').next().unwrap();
+            let what = info.payload_as_str().unwrap_or("panic").replace('\n', " ");
+            SAID.set(format!("{file}:{}: {what}", at.line()));
+        }));
+    });
+    INSIDE.set(true);
+    let result = panic::catch_unwind(AssertUnwindSafe(f));
+    INSIDE.set(false);
+    result.map_err(|_| SAID.take())
+}
+
+fn run(job: &Job) -> Ran {
+    let func = JobFunction(job);
+    let reginfo = JobRegInfo(job);
+    let scales = job.scales.map(f32::from_bits);
+    let options = Options {
+        spill_weight_adjust: job.k,
+        direct_remat_cheaper_than_move_cost_scale: scales[0],
+        direct_remat_cheaper_than_load_cost_scale: scales[1],
+        indirect_remat_cost_scale: scales[2],
+        split_strategy: SplitStrategy::Split,
+    };
+
+    let mut split_placement = SplitPlacement::new();
+    split_placement.prepare(&func);
+    let links = func.blocks().map(|block| {
+        let [prev, next] = [split_placement.prev_lower_freq(block), split_placement.next_lower_freq(block)]
+            .map(|link| link.map_or(ABSENT, |b| b.index() as u32));
+        Link { prev, next }
+    });
+    let links = links.collect();
+
+    // A spill weight's index is its virtual register's; the register to split comes last.
+    let mut uses = Uses::new();
+    let segments = segments_of(job, &mut uses);
+    let mut virt_regs = VirtRegs::new();
+    let others: Vec<_> = job.weights.iter().map(|w| virt_regs.oracle_put(&[], f32::from_bits(*w))).collect();
+    let vreg = virt_regs.oracle_put(&segments, 0.0);
+
+    let mut reg_matrix = RegMatrix::new();
+    for row in &job.rows {
+        let range = LiveRangeSegment::new(point(row.start), point(row.end));
+        let (other, fixed_use) = match row.kind {
+            0 => (Some(others[row.index as usize]), row.fixed),
+            1 => (None, !0),
+            _ => (None, row.index),
+        };
+        reg_matrix.oracle_put_row(RegUnit::new(row.unit as usize), range, other, fixed_use);
+    }
+    for f in &job.fixed {
+        let value = Value::new(f.value as usize);
+        reg_matrix.oracle_put_fixed_use(RegUnit::new(f.unit as usize), point(f.point), value);
+    }
+
+    let mut context = Context {
+        func: &func,
+        reginfo: &reginfo,
+        options: &options,
+        stats: &mut Stats,
+        uses: &mut uses,
+        hints: &Hints::new(),
+        virt_regs: &mut virt_regs,
+        virt_reg_builder: &mut VirtRegBuilder::new(),
+        coalescing: &mut Coalescing,
+        spill_allocator: &mut SpillAllocator,
+        split_placement: &split_placement,
+        reg_matrix: &mut reg_matrix,
+        allocator: &mut Allocator {
+            splitter: Splitter::new(),
+            queue: AllocationQueue::new(),
+            assignments: Default::default(),
+            remat_segments: vec![],
+            allocation_order: AllocationOrder,
+        },
+    };
+    told(links, context.oracle_run(vreg, PhysReg::new(ASKED)), &options)
+}
+
+fn point(bits: u32) -> LiveRangePoint {
+    LiveRangePoint { bits }
+}
+
+/// The segments with their use lists, whose indices are those of the job's uses.
+fn segments_of(job: &Job, uses: &mut Uses) -> Vec<ValueSegment> {
+    let segments = job.segments.iter().map(|s| {
+        let range = s.first_use as usize..s.end_use as usize;
+        let mut use_list = uses.add_use_list(range.map(|at| use_of(job, at)));
+        use_list.set_livein(s.flags & LIVE_IN != 0);
+        use_list.set_liveout(s.flags & LIVE_OUT != 0);
+        use_list.set_fixedhint(s.flags & FIXED_HINT != 0);
+        use_list.set_fixeddef(s.flags & FIXED_DEF != 0);
+        ValueSegment {
+            live_range: LiveRangeSegment::new(point(s.start), point(s.end)),
+            use_list,
+            value: Value::new(s.value as usize),
+        }
+    });
+    segments.collect()
+}
+
+/// A use. Its class, if it has one, has the use's index, so that each has its own cost.
+fn use_of(job: &Job, at: usize) -> Use {
+    let u = job.uses[at];
+    let reg = PhysReg::new(if u.cost == 1 { IN_MEMORY } else { IN_REGISTER });
+    let class = RegClass::new(at);
+    let (slot, group_index) = (0, 0);
+    let kind = match u.kind {
+        0 => UseKind::FixedDef { reg },
+        1 => UseKind::FixedUse { reg },
+        2 => UseKind::TiedUse { use_slot: 0, def_slot: 0, class, group_index },
+        3 => UseKind::ConstraintConflict {},
+        4 => UseKind::ClassUse { slot, class },
+        5 => UseKind::ClassDef { slot, class },
+        6 => UseKind::GroupClassUse { slot, class, group_index },
+        7 => UseKind::GroupClassDef { slot, class, group_index },
+        8 => UseKind::BlockparamIn { blockparam_idx: 0 },
+        _ => UseKind::BlockparamOut {},
+    };
+    Use { pos: Inst::new(u.pos as usize), kind }
+}
+
+fn told(links: Vec<Link>, run: OracleRun, options: &Options) -> Ran {
+    let uses = run.uses.iter().map(|&[inst, main, left, right]| UseRow { inst, main, left, right });
+    let gaps =
+        run.gaps.iter().map(|&[from, to, weight, live_insts, freq]| Gap { from, to, weight, live_insts, freq });
+    let gap_segments = run.gap_segments.iter().map(|&[from, to, value, gap]| GapSegment { from, to, value, gap });
+    let tables = Tables { links, uses: uses.collect(), gaps: gaps.collect(), gap_segments: gap_segments.collect() };
+    let answer = match run.proposal {
+        Some(p) => {
+            let normalised = normalize_spill_weight(p.use_weight, p.live_insts, options);
+            let proposal = Proposal {
+                left: p.left,
+                right: p.right,
+                use_weight: p.use_weight.to_bits(),
+                live_insts: p.live_insts,
+                interference_weight: p.interference_weight.to_bits(),
+                split_cost: p.split_cost.to_bits(),
+            };
+            Answer::Proposed(proposal, normalised.to_bits())
+        }
+        None => Answer::None(if run.best_use { 2 } else { 1 }),
+    };
+    Ran { answer, tables }
+}
+
+/// The job's blocks and values as a function.
+struct JobFunction<'a>(&'a Job);
+
+impl Function for JobFunction<'_> {
+    fn num_blocks(&self) -> usize {
+        self.0.blocks.len()
+    }
+
+    fn block_insts(&self, block: Block) -> InstRange {
+        let b = self.0.blocks[block.index()];
+        InstRange::new(Inst::new(b.first as usize), Inst::new(b.end as usize))
+    }
+
+    fn inst_block(&self, inst: Inst) -> Block {
+        assert!(inst.index() < self.0.last_end() as usize, "an instruction outside the blocks");
+        Block::new(self.0.blocks.partition_point(|b| b.end as usize <= inst.index()))
+    }
+
+    fn block_frequency(&self, block: Block) -> f32 {
+        f32::from_bits(self.0.blocks[block.index()].freq)
+    }
+
+    fn can_rematerialize(&self, value: Value) -> Option<(RematCost, RegClass)> {
+        let cost = match self.0.values[value.index()] {
+            1 => RematCost::CheaperThanMove,
+            2 => RematCost::CheaperThanLoad,
+            _ => return None,
+        };
+        Some((cost, RegClass::new(0)))
+    }
+
+    fn can_indirectly_rematerialize(&self, value: Value) -> Option<IndirectRemat<'_>> {
+        (self.0.values[value.index()] == 3).then_some(IndirectRemat {
+            constraint: OperandConstraint::Class(RegClass::new(0)),
+            inputs: &[],
+            allow_destination_overlap: true,
+        })
+    }
+
+    // A split proposal asks none of these.
+
+    fn num_insts(&self) -> usize {
+        unreachable!()
+    }
+
+    fn entry_points(&self) -> &[Block] {
+        unreachable!()
+    }
+
+    fn block_succs(&self, _: Block) -> &[Block] {
+        unreachable!()
+    }
+
+    fn block_preds(&self, _: Block) -> &[Block] {
+        unreachable!()
+    }
+
+    fn block_immediate_dominator(&self, _: Block) -> Option<Block> {
+        unreachable!()
+    }
+
+    fn block_params(&self, _: Block) -> &[Value] {
+        unreachable!()
+    }
+
+    fn terminator_kind(&self, _: Inst) -> Option<TerminatorKind> {
+        unreachable!()
+    }
+
+    fn jump_blockparams(&self, _: Block) -> &[Value] {
+        unreachable!()
+    }
+
+    fn block_is_critical_edge(&self, _: Block) -> bool {
+        unreachable!()
+    }
+
+    fn inst_operands(&self, _: Inst) -> &[Operand] {
+        unreachable!()
+    }
+
+    fn inst_clobbers(&self, _: Inst) -> impl Iterator<Item = RegUnit> {
+        std::iter::empty()
+    }
+
+    fn num_values(&self) -> usize {
+        unreachable!()
+    }
+
+    fn value_bank(&self, _: Value) -> RegBank {
+        unreachable!()
+    }
+
+    fn num_value_groups(&self) -> usize {
+        unreachable!()
+    }
+
+    fn value_group_members(&self, _: ValueGroup) -> &[Value] {
+        unreachable!()
+    }
+
+    fn can_eliminate_dead_inst(&self, _: Inst) -> bool {
+        unreachable!()
+    }
+}
+
+/// The job's units and class costs.
+struct JobRegInfo<'a>(&'a Job);
+
+impl RegInfo for JobRegInfo<'_> {
+    fn reg_units(&self, _: PhysReg) -> impl Iterator<Item = RegUnit> {
+        (0..self.0.units as usize).map(RegUnit::new)
+    }
+
+    fn is_memory(&self, reg: PhysReg) -> bool {
+        reg.index() == IN_MEMORY
+    }
+
+    fn class_spill_cost(&self, class: RegClass) -> f32 {
+        f32::from_bits(self.0.uses[class.index()].cost)
+    }
+
+    // A split proposal asks none of these.
+
+    fn class_includes_spillslots(&self, _: RegClass) -> bool {
+        unreachable!()
+    }
+
+    fn class_group_size(&self, _: RegClass) -> usize {
+        unreachable!()
+    }
+
+    fn common_subclass(&self, _: RegClass, _: RegClass) -> Option<RegClass> {
+        unreachable!()
+    }
+
+    fn top_level_class(&self, _: RegBank) -> RegClass {
+        unreachable!()
+    }
+
+    fn spillslot_size(&self, _: RegBank) -> u32 {
+        unreachable!()
+    }
+}
