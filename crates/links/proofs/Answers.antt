@@ -65,7 +65,7 @@ module _ (fs ss es : List ℕ) (n : ℕ) (counted : n ≡ length (blocksOf fs ss
   in-ends = le-trans (le-of-eq counted) (blocks-inside fs ss es .ends)
 
   pub same-list : blocksOf (take n fs) (take n ss) (take n es) ≡ blocks
-  same-list = ap (λ (m : ℕ). blocksOf (take m fs) (take m ss) (take m es)) counted ∙ part-list fs ss es
+  same-list = part-list fs ss es n counted
 
   less : (m : ℕ) → 0 < m → n ≡ m → n - 1 < m
   less m h e = omega arith

@@ -1,70 +1,66 @@
 -- The columns of a block list: those of one length are the list's own; a sound list's columns serve the search; a part as long as the list holds the same list
 use mathlib.Core.Path.{_≡_, refl, sym, ap, _∙_, subst, fun-ext}
-use mathlib.Core.List.{List, [], _∷_, map}
+use mathlib.Core.Logic.{⊎-elim}
+use mathlib.Core.List.{List, map}
 use Prim.Native.Nat.{ℕ, zero, suc, _+_, _-_, _≤_, _<_, zero-le, min}
-use native.Mathlib.Nat.{le-refl, le-trans, le-of-eq, lt-of-lt-of-le, lt-of-le-of-lt, suc-inj, not-suc-le-zero}
+use native.Mathlib.Nat.{le-refl, le-trans, le-of-eq, lt-of-lt-of-le, lt-of-le-of-lt, not-suc-le-zero}
 use native.Mathlib.Omega.{arith}
 use mathlib.Core.Bool.{Bool, true, false, cond}
 use lib.Dec.{ltb, eqb}
-use lib.ListN.{length, getD, take}
+use lib.ListN.{length, getD, take, List·getD-eq-default}
+use lib.Seq.{getD-take, length-take-le}
 use borrow.Author.Tests.{lt-ltb, eq-eqb, ne-eqb}
 use Rattle.numbers.specs.Weight.{frequencyLimit}
 use Rattle.numbers.proofs.Tests.{cond-true, cond-false}
 use Rattle.links.specs.First.{firstBelow, Searchable}
+use Rattle.links.specs.Table.{table}
 use Rattle.links.specs.Blocks.{Block, noBlock, blocksOf, blockAt, startOf, itemLimit, endLimit, SoundBlocks, blockOf, Ends}
 use Rattle.links.specs.Links.{Frequencies}
 use Rattle.links.specs.Split.{follow, lastOr, edge, preferred, home, farthest, reaches, splitPoint, Swept, lastReached, Between}
 use Rattle.links.specs.declared.lower.Side.{Side}
 use Rattle.links.specs.declared.lower.Side.the-variants.{Previous, Next}
-use Rattle.links.proofs.Firsts.{first-at-most, first-same}
-use Rattle.links.proofs.Rows.{blocks-length, blocks-at, row-good, ends-rise, firsts-rise, block-of-holds}
+use Rattle.links.proofs.Firsts.{split, first-at-most, first-same}
+use Rattle.links.proofs.Tables.{table-past, table-same, table-map, table-of}
+use Rattle.links.proofs.Rows.{rowOf, blocks-length, blocks-at, blocks-inside, row-good, ends-rise, firsts-rise, block-of-holds}
 
 -- ---- columns of one length
 pub list-long : (fs ss es : List ℕ) → length ss ≡ length fs → length es ≡ length fs → length (blocksOf fs ss es) ≡ length fs
 list-long fs ss es p q = blocks-length fs ss es ∙ all (length fs) (length ss) (length es) p q
   where
-    all : (a b c : ℕ) → b ≡ a → c ≡ a → min (min a b) c ≡ a
+    all : (a b c : ℕ) → b ≡ a → c ≡ a → min a (min b c) ≡ a
     all a b c p q = omega arith
 
 pub frequency-column : (fs ss es : List ℕ) → length ss ≡ length fs → length es ≡ length fs → map (λ (b : Block). b .frequency) (blocksOf fs ss es) ≡ fs
-frequency-column [] ss es p q = refl
-frequency-column (f ∷ fs) [] es p q = absurd (none (length fs) p)
-  where
-    none : (n : ℕ) → 0 ≡ suc n → ⊥
-    none n e = omega arith
-frequency-column (f ∷ fs) (s ∷ ss) [] p q = absurd (none (length fs) q)
-  where
-    none : (n : ℕ) → 0 ≡ suc n → ⊥
-    none n e = omega arith
-frequency-column (f ∷ fs) (s ∷ ss) (e ∷ es) p q = ap (λ (l : List ℕ). f ∷ l) (frequency-column fs ss es (suc-inj p) (suc-inj q))
+frequency-column fs ss es p q =
+    table-map (λ (b : Block). b .frequency) (rowOf fs ss es) (min (length fs) (min (length ss) (length es)))
+    ∙ ap (table (λ (i : ℕ). getD fs i 0)) (sym (blocks-length fs ss es) ∙ list-long fs ss es p q) ∙ table-of fs 0
 
 -- a row, also past the end: there each column and the list give zero
-past : (l : List ℕ) (c : ℕ) → length l ≡ 0 → getD l c 0 ≡ 0
-past [] c e = refl
-past (x ∷ l) c e = absurd (none (length l) e)
-  where
-    none : (n : ℕ) → suc n ≡ 0 → ⊥
-    none n e = omega arith
-
-pub row-at : (fs ss es : List ℕ) → length ss ≡ length fs → length es ≡ length fs → (c : ℕ) → blockAt (blocksOf fs ss es) c ≡ record { frequency = getD fs c 0; first = getD ss c 0; end = getD es c 0 }
-row-at [] ss es p q c = λ i. record { frequency = 0; first = sym (past ss c p) i; end = sym (past es c q) i }
-row-at (f ∷ fs) [] es p q c = absurd (none (length fs) p)
-  where
-    none : (n : ℕ) → 0 ≡ suc n → ⊥
-    none n e = omega arith
-row-at (f ∷ fs) (s ∷ ss) [] p q c = absurd (none (length fs) q)
-  where
-    none : (n : ℕ) → 0 ≡ suc n → ⊥
-    none n e = omega arith
-row-at (f ∷ fs) (s ∷ ss) (e ∷ es) p q zero = refl
-row-at (f ∷ fs) (s ∷ ss) (e ∷ es) p q (suc c) = row-at fs ss es (suc-inj p) (suc-inj q) c
+pub row-at : (fs ss es : List ℕ) → length ss ≡ length fs → length es ≡ length fs → (c : ℕ) → blockAt (blocksOf fs ss es) c ≡ rowOf fs ss es c
+row-at fs ss es p q c =
+    ⊎-elim (λ h. blocks-at fs ss es c h)
+    (λ h.
+      let l = le-trans (le-of-eq (sym (list-long fs ss es p q))) h in
+      table-past (rowOf fs ss es) (min (length fs) (min (length ss) (length es))) c noBlock (le-trans (le-of-eq (sym (blocks-length fs ss es))) h)
+      ∙ (λ i. record {
+        frequency = sym (List·getD-eq-default fs 0 l) i;
+        first = sym (List·getD-eq-default ss 0 (le-trans (le-of-eq p) l)) i;
+        end = sym (List·getD-eq-default es 0 (le-trans (le-of-eq q) l)) i;
+      }))
+    (split c (length (blocksOf fs ss es)))
 
 -- ---- a part of each column as long as the list
-pub part-list : (fs ss es : List ℕ) → blocksOf (take (length (blocksOf fs ss es)) fs) (take (length (blocksOf fs ss es)) ss) (take (length (blocksOf fs ss es)) es) ≡ blocksOf fs ss es
-part-list [] ss es = refl
-part-list (f ∷ fs) [] es = refl
-part-list (f ∷ fs) (s ∷ ss) [] = refl
-part-list (f ∷ fs) (s ∷ ss) (e ∷ es) = ap (λ (l : List Block). record { frequency = f; first = s; end = e } ∷ l) (part-list fs ss es)
+pub part-list : (fs ss es : List ℕ) (n : ℕ) → n ≡ length (blocksOf fs ss es) → blocksOf (take n fs) (take n ss) (take n es) ≡ blocksOf fs ss es
+part-list fs ss es n e =
+    let i = blocks-inside fs ss es in
+    ap (table (rowOf (take n fs) (take n ss) (take n es)))
+    (all (length (take n fs)) (length (take n ss)) (length (take n es)) (length-take-le n fs (le-trans (le-of-eq e) (i .freqs))) (length-take-le n ss (le-trans (le-of-eq e) (i .firsts))) (length-take-le n es (le-trans (le-of-eq e) (i .ends))))
+    ∙ table-same (rowOf (take n fs) (take n ss) (take n es)) (rowOf fs ss es) n
+    (λ k l. λ i. record { frequency = getD-take n fs k 0 l i; first = getD-take n ss k 0 l i; end = getD-take n es k 0 l i })
+    ∙ ap (table (rowOf fs ss es)) (e ∙ blocks-length fs ss es)
+  where
+    all : (a b c : ℕ) → a ≡ n → b ≡ n → c ≡ n → min a (min b c) ≡ n
+    all a b c p q r = omega arith
 
 -- ---- the last end
 pub last-end : (blocks : List Block) → 0 < length blocks → startOf blocks (length blocks) ≡ blockAt blocks (length blocks - 1) .end

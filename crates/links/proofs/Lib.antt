@@ -1,5 +1,6 @@
 -- The laws of the links layer, lowest first
 pub mod Firsts
+pub mod Tables
 pub mod Rows
 pub mod Checks
 pub mod Linking

@@ -1,14 +1,13 @@
 -- Lower links: the nearest block of strictly lower frequency on its side, and no other; absent exactly if none is lower. Every law takes the side
 use mathlib.Core.Path.{_≡_, refl, sym, ap, _∙_, subst}
 use mathlib.Core.Logic.{_⊎_, inl, inr, ⊎-elim}
-use mathlib.Core.List.{List, [], _∷_, _++_}
+use mathlib.Core.List.{List}
 use Prim.Native.Nat.{ℕ, zero, suc, _+_, _-_, _≤_, _<_, zero-le}
 use native.Mathlib.Nat.{le-trans, le-of-eq, lt-of-lt-of-le, lt-irrefl, not-le-of-lt, le-of-suc-le-suc, not-suc-le-zero}
 use native.Mathlib.Omega.{arith}
 use mathlib.Core.Bool.{Bool, true, false, not, cond, true≢false}
 use lib.Dec.{T, ltb, ltb→lt, nltb→le, lit≤}
-use lib.ListN.{length, getD, set, drop, length-append, length-drop, List·getD-append}
-use lib.Seq.{ext-getD, getD-append-add, getD-drop, getD-set-same, getD-set-other}
+use lib.ListN.{length, getD}
 use lib.Ieee.{lt}
 use borrow.Author.Tests.{ltb-true, ltb-false, lt-ltb, le-ltb}
 use Rattle.numbers.specs.Weight.{finite, unitsOf, frequencyLimit, weightLimit, valueOf}
@@ -16,7 +15,6 @@ use Rattle.numbers.proofs.Tests.{cond-both}
 use Rattle.numbers.proofs.Units.{units-order}
 use Rattle.numbers.proofs.Bits.{value-finite, value-order}
 use Rattle.links.specs.First.{firstBelow, FirstIn}
-use Rattle.links.specs.Table.{column, filled}
 use Rattle.links.specs.Links.{beside, beyond, absent, isLower, lowerLink, Beyond, nth}
 use Rattle.links.specs.declared.lower.Side.{Side}
 use Rattle.links.specs.declared.lower.Side.the-variants.{Previous, Next}
@@ -202,43 +200,3 @@ pub done-all : (side : Side) (n t k : ℕ) → n ≤ t → k < n → Done side n
 unfolding Done
 done-all Previous n t k l h = omega arith
 done-all Next n t k l h = omega arith
-
--- ---- columns
-pub column-length : (row : ℕ → ℕ) (n : ℕ) → length (column row n) ≡ n
-unfolding column
-column-length row zero = refl
-column-length row (suc n) = ap suc (column-length (λ (k : ℕ). row (suc k)) n)
-
-pub column-at : (row : ℕ → ℕ) (n i : ℕ) → i < n → getD (column row n) i 0 ≡ row i
-unfolding column
-column-at row zero i h = absurd (not-suc-le-zero h)
-column-at row (suc n) zero h = refl
-column-at row (suc n) (suc i) h = column-at (λ (k : ℕ). row (suc k)) n i (le-of-suc-le-suc h)
-
--- a column with the rows, and what it had past them, is the filled one
-pub filled-is : (row : ℕ → ℕ) (n : ℕ) (lent now : List ℕ) → n ≤ length lent → length now ≡ length lent
-    → ((k : ℕ) → k < n → getD now k 0 ≡ row k) → ((k : ℕ) → n ≤ k → getD now k 0 ≡ getD lent k 0) → now ≡ filled (column row n) lent
-filled-is row n lent now room long rows rest =
-    ext-getD 0 now (filled (column row n) lent) (long ∙ sym lengths)
-    (λ k _. ⊎-elim
-    (λ l. rows k l ∙ sym (column-at row n k l) ∙ sym (List·getD-append (column row n) (drop (length (column row n)) lent) 0 k (lt-of-lt-of-le l (le-of-eq (sym (column-length row n))))))
-    (λ l. rest k l ∙ sym (past k l))
-    (split k n))
-  where
-    lengths : length (filled (column row n) lent) ≡ length lent
-    lengths =
-        let c = column-length row n in
-        length-append (column row n) (drop (length (column row n)) lent) ∙ ap (λ (x : ℕ). length (column row n) + x) (length-drop (length (column row n)) lent) ∙ join (length (column row n)) (length lent) (le-trans (le-of-eq c) room)
-      where
-        join : (a b : ℕ) → a ≤ b → a + (b - a) ≡ b
-        join a b h = omega arith
-
-    past : (k : ℕ) → n ≤ k → getD (filled (column row n) lent) k 0 ≡ getD lent k 0
-    past k l =
-        let m = length (column row n) in
-        let e : k ≡ m + (k - m) = place m k (le-trans (le-of-eq (column-length row n)) l) in
-        ap (λ (x : ℕ). getD (filled (column row n) lent) x 0) e
-        ∙ getD-append-add (column row n) (drop m lent) (k - m) 0 ∙ getD-drop m lent (k - m) 0 ∙ ap (λ (x : ℕ). getD lent x 0) (sym e)
-      where
-        place : (m k : ℕ) → m ≤ k → k ≡ m + (k - m)
-        place m k h = omega arith

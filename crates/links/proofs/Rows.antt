@@ -13,33 +13,20 @@ use borrow.Author.Tests.{ltb-false, leb-false, eqb-true, not-false, lt-ltb, le-l
 use Rattle.numbers.specs.Weight.{frequencyLimit}
 use Rattle.links.specs.First.{firstBelow, FirstIn, Searchable}
 use Rattle.links.specs.Blocks.{Block, noBlock, blocksOf, blockAt, startOf, endLimit, isBad, badBlock, SoundBlocks, holds, blockOf}
-use Rattle.links.proofs.Firsts.{split, first-in, first-is, first-same}
+use Rattle.links.proofs.Firsts.{split, first-in, first-is}
+use Rattle.links.proofs.Tables.{table-length, table-at}
 
 -- ---- rows from columns
-pub blocks-length : (fs ss es : List ℕ) → length (blocksOf fs ss es) ≡ min (min (length fs) (length ss)) (length es)
-blocks-length [] ss es = nothing (length ss) (length es)
-  where
-    nothing : (a b : ℕ) → 0 ≡ min (min 0 a) b
-    nothing a b = omega arith
-blocks-length (f ∷ fs) [] es = nothing (length fs) (length es)
-  where
-    nothing : (a b : ℕ) → 0 ≡ min (min (suc a) 0) b
-    nothing a b = omega arith
-blocks-length (f ∷ fs) (s ∷ ss) [] = nothing (length fs) (length ss)
-  where
-    nothing : (a b : ℕ) → 0 ≡ min (min (suc a) (suc b)) 0
-    nothing a b = omega arith
-blocks-length (f ∷ fs) (s ∷ ss) (e ∷ es) = more (length fs) (length ss) (length es) (length (blocksOf fs ss es)) (blocks-length fs ss es)
-  where
-    more : (a b c n : ℕ) → n ≡ min (min a b) c → suc n ≡ min (min (suc a) (suc b)) (suc c)
-    more a b c n h = omega arith
+-- a row of the columns
+abbrev pub rowOf : List ℕ → List ℕ → List ℕ → ℕ → Block
+rowOf fs ss es i = record { frequency = getD fs i 0; first = getD ss i 0; end = getD es i 0 }
 
-pub blocks-at : (fs ss es : List ℕ) (i : ℕ) → i < length (blocksOf fs ss es) → blockAt (blocksOf fs ss es) i ≡ record { frequency = getD fs i 0; first = getD ss i 0; end = getD es i 0 }
-blocks-at [] ss es i h = absurd (not-suc-le-zero h)
-blocks-at (f ∷ fs) [] es i h = absurd (not-suc-le-zero h)
-blocks-at (f ∷ fs) (s ∷ ss) [] i h = absurd (not-suc-le-zero h)
-blocks-at (f ∷ fs) (s ∷ ss) (e ∷ es) zero h = refl
-blocks-at (f ∷ fs) (s ∷ ss) (e ∷ es) (suc i) h = blocks-at fs ss es i (le-of-suc-le-suc h)
+pub blocks-length : (fs ss es : List ℕ) → length (blocksOf fs ss es) ≡ min (length fs) (min (length ss) (length es))
+blocks-length fs ss es = table-length (rowOf fs ss es) (min (length fs) (min (length ss) (length es)))
+
+pub blocks-at : (fs ss es : List ℕ) (i : ℕ) → i < length (blocksOf fs ss es) → blockAt (blocksOf fs ss es) i ≡ rowOf fs ss es i
+blocks-at fs ss es i h =
+    table-at (rowOf fs ss es) (min (length fs) (min (length ss) (length es))) i noBlock (lt-of-lt-of-le h (le-of-eq (blocks-length fs ss es)))
 
 -- a row's test, made of the columns, is the block's; and where the next block has to start is the row's end
 pub bad-at : (fs ss es : List ℕ) (i start : ℕ) → i < length (blocksOf fs ss es) → start ≡ startOf (blocksOf fs ss es) i

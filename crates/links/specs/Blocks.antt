@@ -7,6 +7,7 @@ use lib.Dec.{T, leb, ltb, eqb}
 use lib.ListN.{length, getD}
 use Rattle.numbers.specs.Weight.{frequencyLimit}
 use Rattle.links.specs.First.{firstBelow, Searchable}
+use Rattle.links.specs.Table.{table, shortest}
 use Rattle.links.specs.declared.blocks.Refusal.{Refusal}
 use Rattle.links.specs.declared.blocks.Checked.{Checked}
 use Rattle.links.specs.declared.blocks.Checked.the-variants.{Sound, Refused}
@@ -21,12 +22,11 @@ pub record Block : Type 0 where
 abbrev pub noBlock : Block
 noBlock = record { frequency = 0; first = 0; end = 0 }
 
--- the block list that three lent columns hold, as long as the shortest
+-- the block list that three lent columns hold
 abbrev pub blocksOf : List ℕ → List ℕ → List ℕ → List Block
-blocksOf [] ss es = []
-blocksOf (f ∷ fs) [] es = []
-blocksOf (f ∷ fs) (s ∷ ss) [] = []
-blocksOf (f ∷ fs) (s ∷ ss) (e ∷ es) = record { frequency = f; first = s; end = e } ∷ blocksOf fs ss es
+blocksOf freqs firsts ends =
+    table (λ (i : ℕ). record { frequency = getD freqs i 0; first = getD firsts i 0; end = getD ends i 0 })
+    (shortest (length freqs ∷ length firsts ∷ length ends ∷ []))
 
 -- block i
 abbrev pub blockAt : List Block → ℕ → Block

@@ -11,7 +11,7 @@ use Rattle.numbers.specs.declared.MaybeBlock.{MaybeBlock}
 use Rattle.numbers.specs.declared.MaybeBlock.the-variants.{At, Absent}
 use Rattle.links.specs.Blocks.{itemLimit}
 use Rattle.links.specs.First.{firstBelow}
-use Rattle.links.specs.Table.{column}
+use Rattle.links.specs.Table.{table}
 use Rattle.links.specs.declared.lower.Side.{Side}
 use Rattle.links.specs.declared.lower.Side.the-variants.{Previous, Next}
 
@@ -42,7 +42,7 @@ lowerLink side freqs b =
 
 -- all lower links of a side
 abbrev pub linkColumn : Side → List ℕ → List ℕ
-linkColumn side freqs = column (lowerLink side freqs) (length freqs)
+linkColumn side freqs = table (lowerLink side freqs) (length freqs)
 
 -- the answer to a link as it is stored
 abbrev pub linkAnswer : ℕ → MaybeBlock

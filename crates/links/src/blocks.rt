@@ -37,8 +37,8 @@ fn shorter(a: usize, b: usize) -> usize
 pub fn count(freq: &[u32], first: &[u32], end: &[u32]) -> usize
     ensures { λ r. ⌜ r ≡ length (blocksOf (now (freq .entry)) (now (first .entry)) (now (end .entry))) ⌝ }
 {
-    let n = shorter(freq.len(), first.len());
-    shorter(n, end.len())
+    let n = shorter(first.len(), end.len());
+    shorter(freq.len(), n)
 }
 
 // A block that has to start at `start` leaves a hole or overlaps, is empty, ends too late or has bad frequency bits.

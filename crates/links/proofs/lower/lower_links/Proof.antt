@@ -10,7 +10,8 @@ use lib.ListN.{length, getD, set, length-set}
 use lib.Seq.{getD-set-same, getD-set-other}
 use Rattle.links.specs.Links.{lowerLink, Beyond, nth, Frequencies, LinkedBeyond}
 use Rattle.links.specs.declared.lower.Side.{Side}
-use Rattle.links.proofs.Linking.{Done, nth-inside, done-beyond, beyond-done, done-next, done-none, done-all, not-itself, filled-is}
+use Rattle.links.proofs.Linking.{Done, nth-inside, done-beyond, beyond-done, done-next, done-none, done-all, not-itself}
+use Rattle.links.proofs.Tables.{filled-is}
 use Rattle.links.proofs.lower.lower_links.Statement.{statement}
 use Rattle.links.proofs.lower.lower_links.Tie as tie
 
@@ -107,7 +108,7 @@ returns : tie.Need-returns Inv-loop μ-loop
 returns c =
     let l = c .before .loop in
     let s = c .before .before .before .before in
-    filled-is (lowerLink (s .args .side) (s .args .freq .now)) (length (s .args .freq .now)) (s .args .links .now) (l .links) (s .pre .long) (l .inv .long)
+    filled-is (lowerLink (s .args .side) (s .args .freq .now)) (length (s .args .freq .now)) (s .args .links .now) (l .links) 0 (s .pre .long) (l .inv .long)
     (λ k kn. l .inv .done k kn (done-all (s .args .side) (length (s .args .freq .now)) (l .t) k (c .loop-test .left) kn)) (l .inv .rest)
 
 pub lower-links-spec : {M : Type 1} → statement M
