@@ -40,13 +40,13 @@ pub row-at : (fs ss es : List ℕ) → length ss ≡ length fs → length es ≡
 row-at fs ss es p q c =
     ⊎-elim (λ h. blocks-at fs ss es c h)
     (λ h.
-      let l = le-trans (le-of-eq (sym (list-long fs ss es p q))) h in
-      table-past (rowOf fs ss es) (min (length fs) (min (length ss) (length es))) c noBlock (le-trans (le-of-eq (sym (blocks-length fs ss es))) h)
-      ∙ (λ i. record {
-        frequency = sym (List·getD-eq-default fs 0 l) i;
-        first = sym (List·getD-eq-default ss 0 (le-trans (le-of-eq p) l)) i;
-        end = sym (List·getD-eq-default es 0 (le-trans (le-of-eq q) l)) i;
-      }))
+    let l = le-trans (le-of-eq (sym (list-long fs ss es p q))) h in
+    table-past (rowOf fs ss es) (min (length fs) (min (length ss) (length es))) c noBlock (le-trans (le-of-eq (sym (blocks-length fs ss es))) h)
+    ∙ (λ i. record {
+      frequency = sym (List·getD-eq-default fs 0 l) i;
+      first = sym (List·getD-eq-default ss 0 (le-trans (le-of-eq p) l)) i;
+      end = sym (List·getD-eq-default es 0 (le-trans (le-of-eq q) l)) i;
+    }))
     (split c (length (blocksOf fs ss es)))
 
 -- ---- a part of each column as long as the list

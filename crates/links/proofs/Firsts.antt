@@ -2,7 +2,7 @@
 use mathlib.Core.Path.{_≡_, refl, sym, _∙_, subst}
 use mathlib.Core.Logic.{_⊎_, inl, inr}
 use Prim.Native.Nat.{ℕ, zero, suc, _+_, _-_, _≤_, _<_, zero-le, suc-le-suc}
-use native.Mathlib.Nat.{le-refl, le-trans, le-antisymm, le-of-suc-le-suc, lt-of-lt-of-le, lt-of-not-le, not-suc-le-zero}
+use native.Mathlib.Nat.{le-refl, le-of-lt, le-antisymm, le-of-suc-le-suc, lt-irrefl, lt-of-lt-of-le, lt-of-not-le, not-suc-le-zero}
 use native.Mathlib.Decide.{decLt}
 use native.Mathlib.Omega.{arith}
 use mathlib.Core.Bool.{Bool, true, false, not, cond, true≢false}
@@ -65,3 +65,10 @@ first-same p q n h =
 -- where the test holds somewhere below n, the first place is no later
 pub first-at-most : (test : ℕ → Bool) (n k : ℕ) → test k ≡ true → firstBelow test n ≤ k
 first-at-most test n k e = le-of-suc-le-suc (lt-of-not-le (λ h. true≢false (sym e ∙ first-in test n .passed k zero-le h)))
+
+-- what a search from 0 shows: it stops at the first place, or has passed all
+pub first-found : (test : ℕ → Bool) (n i : ℕ) → i < n → ((k : ℕ) → k < i → test k ≡ false) → test i ≡ true → i ≡ firstBelow test n
+first-found test n i h passed e = first-is (record { from = zero-le; to = le-of-lt h; passed = λ k _ l. passed k l; found = λ _. e })
+
+pub first-none : (test : ℕ → Bool) (n : ℕ) → ((k : ℕ) → k < n → test k ≡ false) → n ≡ firstBelow test n
+first-none test n passed = first-is (record { from = zero-le; to = le-refl n; passed = λ k _ l. passed k l; found = λ l. absurd (lt-irrefl n l) })

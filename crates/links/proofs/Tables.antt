@@ -2,19 +2,37 @@
 use mathlib.Core.Path.{_≡_, refl, sym, ap, ap₂, _∙_, subst}
 use mathlib.Core.Logic.{⊎-elim}
 use mathlib.Core.List.{List, [], _∷_, _++_, map}
-use Prim.Native.Nat.{ℕ, zero, suc, _+_, _-_, _≤_, _<_, zero-le, suc-le-suc}
-use native.Mathlib.Nat.{le-trans, le-of-eq, lt-of-lt-of-le, le-of-suc-le-suc, not-suc-le-zero, zero-lt-suc}
+use Prim.Native.Nat.{ℕ, zero, suc, _+_, _-_, _≤_, _<_, suc-le-suc, min}
+use native.Mathlib.Nat.{le-refl, le-trans, le-of-eq, lt-of-lt-of-le, le-of-suc-le-suc, not-suc-le-zero, zero-lt-suc}
 use native.Mathlib.Omega.{arith}
 use lib.ListN.{length, getD, drop, length-append, length-drop, List·getD-append, List·getD-eq-default}
 use lib.Seq.{ext-getD, getD-append-add, getD-drop}
-use Rattle.links.specs.Table.{table, filled}
+use Rattle.links.specs.Table.{table, shortest, filled}
 use Rattle.links.proofs.Firsts.{split}
+
+-- no column is shorter than the shortest
+pub shortest-at-most : (ns : List ℕ) (k : ℕ) → k < length ns → shortest ns ≤ getD ns k 0
+shortest-at-most [] k h = absurd (not-suc-le-zero h)
+shortest-at-most (n ∷ []) zero h = le-refl n
+shortest-at-most (n ∷ []) (suc k) h = absurd (not-suc-le-zero (le-of-suc-le-suc h))
+shortest-at-most (n ∷ m ∷ ns) zero h = first n (shortest (m ∷ ns))
+  where
+    first : (a b : ℕ) → min a b ≤ a
+    first a b = omega arith
+shortest-at-most (n ∷ m ∷ ns) (suc k) h = le-trans (second n (shortest (m ∷ ns))) (shortest-at-most (m ∷ ns) k (le-of-suc-le-suc h))
+  where
+    second : (a b : ℕ) → min a b ≤ b
+    second a b = omega arith
 
 module _ {A : Type 0} where
   pub table-length : (row : ℕ → A) (n : ℕ) → length (table row n) ≡ n
   unfolding table
   table-length row zero = refl
   table-length row (suc n) = ap suc (table-length (λ (k : ℕ). row (suc k)) n)
+
+  -- a row number of a table of columns is inside each column
+  pub row-inside : (row : ℕ → A) (ns : List ℕ) (i k : ℕ) → i < length (table row (shortest ns)) → k < length ns → i < getD ns k 0
+  row-inside row ns i k h l = lt-of-lt-of-le h (le-trans (le-of-eq (table-length row (shortest ns))) (shortest-at-most ns k l))
 
   pub table-at : (row : ℕ → A) (n i : ℕ) (d : A) → i < n → getD (table row n) i d ≡ row i
   unfolding table
@@ -44,7 +62,7 @@ module _ {A : Type 0} where
 
   -- a column with the rows, and what it had past them, is the filled one
   module _ (row : ℕ → A) (n : ℕ) (lent now : List A) (d : A) (room : n ≤ length lent) (long : length now ≡ length lent)
-    (rows : (k : ℕ) → k < n → getD now k d ≡ row k) (rest : (k : ℕ) → n ≤ k → getD now k d ≡ getD lent k d) where
+      (rows : (k : ℕ) → k < n → getD now k d ≡ row k) (rest : (k : ℕ) → n ≤ k → getD now k d ≡ getD lent k d) where
     m : ℕ
     m = length (table row n)
 
@@ -68,6 +86,6 @@ module _ {A : Type 0} where
     filled-is =
         ext-getD d now (filled (table row n) lent) (long ∙ sym full)
         (λ k _. ⊎-elim
-          (λ l. rows k l ∙ sym (table-at row n k d l) ∙ sym (List·getD-append (table row n) (drop m lent) d k (lt-of-lt-of-le l (le-of-eq (sym (table-length row n))))))
-          (λ l. rest k l ∙ sym (past k l))
-          (split k n))
+        (λ l. rows k l ∙ sym (table-at row n k d l) ∙ sym (List·getD-append (table row n) (drop m lent) d k (lt-of-lt-of-le l (le-of-eq (sym (table-length row n))))))
+        (λ l. rest k l ∙ sym (past k l))
+        (split k n))

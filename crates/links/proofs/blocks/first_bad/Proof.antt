@@ -3,13 +3,13 @@ use mathlib.Core.Path.{_≡_, refl, sym, _∙_, subst}
 use mathlib.Core.Bool.{Bool, true, false}
 use mathlib.Core.List.{List}
 use Prim.Native.Nat.{ℕ, _-_, _≤_, _<_, zero-le}
-use native.Mathlib.Nat.{le-refl, lt-of-lt-of-le, not-le-of-lt, not-suc-le-zero}
+use native.Mathlib.Nat.{lt-of-lt-of-le, not-suc-le-zero}
 use native.Mathlib.Omega.{arith}
 use borrow.Author.Count.{below-more}
 use borrow.Author.Needs.{needs, scaled-fits}
 use lib.ListN.{length, getD}
 use Rattle.links.specs.Blocks.{blocksOf, startOf, isBad, badBlock}
-use Rattle.links.proofs.Firsts.{first-is}
+use Rattle.links.proofs.Firsts.{first-found, first-none}
 use Rattle.links.proofs.Rows.{blocks-inside, bad-at, next-start}
 use Rattle.links.proofs.blocks.first_bad.Statement.{statement}
 use Rattle.links.proofs.blocks.first_bad.Tie as tie
@@ -76,12 +76,7 @@ is-bad-requires c κs = search needs
 returns : tie.Need-returns Inv-loop μ-loop
 returns c =
     let l = c .before .before .before .before .before in
-    first-is (record {
-      from = zero-le;
-      to = l .before .loop .inv .0;
-      passed = λ k _ h. l .before .loop .inv .2 k h;
-      found = λ _. tested l true (sym (c .if1 .taken) ∙ c .before .is-bad .ensures);
-    })
+    first-found _ _ (at l) (l .loop-test .taken) (l .before .loop .inv .2) (tested l true (sym (c .if1 .taken) ∙ c .before .is-bad .ensures))
 
 add-i : tie.Need-add-i Inv-loop μ-loop
 add-i c = omega arith
@@ -95,14 +90,7 @@ loop-again c =
     (omega arith, next-start (freqs l) (firsts l) (ends l) (at l) (row l), below-more _ _ (l .before .loop .inv .2) (tested l false (sym (c .if1 .left) ∙ c .before .is-bad .ensures)))
 
 returns-2 : tie.Need-returns-2 Inv-loop μ-loop
-returns-2 c =
-    let l = c .before .loop in
-    first-is (record {
-      from = zero-le;
-      to = le-refl _;
-      passed = λ k _ h. l .inv .2 k (lt-of-lt-of-le h (c .loop-test .left));
-      found = λ h. absurd (not-le-of-lt h (le-refl _));
-    })
+returns-2 c = first-none _ _ (λ k h. c .before .loop .inv .2 k (lt-of-lt-of-le h (c .loop-test .left)))
 
 pub first-bad-spec : {M : Type 1} → statement M
 first-bad-spec =

@@ -1,0 +1,2 @@
+-- What the checks share
+pub mod Walk

@@ -1,0 +1,43 @@
+-- `segment_count` is the shortest column's length
+use mathlib.Core.Path.{_≡_, sym, ap, _∙_}
+use mathlib.Core.List.{List, [], _∷_}
+use Prim.Native.Nat.{ℕ, min}
+use lib.ListN.{length}
+use Rattle.links.specs.Table.{shortest}
+use Rattle.links.proofs.Tables.{table-length}
+use Rattle.jobs.specs.Rows.{segmentRow}
+use borrow.Author.Needs.{needs}
+use Rattle.jobs.proofs.rows.segment_count.Statement.{statement}
+use Rattle.jobs.proofs.rows.segment_count.Tie as tie
+
+shorter-requires : tie.Need-shorter-requires
+shorter-requires c κs = search needs
+
+shorter-requires-2 : tie.Need-shorter-requires-2
+shorter-requires-2 c κs = search needs
+
+shorter-requires-3 : tie.Need-shorter-requires-3
+shorter-requires-3 c κs = search needs
+
+shorter-requires-4 : tie.Need-shorter-requires-4
+shorter-requires-4 c κs = search needs
+
+shorter-requires-5 : tie.Need-shorter-requires-5
+shorter-requires-5 c κs = search needs
+
+returns : tie.Need-returns
+returns c =
+    let s = c .before .before .before .before .before .before .before .before .before .before .before in
+    c .shorter5 .ensures ∙ ap (min (length (s .args .start .now))) (c .before .shorter4 .ensures ∙ ap (min (length (s .args .end .now))) (c .before .before .shorter3 .ensures ∙ ap (min (length (s .args .value .now))) (c .before .before .before .shorter2 .ensures ∙ ap (min (length (s .args .first-use .now))) (c .before .before .before .before .shorter .ensures))))
+    ∙ sym (table-length (segmentRow (s .args .start .now) (s .args .end .now) (s .args .value .now) (s .args .first-use .now) (s .args .end-use .now) (s .args .flags .now)) (shortest (length (s .args .start .now) ∷ length (s .args .end .now) ∷ length (s .args .value .now) ∷ length (s .args .first-use .now) ∷ length (s .args .end-use .now) ∷ length (s .args .flags .now) ∷ [])))
+
+pub segment-count-spec : {M : Type 1} → statement M
+segment-count-spec =
+    tie.close
+    (tie.spec
+    shorter-requires
+    shorter-requires-2
+    shorter-requires-3
+    shorter-requires-4
+    shorter-requires-5
+    returns)

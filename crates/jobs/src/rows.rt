@@ -1,0 +1,120 @@
+// The rows of a job's tables. A table is lent as one slice a column, and has as many rows as its shortest column.
+ghost use mathlib.Core.Path.{_≡_};
+ghost use Prim.Native.Nat.{_<_, min};
+ghost use lib.ListN.{length, getD};
+ghost use Rattle.jobs.specs.Rows.{segmentsOf, segmentRow, usesOf, useRow, fixedUsesOf, fixedUseRow, liveOut, fixedDef};
+
+// A segment of the virtual register: points from start to end, its value, its uses from first to before end, and flags: 1
+// live-in, 2 live-out, 4 fixed hint, 8 fixed def.
+pub struct Segment {
+    pub start: u32,
+    pub end: u32,
+    pub value: u32,
+    pub first_use: u32,
+    pub end_use: u32,
+    pub flags: u32,
+}
+
+// A use at an instruction.
+pub struct Use {
+    pub position: u32,
+    pub kind: u32,
+    pub cost: u32,
+}
+
+// A reservation of a unit.
+pub struct Reservation {
+    pub unit: u32,
+    pub start: u32,
+    pub end: u32,
+    pub kind: u32,
+    pub index: u32,
+    pub fixed: u32,
+}
+
+// A fixed use of a unit.
+pub struct FixedUse {
+    pub unit: u32,
+    pub point: u32,
+    pub value: u32,
+}
+
+// What rows are held to: how many values, uses and spill weights there are, how many units, and the point at the last block's end.
+pub struct Limits {
+    pub values: usize,
+    pub uses: usize,
+    pub weights: usize,
+    pub units: u32,
+    pub end: u32,
+}
+
+pub fn shorter(a: usize, b: usize) -> usize
+    ensures { λ r. ⌜ r ≡ min a b ⌝ }
+{
+    if a < b { a } else { b }
+}
+
+// A number of a column.
+pub fn cell(col: &[u32], i: usize) -> u32
+    requires { ⌜ i < length (now col) ⌝ }
+    ensures { λ r. ⌜ r ≡ getD (now (col .entry)) i 0 ⌝ }
+{
+    col[i]
+}
+
+// How many segments there are.
+pub fn segment_count(
+    start: &[u32],
+    end: &[u32],
+    value: &[u32],
+    first_use: &[u32],
+    end_use: &[u32],
+    flags: &[u32],
+) -> usize
+    ensures { λ r. ⌜ r ≡ length (segmentsOf (now (start .entry)) (now (end .entry)) (now (value .entry)) (now («first_use» .entry)) (now («end_use» .entry)) (now (flags .entry))) ⌝ }
+{
+    let e = shorter(end_use.len(), flags.len());
+    let d = shorter(first_use.len(), e);
+    let c = shorter(value.len(), d);
+    let b = shorter(end.len(), c);
+    shorter(start.len(), b)
+}
+
+// Segment i.
+pub fn segment_at(
+    start: &[u32],
+    end: &[u32],
+    value: &[u32],
+    first_use: &[u32],
+    end_use: &[u32],
+    flags: &[u32],
+    i: usize,
+) -> Segment
+    requires { ⌜ i < length (segmentsOf (now start) (now end) (now value) (now «first_use») (now «end_use») (now flags)) ⌝ }
+    ensures { λ r. ⌜ r ≡ segmentRow (now (start .entry)) (now (end .entry)) (now (value .entry)) (now («first_use» .entry)) (now («end_use» .entry)) (now (flags .entry)) i ⌝ }
+{
+    Segment {
+        start: cell(start, i),
+        end: cell(end, i),
+        value: cell(value, i),
+        first_use: cell(first_use, i),
+        end_use: cell(end_use, i),
+        flags: cell(flags, i),
+    }
+}
+
+impl Segment {
+    // The value leaves the segment alive.
+    pub fn has_liveout(self) -> bool
+        ensures { λ r. ⌜ r ≡ liveOut (self .flags) ⌝ }
+    {
+        self.flags / 2 % 2 == 1
+    }
+
+    // The segment's first use is a fixed def before its start.
+    pub fn has_fixeddef(self) -> bool
+        ensures { λ r. ⌜ r ≡ fixedDef (self .flags) ⌝ }
+    {
+        self.flags / 8 % 2 == 1
+    }
+}
