@@ -9,7 +9,7 @@ use lib.Dec.{leb, ltb}
 use lib.ListN.{length, getD, take}
 use lib.Seq.{length-take-le}
 use borrow.Author.Tests.{le-leb, lt-leb, lt-ltb, le-ltb}
-use Rattle.links.specs.Blocks.{Block, blocksOf, blockAt, startOf, checkOf, SoundBlocks}
+use Rattle.links.specs.Blocks.{BlockRow, blocksOf, blockAt, startOf, checkOf, SoundBlocks}
 use Rattle.links.specs.Split.{ifSound, sideOf, splitPoint, answerOf, Between}
 use Rattle.links.specs.declared.blocks.Refusal.{Refusal}
 use Rattle.links.specs.declared.blocks.Checked.{Checked}
@@ -20,7 +20,7 @@ use Rattle.links.proofs.Rows.{blocks-at, blocks-inside}
 use Rattle.links.proofs.Columns.{part-list, last-end}
 
 -- ---- the four cases
-module _ (blocks : List Block) (after before : ℕ) (early : Bool) where
+module _ (blocks : List BlockRow) (after before : ℕ) (early : Bool) where
   -- what a sound list is answered
   abbrev checked : SplitPoint
   checked =
@@ -52,7 +52,7 @@ module _ (blocks : List Block) (after before : ℕ) (early : Bool) where
 
 -- ---- the first n rows of the columns, n being the list's length
 module _ (fs ss es : List ℕ) (n : ℕ) (counted : n ≡ length (blocksOf fs ss es)) where
-  abbrev blocks : List Block
+  abbrev blocks : List BlockRow
   blocks = blocksOf fs ss es
 
   pub in-freqs : n ≤ length fs
@@ -72,7 +72,7 @@ module _ (fs ss es : List ℕ) (n : ℕ) (counted : n ≡ length (blocksOf fs ss
 
   pub last-column : 0 < length blocks → getD es (n - 1) 0 ≡ startOf blocks (length blocks)
   last-column h =
-      ap (λ (b : Block). b .end) (sym (blocks-at fs ss es (n - 1) (less (length blocks) h counted)))
+      ap (λ (b : BlockRow). b .end) (sym (blocks-at fs ss es (n - 1) (less (length blocks) h counted)))
       ∙ ap (λ (m : ℕ). blockAt blocks (m - 1) .end) counted ∙ sym (last-end blocks h)
 
   pub parts-between : (after before : ℕ) → SoundBlocks blocks → after < before → before ≤ startOf blocks (length blocks) → Between (take n fs) (take n ss) (take n es) after before
@@ -82,5 +82,5 @@ module _ (fs ss es : List ℕ) (n : ℕ) (counted : n ≡ length (blocksOf fs ss
         ends-long = length-take-le n es in-ends ∙ sym (length-take-le n fs in-freqs);
         sound = subst SoundBlocks (sym same-list) sound;
         order = h;
-        inside = subst (λ (bs : List Block). before ≤ startOf bs (length bs)) (sym same-list) l;
+        inside = subst (λ (bs : List BlockRow). before ≤ startOf bs (length bs)) (sym same-list) l;
       }

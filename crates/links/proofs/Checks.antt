@@ -10,29 +10,29 @@ use lib.Dec.{ltb, eqb}
 use lib.ListN.{length}
 use borrow.Author.Tests.{lt-ltb, le-ltb, ltb-true, ltb-false, eqb-true, eqb-false, ne-eqb}
 use Rattle.links.specs.First.{firstBelow, FirstIn}
-use Rattle.links.specs.Blocks.{Block, badBlock, itemLimit, refusal, checkOf, SoundBlocks}
+use Rattle.links.specs.Blocks.{BlockRow, badBlock, itemLimit, refusal, checkOf, SoundBlocks}
 use Rattle.links.specs.declared.blocks.Refusal.{Refusal}
 use Rattle.links.specs.declared.blocks.Checked.{Checked}
 use Rattle.links.specs.declared.blocks.Checked.the-variants.{Sound, Refused}
 use Rattle.links.proofs.Firsts.{split, first-in, first-is}
 
 -- line 2: no block, or more than 4,096
-abbrev pub Broken2 : List Block → Type 0
+abbrev pub Broken2 : List BlockRow → Type 0
 Broken2 blocks = (length blocks ≡ 0) ⊎ (itemLimit < length blocks)
 
 -- line 3 is broken at block p and at none before it
-pub record Broken3 (blocks : List Block) (p : ℕ) : Type 0 where
+pub record Broken3 (blocks : List BlockRow) (p : ℕ) : Type 0 where
   pub inside : p < length blocks
   pub bad : badBlock blocks p ≡ true
   pub first : (k : ℕ) → k < p → badBlock blocks k ≡ false
 
 -- a block list breaks line 2, or only line 3, or neither
-pub data Verdict (blocks : List Block) : Checked → Type 0 where
+pub data Verdict (blocks : List BlockRow) : Checked → Type 0 where
   two : Broken2 blocks → Verdict blocks (refusal 2 0)
   three : (p : ℕ) → (Broken2 blocks → ⊥) → Broken3 blocks p → Verdict blocks (refusal 3 p)
   neither : SoundBlocks blocks → Verdict blocks Sound
 
-module _ (blocks : List Block) where
+module _ (blocks : List BlockRow) where
   bad : ℕ
   bad = firstBelow (badBlock blocks) (length blocks)
 
@@ -72,15 +72,15 @@ module _ (blocks : List Block) where
           })
 
 -- the check's answer is the verdict
-pub check-verdict : (blocks : List Block) → Verdict blocks (checkOf blocks)
+pub check-verdict : (blocks : List BlockRow) → Verdict blocks (checkOf blocks)
 unfolding checkOf bad
 check-verdict blocks = counted blocks (eqb (length blocks) 0 || ltb itemLimit (length blocks)) refl
 
 -- a block list has one verdict
-not-both-3 : (blocks : List Block) (p q : ℕ) → Broken3 blocks p → Broken3 blocks q → p < q → ⊥
+not-both-3 : (blocks : List BlockRow) (p q : ℕ) → Broken3 blocks p → Broken3 blocks q → p < q → ⊥
 not-both-3 blocks p q a b l = true≢false (sym (a .bad) ∙ b .first p l)
 
-same-place : (blocks : List Block) (p q : ℕ) → Broken3 blocks p → Broken3 blocks q → p ≡ q
+same-place : (blocks : List BlockRow) (p q : ℕ) → Broken3 blocks p → Broken3 blocks q → p ≡ q
 same-place blocks p q a b =
     elim (split p q) [
       | inl l ↦ absurd (not-both-3 blocks p q a b l)
@@ -90,7 +90,7 @@ same-place blocks p q a b =
     both : (a b : ℕ) → b ≤ a → a ≤ b → a ≡ b
     both a b p q = omega arith
 
-sound-not-2 : (blocks : List Block) → SoundBlocks blocks → Broken2 blocks → ⊥
+sound-not-2 : (blocks : List BlockRow) → SoundBlocks blocks → Broken2 blocks → ⊥
 sound-not-2 blocks s w = elim w [ inl z ↦ clash (length blocks) z (s .some) | inr l ↦ over (length blocks) l (s .few) ]
   where
     clash : (n : ℕ) → n ≡ 0 → 0 < n → ⊥
@@ -99,10 +99,10 @@ sound-not-2 blocks s w = elim w [ inl z ↦ clash (length blocks) z (s .some) | 
     over : (n : ℕ) → itemLimit < n → n ≤ itemLimit → ⊥
     over n p q = omega arith
 
-sound-not-3 : (blocks : List Block) (p : ℕ) → SoundBlocks blocks → Broken3 blocks p → ⊥
+sound-not-3 : (blocks : List BlockRow) (p : ℕ) → SoundBlocks blocks → Broken3 blocks p → ⊥
 sound-not-3 blocks p s b = true≢false (sym (b .bad) ∙ s .each p (b .inside))
 
-pub verdict-only : (blocks : List Block) (x y : Checked) → Verdict blocks x → Verdict blocks y → x ≡ y
+pub verdict-only : (blocks : List BlockRow) (x y : Checked) → Verdict blocks x → Verdict blocks y → x ≡ y
 verdict-only blocks x y (two a) (two b) = refl
 verdict-only blocks x y (two a) (three q n b) = absurd (n a)
 verdict-only blocks x y (two a) (neither b) = absurd (sound-not-2 blocks b a)
@@ -114,17 +114,17 @@ verdict-only blocks x y (neither a) (three q n b) = absurd (sound-not-3 blocks q
 verdict-only blocks x y (neither a) (neither b) = refl
 
 -- so a broken line is answered, and an answer names the broken line
-pub verdict-answered : (blocks : List Block) (x : Checked) → Verdict blocks x → checkOf blocks ≡ x
+pub verdict-answered : (blocks : List BlockRow) (x : Checked) → Verdict blocks x → checkOf blocks ≡ x
 verdict-answered blocks x v = verdict-only blocks (checkOf blocks) x (check-verdict blocks) v
 
-pub answer-verdict : (blocks : List Block) (x : Checked) → checkOf blocks ≡ x → Verdict blocks x
+pub answer-verdict : (blocks : List BlockRow) (x : Checked) → checkOf blocks ≡ x → Verdict blocks x
 answer-verdict blocks x e = subst (Verdict blocks) e (check-verdict blocks)
 
 -- accepted exactly if no line is broken
 not-sound : (r : Refusal) → Refused r ≡ Sound → ⊥
 not-sound r e = let z : _≡_ {A = ℕ} 0 1 = cc in omega arith
 
-pub check-sound : (blocks : List Block) → checkOf blocks ≡ Sound → SoundBlocks blocks
+pub check-sound : (blocks : List BlockRow) → checkOf blocks ≡ Sound → SoundBlocks blocks
 check-sound blocks e = only Sound (answer-verdict blocks Sound e) refl
   where
     only : (x : Checked) → Verdict blocks x → x ≡ Sound → SoundBlocks blocks
@@ -132,11 +132,11 @@ check-sound blocks e = only Sound (answer-verdict blocks Sound e) refl
     only x (three p n a) e = absurd (not-sound _ e)
     only x (neither s) e = s
 
-pub sound-check : (blocks : List Block) → SoundBlocks blocks → checkOf blocks ≡ Sound
+pub sound-check : (blocks : List BlockRow) → SoundBlocks blocks → checkOf blocks ≡ Sound
 sound-check blocks s = verdict-answered blocks Sound (neither s)
 
 -- ---- what the code finds: n blocks, and the first bad one
-module _ (blocks : List Block) (n bad : ℕ) (counted : n ≡ length blocks) (found : bad ≡ firstBelow (badBlock blocks) n) (some : n ≡ 0 → ⊥) (few : n ≤ itemLimit) where
+module _ (blocks : List BlockRow) (n bad : ℕ) (counted : n ≡ length blocks) (found : bad ≡ firstBelow (badBlock blocks) n) (some : n ≡ 0 → ⊥) (few : n ≤ itemLimit) where
   is-first : FirstIn (badBlock blocks) 0 n bad
   is-first = subst (FirstIn (badBlock blocks) 0 n) (sym found) (first-in (badBlock blocks) n)
 

@@ -14,7 +14,7 @@ use Rattle.numbers.specs.Weight.{frequencyLimit}
 use Rattle.numbers.proofs.Tests.{cond-true, cond-false}
 use Rattle.links.specs.First.{firstBelow, Searchable}
 use Rattle.links.specs.Table.{table}
-use Rattle.links.specs.Blocks.{Block, noBlock, blocksOf, blockAt, startOf, itemLimit, endLimit, SoundBlocks, blockOf, Ends}
+use Rattle.links.specs.Blocks.{BlockRow, noBlock, blocksOf, blockAt, startOf, itemLimit, endLimit, SoundBlocks, blockOf, Ends}
 use Rattle.links.specs.Links.{Frequencies}
 use Rattle.links.specs.Split.{follow, lastOr, edge, preferred, home, farthest, reaches, splitPoint, Swept, lastReached, Between}
 use Rattle.links.specs.declared.lower.Side.{Side}
@@ -30,9 +30,9 @@ list-long fs ss es p q = blocks-length fs ss es ∙ all (length fs) (length ss) 
     all : (a b c : ℕ) → b ≡ a → c ≡ a → min a (min b c) ≡ a
     all a b c p q = omega arith
 
-pub frequency-column : (fs ss es : List ℕ) → length ss ≡ length fs → length es ≡ length fs → map (λ (b : Block). b .frequency) (blocksOf fs ss es) ≡ fs
+pub frequency-column : (fs ss es : List ℕ) → length ss ≡ length fs → length es ≡ length fs → map (λ (b : BlockRow). b .frequency) (blocksOf fs ss es) ≡ fs
 frequency-column fs ss es p q =
-    table-map (λ (b : Block). b .frequency) (rowOf fs ss es) (min (length fs) (min (length ss) (length es)))
+    table-map (λ (b : BlockRow). b .frequency) (rowOf fs ss es) (min (length fs) (min (length ss) (length es)))
     ∙ ap (table (λ (i : ℕ). getD fs i 0)) (sym (blocks-length fs ss es) ∙ list-long fs ss es p q) ∙ table-of fs 0
 
 -- a row, also past the end: there each column and the list give zero
@@ -63,7 +63,7 @@ part-list fs ss es n e =
     all a b c p q r = omega arith
 
 -- ---- the last end
-pub last-end : (blocks : List Block) → 0 < length blocks → startOf blocks (length blocks) ≡ blockAt blocks (length blocks - 1) .end
+pub last-end : (blocks : List BlockRow) → 0 < length blocks → startOf blocks (length blocks) ≡ blockAt blocks (length blocks - 1) .end
 last-end blocks h = go (length blocks) h
   where
     go : (n : ℕ) → 0 < n → startOf blocks n ≡ blockAt blocks (n - 1) .end
@@ -80,17 +80,17 @@ edgesOf Previous ss es = es
 edgesOf Next ss es = ss
 
 module _ (fs ss es : List ℕ) (after before : ℕ) (w : Between fs ss es after before) where
-  abbrev blocks : List Block
+  abbrev blocks : List BlockRow
   blocks = blocksOf fs ss es
 
   n-is : length blocks ≡ length fs
   n-is = list-long fs ss es (w .firsts-long) (w .ends-long)
 
   end-at : (c : ℕ) → blockAt blocks c .end ≡ getD es c 0
-  end-at c = ap (λ (b : Block). b .end) (row-at fs ss es (w .firsts-long) (w .ends-long) c)
+  end-at c = ap (λ (b : BlockRow). b .end) (row-at fs ss es (w .firsts-long) (w .ends-long) c)
 
   first-at : (c : ℕ) → blockAt blocks c .first ≡ getD ss c 0
-  first-at c = ap (λ (b : Block). b .first) (row-at fs ss es (w .firsts-long) (w .ends-long) c)
+  first-at c = ap (λ (b : BlockRow). b .first) (row-at fs ss es (w .firsts-long) (w .ends-long) c)
 
   some : 0 < length fs
   some = lt-of-lt-of-le (w .sound .some) (le-of-eq n-is)
@@ -124,7 +124,7 @@ module _ (fs ss es : List ℕ) (after before : ℕ) (w : Between fs ss es after 
       record {
         few = le-trans (le-of-eq (sym n-is)) (w .sound .few);
         long = h;
-        sound = λ k l. le-trans (le-of-eq (sym (ap (λ (b : Block). b .frequency) (row-at fs ss es (w .firsts-long) (w .ends-long) k)))) (row-good blocks (w .sound) k (inside-list l) .weighted);
+        sound = λ k l. le-trans (le-of-eq (sym (ap (λ (b : BlockRow). b .frequency) (row-at fs ss es (w .firsts-long) (w .ends-long) k)))) (row-good blocks (w .sound) k (inside-list l) .weighted);
       }
 
   -- the block of an instruction below `before`
@@ -163,12 +163,12 @@ module _ (fs ss es : List ℕ) (after before : ℕ) (w : Between fs ss es after 
   unfolding splitPoint
   split-columns side apart b e =
       sym (cond-false before _ (ne-eqb (after + 1) before apart)
-      ∙ ap (λ (place : ℕ → ℕ). lastOr (preferred side after before) (map place (follow side (map (λ (x : Block). x .frequency) blocks) (λ (c : ℕ). reaches side (farthest side after before) (place c)) (length blocks) (blockOf blocks (home side after before))))) (edge-at side)
+      ∙ ap (λ (place : ℕ → ℕ). lastOr (preferred side after before) (map place (follow side (map (λ (x : BlockRow). x .frequency) blocks) (λ (c : ℕ). reaches side (farthest side after before) (place c)) (length blocks) (blockOf blocks (home side after before))))) (edge-at side)
       ∙ ap (λ (freqs : List ℕ). lastOr (preferred side after before) (map (λ (c : ℕ). getD (edgesOf side ss es) c 0) (follow side freqs (λ (c : ℕ). reaches side (farthest side after before) (getD (edgesOf side ss es) c 0)) (length blocks) (blockOf blocks (home side after before))))) (frequency-column fs ss es (w .firsts-long) (w .ends-long))
       ∙ ap (λ (n : ℕ). lastOr (preferred side after before) (map (λ (c : ℕ). getD (edgesOf side ss es) c 0) (follow side fs (λ (c : ℕ). reaches side (farthest side after before) (getD (edgesOf side ss es) c 0)) n (blockOf blocks (home side after before))))) n-is
       ∙ ap (λ (x : ℕ). lastReached side fs (edgesOf side ss es) (farthest side after before) (preferred side after before) x) (sym e))
 
 -- between neighbours there is one point
-pub split-neighbours : (side : Side) (blocks : List Block) (after before : ℕ) → after + 1 ≡ before → before ≡ splitPoint side blocks after before
+pub split-neighbours : (side : Side) (blocks : List BlockRow) (after before : ℕ) → after + 1 ≡ before → before ≡ splitPoint side blocks after before
 unfolding splitPoint
 split-neighbours side blocks after before e = sym (cond-true before _ (eq-eqb (after + 1) before e))

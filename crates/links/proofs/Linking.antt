@@ -56,18 +56,18 @@ nearer Previous n b t s h l p = omega arith
 nearer Next n b t s h l p = omega arith
 
 -- ---- frequencies in order
-height : List ℕ → ℕ → ℕ
-height f k = unitsOf (valueOf frequencyLimit (getD f k 0))
+frequencyUnits : List ℕ → ℕ → ℕ
+frequencyUnits f k = unitsOf (valueOf frequencyLimit (getD f k 0))
 
-lower-is : (f : List ℕ) (b k : ℕ) → isLower f b k ≡ ltb (height f k) (height f b)
-unfolding isLower height
+lower-is : (f : List ℕ) (b k : ℕ) → isLower f b k ≡ ltb (frequencyUnits f k) (frequencyUnits f b)
+unfolding isLower frequencyUnits
 lower-is f b k = units-order (finite (value-finite frequencyLimit (getD f k 0) (lit≤ tt))) (finite (value-finite frequencyLimit (getD f b 0) (lit≤ tt)))
 
-not-lower : (f : List ℕ) (b k : ℕ) → isLower f b k ≡ false → height f b ≤ height f k
-not-lower f b k e = ltb-false (height f k) (height f b) (sym (lower-is f b k) ∙ e)
+not-lower : (f : List ℕ) (b k : ℕ) → isLower f b k ≡ false → frequencyUnits f b ≤ frequencyUnits f k
+not-lower f b k e = ltb-false (frequencyUnits f k) (frequencyUnits f b) (sym (lower-is f b k) ∙ e)
 
-is-not-lower : (f : List ℕ) (b k : ℕ) → height f b ≤ height f k → isLower f b k ≡ false
-is-not-lower f b k h = lower-is f b k ∙ le-ltb (height f k) (height f b) h
+is-not-lower : (f : List ℕ) (b k : ℕ) → frequencyUnits f b ≤ frequencyUnits f k → isLower f b k ≡ false
+is-not-lower f b k h = lower-is f b k ∙ le-ltb (frequencyUnits f k) (frequencyUnits f b) h
 
 -- what is not lower than a block that is not lower is not lower
 pub lower-through : (f : List ℕ) (b j k : ℕ) → isLower f b j ≡ false → isLower f j k ≡ false → isLower f b k ≡ false
@@ -76,7 +76,7 @@ lower-through f b j k p q = is-not-lower f b k (le-trans (not-lower f b j p) (no
 -- what is not lower than a block is not lower than a lower one
 pub lower-less : (f : List ℕ) (b j k : ℕ) → isLower f b j ≡ true → isLower f b k ≡ false → isLower f j k ≡ false
 lower-less f b j k p q =
-    let l : height f j < height f b = ltb-true (height f j) (height f b) (sym (lower-is f b j) ∙ p) in
+    let l : frequencyUnits f j < frequencyUnits f b = ltb-true (frequencyUnits f j) (frequencyUnits f b) (sym (lower-is f b j) ∙ p) in
     let m = not-lower f b k q in
     is-not-lower f j k (omega arith)
 

@@ -12,13 +12,13 @@ use lib.ListN.{length, getD, take}
 use borrow.Author.Tests.{ltb-false, leb-false, eqb-true, not-false, lt-ltb, le-ltb, le-leb, lt-leb}
 use Rattle.numbers.specs.Weight.{frequencyLimit}
 use Rattle.links.specs.First.{firstBelow, FirstIn, Searchable}
-use Rattle.links.specs.Blocks.{Block, noBlock, blocksOf, blockAt, startOf, endLimit, isBad, badBlock, SoundBlocks, holds, blockOf}
+use Rattle.links.specs.Blocks.{BlockRow, noBlock, blocksOf, blockAt, startOf, endLimit, isBad, badBlock, SoundBlocks, holds, blockOf}
 use Rattle.links.proofs.Firsts.{split, first-in, first-is}
 use Rattle.links.proofs.Tables.{table-length, table-at}
 
 -- ---- rows from columns
 -- a row of the columns
-abbrev pub rowOf : List ℕ → List ℕ → List ℕ → ℕ → Block
+abbrev pub rowOf : List ℕ → List ℕ → List ℕ → ℕ → BlockRow
 rowOf fs ss es i = record { frequency = getD fs i 0; first = getD ss i 0; end = getD es i 0 }
 
 pub blocks-length : (fs ss es : List ℕ) → length (blocksOf fs ss es) ≡ min (length fs) (min (length ss) (length es))
@@ -35,7 +35,7 @@ bad-at fs ss es i start h e =
     ap (λ (s : ℕ). isBad s (record { frequency = getD fs i 0; first = getD ss i 0; end = getD es i 0 })) e ∙ ap (isBad (startOf (blocksOf fs ss es) i)) (sym (blocks-at fs ss es i h))
 
 pub next-start : (fs ss es : List ℕ) (i : ℕ) → i < length (blocksOf fs ss es) → getD es i 0 ≡ startOf (blocksOf fs ss es) (i + 1)
-next-start fs ss es i h = ap (λ (b : Block). b .end) (sym (blocks-at fs ss es i h)) ∙ ap (startOf (blocksOf fs ss es)) (sym (add-one i))
+next-start fs ss es i h = ap (λ (b : BlockRow). b .end) (sym (blocks-at fs ss es i h)) ∙ ap (startOf (blocksOf fs ss es)) (sym (add-one i))
 
 -- a list's row numbers are inside each column
 pub record Inside (n a b c : ℕ) : Type 0 where
@@ -51,13 +51,13 @@ or-false : (a b : Bool) → (a || b) ≡ false → (a ≡ false) × (b ≡ false
 or-false true b e = (e, absurd (mathlib.Core.Bool.true≢false e))
 or-false false b e = (refl, e)
 
-pub record Good (start : ℕ) (b : Block) : Type 0 where
+pub record Good (start : ℕ) (b : BlockRow) : Type 0 where
   pub starts : b .first ≡ start
   pub nonempty : b .first < b .end
   pub limited : b .end ≤ endLimit
   pub weighted : b .frequency ≤ frequencyLimit
 
-pub good-of : (start : ℕ) (b : Block) → isBad start b ≡ false → Good start b
+pub good-of : (start : ℕ) (b : BlockRow) → isBad start b ≡ false → Good start b
 unfolding isBad
 good-of start b e =
     let p = or-false (not (eqb (b .first) start) || leb (b .end) (b .first) || ltb endLimit (b .end)) (ltb frequencyLimit (b .frequency)) e in
@@ -71,7 +71,7 @@ good-of start b e =
     }
 
 -- ---- a sound list
-module _ (blocks : List Block) (sound : SoundBlocks blocks) where
+module _ (blocks : List BlockRow) (sound : SoundBlocks blocks) where
   pub row-good : (i : ℕ) → i < length blocks → Good (startOf blocks i) (blockAt blocks i)
   row-good i h = good-of (startOf blocks i) (blockAt blocks i) (sound .each i h)
 

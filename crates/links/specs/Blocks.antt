@@ -13,27 +13,27 @@ use Rattle.links.specs.declared.blocks.Checked.{Checked}
 use Rattle.links.specs.declared.blocks.Checked.the-variants.{Sound, Refused}
 
 -- a block: frequency bits, first instruction, the instruction after its last
-pub record Block : Type 0 where
+pub record BlockRow : Type 0 where
   pub frequency : ℕ
   pub first : ℕ
   pub end : ℕ
 
 -- no block
-abbrev pub noBlock : Block
+abbrev pub noBlock : BlockRow
 noBlock = record { frequency = 0; first = 0; end = 0 }
 
 -- the block list that three lent columns hold
-abbrev pub blocksOf : List ℕ → List ℕ → List ℕ → List Block
+abbrev pub blocksOf : List ℕ → List ℕ → List ℕ → List BlockRow
 blocksOf freqs firsts ends =
     table (λ (i : ℕ). record { frequency = getD freqs i 0; first = getD firsts i 0; end = getD ends i 0 })
     (shortest (length freqs ∷ length firsts ∷ length ends ∷ []))
 
 -- block i
-abbrev pub blockAt : List Block → ℕ → Block
+abbrev pub blockAt : List BlockRow → ℕ → BlockRow
 blockAt blocks i = getD blocks i noBlock
 
 -- where block i has to start: at instruction 0, or where the block before it ends
-abbrev pub startOf : List Block → ℕ → ℕ
+abbrev pub startOf : List BlockRow → ℕ → ℕ
 startOf blocks zero = 0
 startOf blocks (suc i) = blockAt blocks i .end
 
@@ -45,11 +45,11 @@ abbrev pub endLimit : ℕ
 endLimit = 262144
 
 -- a block that has to start at a place breaks line 3: it leaves a hole or overlaps, is empty, ends above the limit or has bad frequency bits
-unfoldable pub isBad : ℕ → Block → Bool
+unfoldable pub isBad : ℕ → BlockRow → Bool
 isBad start b = not (eqb (b .first) start) || leb (b .end) (b .first) || ltb endLimit (b .end) || ltb frequencyLimit (b .frequency)
 
 -- block i breaks line 3
-abbrev pub badBlock : List Block → ℕ → Bool
+abbrev pub badBlock : List BlockRow → ℕ → Bool
 badBlock blocks i = isBad (startOf blocks i) (blockAt blocks i)
 
 -- a refusal of document 01's table
@@ -57,24 +57,24 @@ abbrev pub refusal : ℕ → ℕ → Checked
 refusal number place = Refused (record { number = number; place = place })
 
 -- the block list's part of line 2, then line 3 at its first bad block
-unfoldable pub checkOf : List Block → Checked
+unfoldable pub checkOf : List BlockRow → Checked
 checkOf blocks =
     let n = length blocks in
     let bad = firstBelow (badBlock blocks) n in
     cond (eqb n 0 || ltb itemLimit n) (refusal 2 0) (cond (ltb bad n) (refusal 3 bad) Sound)
 
 -- a sound block list breaks neither line
-pub record SoundBlocks (blocks : List Block) : Type 0 where
+pub record SoundBlocks (blocks : List BlockRow) : Type 0 where
   pub some : 0 < length blocks
   pub few : length blocks ≤ itemLimit
   pub each : (i : ℕ) → i < length blocks → badBlock blocks i ≡ false
 
 -- block i's range holds an instruction
-abbrev pub holds : List Block → ℕ → ℕ → Bool
+abbrev pub holds : List BlockRow → ℕ → ℕ → Bool
 holds blocks inst i = leb (blockAt blocks i .first) inst && ltb inst (blockAt blocks i .end)
 
 -- the block of an instruction: the one whose range holds it
-unfoldable pub blockOf : List Block → ℕ → ℕ
+unfoldable pub blockOf : List BlockRow → ℕ → ℕ
 blockOf blocks inst = firstBelow (holds blocks inst) (length blocks)
 
 -- what a search for an instruction's block relies on: ends that do not fall, the instruction before the last of them

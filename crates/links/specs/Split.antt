@@ -6,7 +6,7 @@ use mathlib.Core.Path.{_≡_}
 use lib.Dec.{leb, ltb, eqb}
 use lib.ListN.{length, getD}
 use Rattle.numbers.specs.declared.Inst.{Inst}
-use Rattle.links.specs.Blocks.{Block, blocksOf, blockAt, startOf, blockOf, checkOf, SoundBlocks}
+use Rattle.links.specs.Blocks.{BlockRow, blocksOf, blockAt, startOf, blockOf, checkOf, SoundBlocks}
 use Rattle.links.specs.Links.{lowerLink, Frequencies}
 use Rattle.links.specs.declared.lower.Side.{Side}
 use Rattle.links.specs.declared.lower.Side.the-variants.{Previous, Next}
@@ -16,13 +16,13 @@ use Rattle.links.specs.declared.blocks.Checked.the-variants as Checked·
 use Rattle.links.specs.declared.split.SplitPoint.{SplitPoint}
 use Rattle.links.specs.declared.split.SplitPoint.the-variants as SplitPoint·is
 
--- the blocks reached from block b by following lower links, as long as they are within; a block with no lower link ends the chain
+-- the blocks reached from block b by following lower links, as long as they are allowed; a block with no lower link ends the chain
 unfoldable pub follow : Side → List ℕ → (ℕ → Bool) → ℕ → ℕ → List ℕ
-follow side freqs within zero b = []
-follow side freqs within (suc n) b =
+follow side freqs allowed zero b = []
+follow side freqs allowed (suc n) b =
     let c = lowerLink side freqs b in
-    let rest = c ∷ follow side freqs within n c in
-    cond (ltb c (length freqs) && within c) rest []
+    let rest = c ∷ follow side freqs allowed n c in
+    cond (ltb c (length freqs) && allowed c) rest []
 
 -- the last of a list, or what stands before it
 abbrev pub lastOr : ℕ → List ℕ → ℕ
@@ -30,7 +30,7 @@ lastOr x [] = x
 lastOr x (y ∷ ys) = lastOr y ys
 
 -- a block's split point: late, its end; early, its start
-abbrev pub edge : Side → Block → ℕ
+abbrev pub edge : Side → BlockRow → ℕ
 edge Previous b = b .end
 edge Next b = b .first
 
@@ -55,18 +55,18 @@ reaches Previous limit place = leb limit place
 reaches Next limit place = leb place limit
 
 -- a place that a search between after and before may take
-abbrev pub within : Side → List Block → ℕ → ℕ → ℕ → Bool
+abbrev pub within : Side → List BlockRow → ℕ → ℕ → ℕ → Bool
 within side blocks after before c = reaches side (farthest side after before) (edge side (blockAt blocks c))
 
 -- the lower-cost split point: that of the last block that lower links reach between after and before, or the preferred one; between neighbours there is one point only
-unfoldable pub splitPoint : Side → List Block → ℕ → ℕ → ℕ
+unfoldable pub splitPoint : Side → List BlockRow → ℕ → ℕ → ℕ
 splitPoint side blocks after before =
-    let freqs = map (λ (b : Block). b .frequency) blocks in
+    let freqs = map (λ (b : BlockRow). b .frequency) blocks in
     let reached = follow side freqs (within side blocks after before) (length blocks) (blockOf blocks (home side after before)) in
     let last = lastOr (preferred side after before) (map (λ (c : ℕ). edge side (blockAt blocks c)) reached) in
     cond (eqb (after + 1) before) before last
 
--- a refused block list is refused
+-- the check's refusal, or else the answer
 abbrev pub ifSound : Checked → SplitPoint → SplitPoint
 ifSound Checked·is.Sound answer = answer
 ifSound (Checked·is.Refused r) answer = SplitPoint·is.Refused r
@@ -77,7 +77,7 @@ sideOf true = Next
 sideOf false = Previous
 
 -- the answer to the call: refusals 2 and 3, then 13, then the split point
-unfoldable pub answerOf : List Block → ℕ → ℕ → Bool → SplitPoint
+unfoldable pub answerOf : List BlockRow → ℕ → ℕ → Bool → SplitPoint
 answerOf blocks after before early =
     ifSound (checkOf blocks)
     (cond (leb before after || ltb (startOf blocks (length blocks)) before) (SplitPoint·is.Refused (record { number = 13; place = 0 }))

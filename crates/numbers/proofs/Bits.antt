@@ -14,11 +14,11 @@ use lib.Ieee.Exact.{odd-sign}
 use lib.Ieee.Fits.{kept-lt}
 use lib.Ieee.Bits.{is-true, is-false, ofBits-fits, ofBits-toBits, toBits-ofBits, nanBits-is}
 use borrow.Author.Tests.{lt-leb, le-leb, eq-eqb}
-use Rattle.numbers.specs.Weight.{Finite, number, Weight, infinite, finite, beyond, unitsOf, none, weightLimit, frequencyLimit, valueFrom, valueOf, bitsFrom}
+use Rattle.numbers.specs.Weight.{Finite, number, Weight, infinite, finite, infiniteUnits, unitsOf, zeroWeight, weightLimit, frequencyLimit, valueFrom, valueOf, bitsFrom}
 use Rattle.numbers.specs.declared.weights.MaybeBits.the-variants.{At, Absent}
 use Rattle.numbers.specs.declared.weights.MaybeWeight.the-variants as MaybeWeight·is
 use Rattle.numbers.proofs.Tests.{cond-both, cond-true, cond-false, ltb-same}
-use Rattle.numbers.proofs.Units.{bitsOfUnits, bits-from-units, weight-fits, units-order, units-infinite, units-below, finite-of-units, none-finite}
+use Rattle.numbers.proofs.Units.{bitsOfUnits, bits-from-units, weight-fits, units-order, units-infinite, units-below, finite-of-units, zero-finite}
 use Rattle.numbers.proofs.Rounding.{plain, weight-of, odd-plain, value-units}
 
 -- ---- a weight by the fields of its bits: the exponent x and the digits t
@@ -166,7 +166,7 @@ most k q h g = omega arith
 spare : (z : ℕ) → z ≤ 277 → z - 24 ≤ 253
 spare z h = omega arith
 
-units-bits : (n : ℕ) → n < beyond → bitsOfUnits n ≤ weightLimit
+units-bits : (n : ℕ) → n < infiniteUnits → bitsOfUnits n ≤ weightLimit
 unfolding bitsOfUnits
 units-bits n h = most (size n - 24) (n / 2 ^ (size n - 24)) (spare (size n) (size-le n 277 h)) (kept-lt 24 n)
 
@@ -201,7 +201,7 @@ bits-from-beyond (fin false m e) f h = absurd (not-le-of-lt h (weight-bits (fini
 pub value-weight : (limit bits : ℕ) → limit ≤ weightLimit → Weight (valueOf limit bits)
 unfolding valueOf
 value-weight limit bits h =
-    cond-both Weight (leb bits limit) (ofBits binary32 bits) none (λ t. bits-weight bits (le-trans (leb→le bits limit t) h)) (λ _. finite none-finite)
+    cond-both Weight (leb bits limit) (ofBits binary32 bits) zeroWeight (λ t. bits-weight bits (le-trans (leb→le bits limit t) h)) (λ _. finite zero-finite)
 
 infinite-bits : ofBits binary32 weightLimit ≡ inf false
 unfolding ofBits
@@ -210,7 +210,7 @@ infinite-bits = refl
 pub value-finite : (limit bits : ℕ) → limit ≤ frequencyLimit → Finite (valueOf limit bits)
 unfolding valueOf
 value-finite limit bits h =
-    cond-both Finite (leb bits limit) (ofBits binary32 bits) none (λ t. below bits (le-trans (leb→le bits limit t) h)) (λ _. none-finite)
+    cond-both Finite (leb bits limit) (ofBits binary32 bits) zeroWeight (λ t. below bits (le-trans (leb→le bits limit t) h)) (λ _. zero-finite)
   where
     below : (b : ℕ) → b ≤ frequencyLimit → Finite (ofBits binary32 b)
     below b g =
@@ -219,11 +219,11 @@ value-finite limit bits h =
 
 pub value-is : (limit bits : ℕ) → bits ≤ limit → valueOf limit bits ≡ ofBits binary32 bits
 unfolding valueOf
-value-is limit bits h = cond-true (ofBits binary32 bits) none (le-leb bits limit h)
+value-is limit bits h = cond-true (ofBits binary32 bits) zeroWeight (le-leb bits limit h)
 
-pub value-beyond : (limit bits : ℕ) → limit < bits → valueOf limit bits ≡ none
+pub value-beyond : (limit bits : ℕ) → limit < bits → valueOf limit bits ≡ zeroWeight
 unfolding valueOf
-value-beyond limit bits h = cond-false (ofBits binary32 bits) none (lt-leb bits limit h)
+value-beyond limit bits h = cond-false (ofBits binary32 bits) zeroWeight (lt-leb bits limit h)
 
 -- values within a limit are in the order of their bits
 pub value-order : (limit a b : ℕ) → limit ≤ weightLimit → a ≤ limit → b ≤ limit → lt (valueOf limit a) (valueOf limit b) ≡ ltb a b
@@ -235,14 +235,14 @@ pub value-at : (limit bits : ℕ) (w : Float) → valueFrom limit bits ≡ Maybe
 unfolding valueFrom valueOf
 value-at limit bits w e = go (leb bits limit) e
   where
-    go : (t : Bool) → cond t (MaybeWeight·is.At (ofBits binary32 bits)) MaybeWeight·is.Absent ≡ MaybeWeight·is.At w → w ≡ cond t (ofBits binary32 bits) none
+    go : (t : Bool) → cond t (MaybeWeight·is.At (ofBits binary32 bits)) MaybeWeight·is.Absent ≡ MaybeWeight·is.At w → w ≡ cond t (ofBits binary32 bits) zeroWeight
     go true e = cc
     go false e = cc
 
-pub value-absent : (limit bits : ℕ) → valueFrom limit bits ≡ MaybeWeight·is.Absent → none ≡ valueOf limit bits
+pub value-absent : (limit bits : ℕ) → valueFrom limit bits ≡ MaybeWeight·is.Absent → zeroWeight ≡ valueOf limit bits
 unfolding valueFrom valueOf
 value-absent limit bits e = go (leb bits limit) e
   where
-    go : (t : Bool) → cond t (MaybeWeight·is.At (ofBits binary32 bits)) MaybeWeight·is.Absent ≡ MaybeWeight·is.Absent → none ≡ cond t (ofBits binary32 bits) none
+    go : (t : Bool) → cond t (MaybeWeight·is.At (ofBits binary32 bits)) MaybeWeight·is.Absent ≡ MaybeWeight·is.Absent → zeroWeight ≡ cond t (ofBits binary32 bits) zeroWeight
     go true e = cc
     go false e = refl

@@ -38,7 +38,7 @@ normalised-cases : map (λ (b : ℕ). toBits binary32 (normalised (value b) 2 1)
 unfolding toBits normalised value div lt ofInt
 normalised-cases = refl
 
--- 0.5, 0.009, the smallest weight, 999999.0 and 1000000.0
+-- 0.5, 0.009, the smallest weight, 999999.0, 1000000.0 and infinity
 figure-cases : map (λ (b : ℕ). figure (value b)) (1056964608 ∷ 1007908028 ∷ 1 ∷ 1232348144 ∷ 1232348160 ∷ 2139095040 ∷ []) ≡ 500 ∷ 8 ∷ 0 ∷ 999999000 ∷ 999999999 ∷ 999999999 ∷ []
 unfolding figure value unitsOf
 figure-cases = refl

@@ -8,7 +8,7 @@ use lib.Dec.{T, lit≤, lit<}
 use lib.Pow.{pow-add}
 use lib.ListN.{length, getD}
 use lib.Ieee.{Float, nan}
-use Rattle.numbers.specs.Weight.{Finite, finite, beyond, unitsOf}
+use Rattle.numbers.specs.Weight.{Finite, finite, infiniteUnits, unitsOf}
 use Rattle.numbers.specs.Normal.{exceeds}
 use Rattle.numbers.specs.Chain.{ChainFrom, Chain, longest}
 use Rattle.numbers.proofs.Units.{units-below}
@@ -63,14 +63,14 @@ growth n h w (v ∷ vs) f c =
     (le-trans (step 2048 n (unitsOf w) (unitsOf v) (2048 ^ k) (n ^ k) (unitsOf (last v vs)) (exceeds-exact n h (c .0) (finite f) (c .1)) (growth n h v vs (c .0) (c .2)))
     (le-of-eq (ap (λ (z : ℕ). unitsOf (last v vs) * z) (sym (pow-suc n k)))))
 
-last-below : (n : ℕ) (w : Float) (ws : List Float) → Finite w → ChainFrom n w ws → unitsOf (last w ws) < beyond
+last-below : (n : ℕ) (w : Float) (ws : List Float) → Finite w → ChainFrom n w ws → unitsOf (last w ws) < infiniteUnits
 unfolding last
 last-below n w [] f c = units-below f
 last-below n w (v ∷ vs) f c = last-below n v vs (c .0) (c .2)
 
 -- ---- from 1 unit to fewer than 2 to the power 277 there are fewer than 9,495 such steps
 -- one comparison of two numbers of over 104,000 binary digits, computed
-room : beyond * 2007 ^ longest ≤ 2048 ^ longest
+room : infiniteUnits * 2007 ^ longest ≤ 2048 ^ longest
 room = lit≤ tt
 
 joined : (k m : ℕ) → m ≤ k → m + (k - m) ≡ k
@@ -92,7 +92,7 @@ from-above-zero : (n : ℕ) → n ≤ 2007 → (w : Float) (ws : List Float) →
 from-above-zero n h w ws f z c =
     let k = length ws in
     let g : unitsOf w * 2048 ^ k ≤ unitsOf (last w ws) * 2007 ^ k = le-trans (growth n (le-trans h (lit≤ tt)) w ws f c) (mul-le-mul-left (unitsOf (last w ws)) (pow-le-pow-left h k)) in
-    steps-few 2048 2007 beyond longest k (unitsOf w) (unitsOf (last w ws)) (lit≤ tt) (lit< tt) room z (last-below n w ws f c) g
+    steps-few 2048 2007 infiniteUnits longest k (unitsOf w) (unitsOf (last w ws)) (lit≤ tt) (lit< tt) room z (last-below n w ws f c) g
 
 pub chain-few : (n : ℕ) → n ≤ 2007 → (w : Float) (ws : List Float) → 0 < unitsOf w → Chain n (w ∷ ws) → length (w ∷ ws) ≤ longest
 chain-few n h w ws z c = from-above-zero n h w ws (c .0) z (c .1)

@@ -6,7 +6,7 @@ use native.Mathlib.Omega.{arith}
 use lib.Dec.{lit≤}
 use lib.Pow.{pow-add, pow-pos, pow-mono}
 use lib.Ieee.{binary32, ofBits}
-use Rattle.numbers.specs.Weight.{unitsOf, none, weightLimit, valueOf}
+use Rattle.numbers.specs.Weight.{unitsOf, zeroWeight, weightLimit, valueOf}
 use Rattle.numbers.specs.Figure.{figure, ceiling}
 use Rattle.numbers.proofs.Bits.{fieldUnits, bits-units, value-is, value-beyond}
 

@@ -8,9 +8,9 @@ use native.Mathlib.Omega.{arith}
 use mathlib.Core.Bool.{Bool, true, false, not, cond}
 use lib.Dec.{T, ltb, ltb→lt, nltb→le}
 use lib.Ieee.{Float, lt}
-use Rattle.numbers.specs.Weight.{Weight, finite, unitsOf, none, heavier, heaviest}
+use Rattle.numbers.specs.Weight.{Weight, finite, unitsOf, zeroWeight, heavier, heaviest}
 use Rattle.numbers.proofs.Tests.{cond-both}
-use Rattle.numbers.proofs.Units.{units-order, units-inj, none-finite, none-units}
+use Rattle.numbers.proofs.Units.{units-order, units-inj, zero-finite, zero-units}
 
 -- ---- two weights
 pub heavier-weight : {a b : Float} → Weight a → Weight b → Weight (heavier a b)
@@ -43,11 +43,11 @@ Among w [] = ⊥
 Among w (v ∷ vs) = (w ≡ v) ⊎ Among w vs
 
 pub heaviest-weight : (ws : List Float) → Weights ws → Weight (heaviest ws)
-heaviest-weight [] p = finite none-finite
+heaviest-weight [] p = finite zero-finite
 heaviest-weight (w ∷ ws) p = heavier-weight (heaviest-weight ws (p .1)) (p .0)
 
 -- the heaviest is zero or one of them
-pub heaviest-among : (ws : List Float) → (heaviest ws ≡ none) ⊎ Among (heaviest ws) ws
+pub heaviest-among : (ws : List Float) → (heaviest ws ≡ zeroWeight) ⊎ Among (heaviest ws) ws
 heaviest-among [] = inl refl
 heaviest-among (w ∷ ws) =
     elim (heavier-among (heaviest ws) w) [
@@ -76,18 +76,18 @@ among-weight [] p w a = absurd a
 among-weight (v ∷ vs) p w a = elim a [ inl e ↦ subst Weight (sym e) (p .0) | inr b ↦ among-weight vs (p .1) w b ]
 
 -- and the only weight that is both
-pub heaviest-only : (ws : List Float) → Weights ws → (h : Float) → ((h ≡ none) ⊎ Among h ws) → ((w : Float) → Among w ws → unitsOf w ≤ unitsOf h) → h ≡ heaviest ws
+pub heaviest-only : (ws : List Float) → Weights ws → (h : Float) → ((h ≡ zeroWeight) ⊎ Among h ws) → ((w : Float) → Among w ws → unitsOf w ≤ unitsOf h) → h ≡ heaviest ws
 heaviest-only ws p h a b =
     units-inj weight (heaviest-weight ws p) (le-antisymm upper lower)
   where
     weight : Weight h
-    weight = elim a [ inl e ↦ subst Weight (sym e) (finite none-finite) | inr m ↦ among-weight ws p h m ]
+    weight = elim a [ inl e ↦ subst Weight (sym e) (finite zero-finite) | inr m ↦ among-weight ws p h m ]
 
     upper : unitsOf h ≤ unitsOf (heaviest ws)
-    upper = elim a [ inl e ↦ le-trans (le-of-eq (ap unitsOf e ∙ none-units)) zero-le | inr m ↦ heaviest-above ws p h m ]
+    upper = elim a [ inl e ↦ le-trans (le-of-eq (ap unitsOf e ∙ zero-units)) zero-le | inr m ↦ heaviest-above ws p h m ]
 
     lower : unitsOf (heaviest ws) ≤ unitsOf h
-    lower = elim (heaviest-among ws) [ inl e ↦ le-trans (le-of-eq (ap unitsOf e ∙ none-units)) zero-le | inr m ↦ b (heaviest ws) m ]
+    lower = elim (heaviest-among ws) [ inl e ↦ le-trans (le-of-eq (ap unitsOf e ∙ zero-units)) zero-le | inr m ↦ b (heaviest ws) m ]
 
 -- ---- two lists
 pub weights-append : (xs ys : List Float) → Weights xs → Weights ys → Weights (xs ++ ys)
@@ -106,7 +106,7 @@ heaviest-append xs ys p q =
     nothing y z e = omega arith
 
     go : (xs : List Float) → Weights xs → unitsOf (heaviest (xs ++ ys)) ≡ max (unitsOf (heaviest ys)) (unitsOf (heaviest xs))
-    go [] p = nothing (unitsOf (heaviest ys)) (unitsOf none) none-units
+    go [] p = nothing (unitsOf (heaviest ys)) (unitsOf zeroWeight) zero-units
     go (x ∷ xs) p =
         heavier-units (heaviest-weight (xs ++ ys) (weights-append xs ys (p .1) q)) (p .0)
         ∙ regroup (unitsOf (heaviest ys)) (unitsOf (heaviest xs)) (unitsOf x) (unitsOf (heaviest (xs ++ ys))) (unitsOf (heaviest (x ∷ xs))) (go xs (p .1)) (heavier-units (heaviest-weight xs (p .1)) (p .0))

@@ -10,7 +10,7 @@ use lib.Pow.{pow-pos}
 use lib.Ieee.{Float, fin, binary32, round, mul, div, lt, fits, ofInt}
 use lib.Ieee.Exact.{round-exact}
 use lib.Ieee.Scale.{round-same}
-use Rattle.numbers.specs.Weight.{Finite, number, Weight, finite, beyond, unitsOf}
+use Rattle.numbers.specs.Weight.{Finite, number, Weight, finite, infiniteUnits, unitsOf}
 use Rattle.numbers.specs.Normal.{largest, normalised, fraction, exceeds}
 use Rattle.numbers.proofs.Tests.{cond-both}
 use Rattle.numbers.proofs.Units.{units-below, units-order, units-lt, finite-of-units}
@@ -50,7 +50,7 @@ fraction-value n h =
 
 fraction-finite : (n : ℕ) → n ≤ 2048 → Finite (fraction n)
 unfolding fraction
-fraction-finite n h = finite-of-units (round-weight n 2048) (subst (λ (u : ℕ). u < beyond) (sym (fraction-value n h)) (lt-of-le-of-lt (mul-le-mul-right (2 ^ 138) h) (lit< tt)))
+fraction-finite n h = finite-of-units (round-weight n 2048) (subst (λ (u : ℕ). u < infiniteUnits) (sym (fraction-value n h)) (lt-of-le-of-lt (mul-le-mul-right (2 ^ 138) h) (lit< tt)))
 
 -- ---- the weight test over units: w met, v the weight that passes
 cancel : (w v n p : ℕ) → 0 < p → w * (p * 2048 * (p * 2048)) < v * (n * p) * (p * 2048) → 2048 * w < n * v

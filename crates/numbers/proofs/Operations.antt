@@ -15,7 +15,7 @@ use lib.Ieee.Back.{round-whole}
 use lib.Ieee.Exact.{HasValue, round-exact}
 use lib.Ieee.Positive.{first-pos}
 use lib.Ieee.Scale.{round-same}
-use Rattle.numbers.specs.Weight.{Finite, number, Weight, infinite, finite, beyond, unitsOf}
+use Rattle.numbers.specs.Weight.{Finite, number, Weight, infinite, finite, infiniteUnits, unitsOf}
 use Rattle.numbers.proofs.Tests.{cond-false}
 use Rattle.numbers.proofs.Units.{units-exact, units-below, units-most, units-infinite, units-inj, finite-of-units}
 use Rattle.numbers.proofs.Rounding.{rounded, round-weight, round-at-most, round-at-least, value-units}
@@ -140,7 +140,7 @@ difference-finite {x} {y} f g h =
     less a b = omega arith
 
 -- ---- the units of a sum, also where a weight is infinite
-rounded-infinite : (n : ℕ) → beyond ≤ n → rounded n (2 ^ 149) ≡ beyond
+rounded-infinite : (n : ℕ) → infiniteUnits ≤ n → rounded n (2 ^ 149) ≡ infiniteUnits
 rounded-infinite n h =
     le-antisymm (unfold rounded in units-most (round-weight n (2 ^ 149)))
     (le-trans (le-of-eq (sym units-infinite)) (round-at-least infinite n (2 ^ 149) (pow-pos 149) (mul-le-mul-right (2 ^ 149) (le-trans (le-of-eq units-infinite) h))))
@@ -184,7 +184,7 @@ unfolding ofInt
 whole-number n h = value-whole (round binary32 false n 1) n (round-whole binary32 false n h)
 
 pub whole-finite : (n : ℕ) → n ≤ 2 ^ 24 → Finite (ofInt binary32 (pos n))
-whole-finite n h = finite-of-units (whole-weight n) (subst (λ (u : ℕ). u < beyond) (sym (whole-number n h)) (lt-of-le-of-lt (mul-le-mul-right (2 ^ 149) h) (lit< tt)))
+whole-finite n h = finite-of-units (whole-weight n) (subst (λ (u : ℕ). u < infiniteUnits) (sym (whole-number n h)) (lt-of-le-of-lt (mul-le-mul-right (2 ^ 149) h) (lit< tt)))
 
 -- a whole number in two parts, high * 65536 + low: the product is exact, so the sum is the one rounding of the whole number
 scale : Float
@@ -217,7 +217,7 @@ unfolding scale
 whole-parts n h r l k e =
     let high = mul binary32 (ofInt binary32 (pos h)) scale in
     let u = high-units h l in
-    let f : Finite high = finite-of-units (product-weight (whole-finite h (le-of-lt l)) scale-finite) (subst (λ (x : ℕ). x < beyond) (sym u) (lt-of-le-of-lt (mul-le-mul-right (2 ^ 165) (le-of-lt l)) (lit< tt))) in
+    let f : Finite high = finite-of-units (product-weight (whole-finite h (le-of-lt l)) scale-finite) (subst (λ (x : ℕ). x < infiniteUnits) (sym u) (lt-of-le-of-lt (mul-le-mul-right (2 ^ 165) (le-of-lt l)) (lit< tt))) in
     sum-round f (whole-finite r k)
     ∙ ap (λ (x : ℕ). round binary32 false (x + unitsOf (ofInt binary32 (pos r))) (2 ^ 149)) u
     ∙ ap (λ (x : ℕ). round binary32 false (h * 2 ^ 165 + x) (2 ^ 149)) (whole-number r k)

@@ -12,7 +12,7 @@ use lib.Pow.{pow-add, pow-pos, pow-lt}
 use lib.Ieee.{Float, nan, inf, fin, binary32, up, down, size, fits, lt, toBits, ofBits}
 use lib.Ieee.Fits.{up-pos, down-pos}
 use lib.Ieee.Bits.{is-true, is-false, ofBits-toBits}
-use Rattle.numbers.specs.Weight.{Finite, number, Weight, infinite, finite, beyond, unitsOf, none}
+use Rattle.numbers.specs.Weight.{Finite, number, Weight, infinite, finite, infiniteUnits, unitsOf, zeroWeight}
 use Rattle.numbers.proofs.Tests.{ltb-same, and-four}
 
 -- ---- what binary32 asks of m * 2 ^ e
@@ -74,7 +74,7 @@ below-range : (u d a l t : ℕ) → 0 < l → 0 < d → u * d ≡ a * l → a < 
 below-range u d a l t L D e h = carry a (t * d) u (t * l) l d L (sym e) (mul-right-comm t d l) h
 
 -- a finite weight has fewer units than an infinity counts
-pub units-below : {x : Float} → Finite x → unitsOf x < beyond
+pub units-below : {x : Float} → Finite x → unitsOf x < infiniteUnits
 units-below (number {m} {e} h) = below-range (unitsOf (fin false m e)) (down e) (m * up e) (2 ^ 149) (2 ^ 128) (pow-pos 149) (down-pos e) (units-exact m e h) (fits-holds m e h .range)
 
 finite-order : (m : ℕ) (e : ℤ) (n : ℕ) (d : ℤ) → T (fits binary32 (fin false m e)) → T (fits binary32 (fin false n d))
@@ -93,8 +93,8 @@ finite-order m e n d f g =
 pub units-order : {x y : Float} → Weight x → Weight y → lt x y ≡ ltb (unitsOf x) (unitsOf y)
 unfolding lt
 units-order infinite infinite = unfold unitsOf in refl
-units-order infinite (finite (number {m = n} {e = d} g)) = unfold unitsOf in sym (is-false (ltb beyond (unitsOf (fin false n d))) (le→nltb beyond (unitsOf (fin false n d)) (le-of-lt (units-below (number g)))))
-units-order (finite (number {m} {e} f)) infinite = unfold unitsOf in sym (is-true (ltb (unitsOf (fin false m e)) beyond) (lt→ltb (unitsOf (fin false m e)) beyond (units-below (number f))))
+units-order infinite (finite (number {m = n} {e = d} g)) = unfold unitsOf in sym (is-false (ltb infiniteUnits (unitsOf (fin false n d))) (le→nltb infiniteUnits (unitsOf (fin false n d)) (le-of-lt (units-below (number g)))))
+units-order (finite (number {m} {e} f)) infinite = unfold unitsOf in sym (is-true (ltb (unitsOf (fin false m e)) infiniteUnits) (lt→ltb (unitsOf (fin false m e)) infiniteUnits (units-below (number f))))
 units-order (finite (number {m} {e} f)) (finite (number {m = n} {e = d} g)) = finite-order m e n d f g
 
 pub units-lt : {x y : Float} → Weight x → Weight y → T (lt x y) → unitsOf x < unitsOf y
@@ -123,27 +123,27 @@ units-inj {x} {y} p q e =
     ∙ ofBits-toBits binary32 y (weight-fits q)
 
 -- ---- finite, or not
-pub units-infinite : unitsOf (inf false) ≡ beyond
+pub units-infinite : unitsOf (inf false) ≡ infiniteUnits
 unfolding unitsOf
 units-infinite = refl
 
-pub units-most : {x : Float} → Weight x → unitsOf x ≤ beyond
+pub units-most : {x : Float} → Weight x → unitsOf x ≤ infiniteUnits
 units-most infinite = le-of-eq units-infinite
 units-most (finite f) = le-of-lt (units-below f)
 
-pub finite-of-units : {x : Float} → Weight x → unitsOf x < beyond → Finite x
-finite-of-units infinite h = absurd (lt-irrefl beyond (subst (λ (u : ℕ). u < beyond) units-infinite h))
+pub finite-of-units : {x : Float} → Weight x → unitsOf x < infiniteUnits → Finite x
+finite-of-units infinite h = absurd (lt-irrefl infiniteUnits (subst (λ (u : ℕ). u < infiniteUnits) units-infinite h))
 finite-of-units (finite f) h = f
 
 -- ---- zero
-pub none-finite : Finite none
+pub zero-finite : Finite zeroWeight
 unfolding fits
-none-finite = number tt
+zero-finite = number tt
 
-pub none-units : unitsOf none ≡ 0
+pub zero-units : unitsOf zeroWeight ≡ 0
 unfolding unitsOf
-none-units = refl
+zero-units = refl
 
 -- no weight is below zero
-pub none-least : {x : Float} → Weight x → unitsOf none ≤ unitsOf x
-none-least {x} p = subst (λ (u : ℕ). u ≤ unitsOf x) (sym none-units) Prim.Native.Nat.zero-le
+pub zero-least : {x : Float} → Weight x → unitsOf zeroWeight ≤ unitsOf x
+zero-least {x} p = subst (λ (u : ℕ). u ≤ unitsOf x) (sym zero-units) Prim.Native.Nat.zero-le

@@ -7,10 +7,10 @@ use lib.Dec.{T, leb, ltb, eqb, leb→le, lit≤, lit<}
 use lib.Pow.{pow-pos}
 use lib.Ieee.{Float, fin, binary32, fits, sub, mul, ofBits}
 use Rattle.numbers.specs.declared.costs.RematScales.{RematScales}
-use Rattle.numbers.specs.Weight.{Finite, number, Weight, finite, beyond, unitsOf, none, costLimit, valueOf}
+use Rattle.numbers.specs.Weight.{Finite, number, Weight, finite, infiniteUnits, unitsOf, zeroWeight, costLimit, valueOf}
 use Rattle.numbers.specs.Cost.{reloadCost, moveCost, spillCost, scaled}
 use Rattle.numbers.proofs.Tests.{cond-both}
-use Rattle.numbers.proofs.Units.{units-below, finite-of-units, none-finite, none-units}
+use Rattle.numbers.proofs.Units.{units-below, finite-of-units, zero-finite, zero-units}
 use Rattle.numbers.proofs.Rounding.{rounded, round-at-most}
 use Rattle.numbers.proofs.Operations.{product-round, product-weight, difference-finite}
 use Rattle.numbers.proofs.Bits.{value-finite, bits-monotone}
@@ -20,8 +20,8 @@ pub record Cost (x : Float) : Type 0 where
   pub weight : Finite x
   pub limited : unitsOf x ≤ 2 ^ 165
 
-none-cost : Cost none
-none-cost = record { weight = none-finite; limited = le-trans (le-of-eq none-units) zero-le }
+zero-cost : Cost zeroWeight
+zero-cost = record { weight = zero-finite; limited = le-trans (le-of-eq zero-units) zero-le }
 
 pub reload-cost : Cost reloadCost
 unfolding fits unitsOf
@@ -45,20 +45,20 @@ pub value-cost : (bits : ℕ) → Cost (valueOf costLimit bits)
 value-cost bits =
     record {
       weight = value-finite costLimit bits (lit≤ tt);
-      limited = unfold valueOf in cond-both (λ (x : Float). unitsOf x ≤ 2 ^ 165) (leb bits costLimit) (ofBits binary32 bits) none
+      limited = unfold valueOf in cond-both (λ (x : Float). unitsOf x ≤ 2 ^ 165) (leb bits costLimit) (ofBits binary32 bits) zeroWeight
           (λ t. le-trans (bits-monotone bits costLimit (lit≤ tt) (leb→le bits costLimit t)) (le-of-eq most))
-          (λ _. none-cost .limited);
+          (λ _. zero-cost .limited);
     }
 
 -- a use's cost, at any reload and move cost
 pub spill-cost-cost : {reload move : Float} → Cost reload → Cost move → unitsOf move ≤ unitsOf reload → (kind field : ℕ) → Cost (spillCost reload move kind field)
 unfolding spillCost
 spill-cost-cost {reload} {move} r m h kind field =
-    cond-both Cost (ltb kind 2) (cond (eqb field 0) reload none) (cond (ltb kind 4) (sub binary32 reload move) (cond (ltb kind 8) (valueOf costLimit field) none))
-    (λ _. cond-both Cost (eqb field 0) reload none (λ _. r) (λ _. none-cost))
-    (λ _. cond-both Cost (ltb kind 4) (sub binary32 reload move) (cond (ltb kind 8) (valueOf costLimit field) none)
+    cond-both Cost (ltb kind 2) (cond (eqb field 0) reload zeroWeight) (cond (ltb kind 4) (sub binary32 reload move) (cond (ltb kind 8) (valueOf costLimit field) zeroWeight))
+    (λ _. cond-both Cost (eqb field 0) reload zeroWeight (λ _. r) (λ _. zero-cost))
+    (λ _. cond-both Cost (ltb kind 4) (sub binary32 reload move) (cond (ltb kind 8) (valueOf costLimit field) zeroWeight)
     (λ _. saved)
-    (λ _. cond-both Cost (ltb kind 8) (valueOf costLimit field) none (λ _. value-cost field) (λ _. none-cost)))
+    (λ _. cond-both Cost (ltb kind 8) (valueOf costLimit field) zeroWeight (λ _. value-cost field) (λ _. zero-cost)))
   where
     saved : Cost (sub binary32 reload move)
     saved = let d = difference-finite (r .weight) (m .weight) h in record { weight = d .0; limited = le-trans (d .1) (r .limited) }

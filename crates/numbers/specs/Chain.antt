@@ -16,6 +16,6 @@ abbrev pub Chain : ℕ → List Float → Type 0
 Chain numerator [] = Unit {0}
 Chain numerator (w ∷ ws) = Finite w × ChainFrom numerator w ws
 
--- the most members that a chain above zero has at 2007
+-- no chain above zero has more members, at numerators up to 2007
 abbrev pub longest : ℕ
 longest = 9495

@@ -1,12 +1,11 @@
 -- Use costs
 use Prim.Native.Nat.{ℕ}
-use mathlib.Core.Bool.{cond}
 use lib.IntN.{pos, negsuc}
 use lib.Dec.{ltb, eqb}
-use mathlib.Core.Bool.{false}
+use mathlib.Core.Bool.{false, cond}
 use lib.Ieee.{Float, fin, binary32, sub, mul}
 use Rattle.numbers.specs.declared.costs.RematScales.{RematScales}
-use Rattle.numbers.specs.Weight.{none, costLimit, valueOf}
+use Rattle.numbers.specs.Weight.{zeroWeight, costLimit, valueOf}
 
 -- the reload cost, 1.0
 abbrev pub reloadCost : Float
@@ -20,9 +19,9 @@ moveCost = fin false 1 (negsuc 0)
 unfoldable pub spillCost : Float → Float → ℕ → ℕ → Float
 unfolding valueOf
 spillCost reload move kind field =
-    cond (ltb kind 2) (cond (eqb field 0) reload none)
+    cond (ltb kind 2) (cond (eqb field 0) reload zeroWeight)
     (cond (ltb kind 4) (sub binary32 reload move)
-    (cond (ltb kind 8) (valueOf costLimit field) none))
+    (cond (ltb kind 8) (valueOf costLimit field) zeroWeight))
 
 -- a use's cost scaled by its value's code: 0 none, 1 cheaper than move, 2 cheaper than load, 3 indirect
 unfoldable pub scaled : ℕ → RematScales → Float → Float

@@ -1,11 +1,7 @@
 -- Points: 4 × instruction + slot
-use Prim.Native.Nat.{ℕ, _+_, _*_, _/_, _%_}
+use Prim.Native.Nat.{ℕ, _+_, _/_, _%_}
 use Rattle.numbers.specs.declared.Slot.{Slot}
 use Rattle.numbers.specs.declared.Slot.the-variants.{Boundary, Early, Normal, Unused}
-use Rattle.numbers.specs.declared.MaybeInst.{MaybeInst}
-use Rattle.numbers.specs.declared.MaybeInst.the-variants as MaybeInst·is
-use Rattle.numbers.specs.declared.MaybeBlock.{MaybeBlock}
-use Rattle.numbers.specs.declared.MaybeBlock.the-variants as MaybeBlock·is
 
 -- the instruction that a point is in; of a Boundary, the one after it
 abbrev pub instOf : ℕ → ℕ

@@ -19,19 +19,19 @@ pub data Weight : Float → Type 0 where
   infinite : Weight (inf false)
   finite : {x : Float} → Finite x → Weight x
 
--- one more unit than every finite weight has at most: what an infinity counts
-abbrev pub beyond : ℕ
-beyond = 2 ^ 277
+-- what an infinity counts in units: more than every finite weight has
+abbrev pub infiniteUnits : ℕ
+infiniteUnits = 2 ^ 277
 
 -- a weight in units of 2 to the power -149, the smallest weight above zero
 unfoldable pub unitsOf : Float → ℕ
 unitsOf nan = 0
-unitsOf (inf s) = beyond
+unitsOf (inf s) = infiniteUnits
 unitsOf (fin s m e) = m * up e * 2 ^ 149 / down e
 
 -- zero, the weight of nothing
-abbrev pub none : Float
-none = fin false 0 (pos 0)
+abbrev pub zeroWeight : Float
+zeroWeight = fin false 0 (pos 0)
 
 -- the bits of infinity, of the largest frequency and of 65536.0
 abbrev pub weightLimit : ℕ
@@ -49,7 +49,7 @@ valueFrom limit bits = cond (leb bits limit) (MaybeWeight·is.At (ofBits binary3
 
 -- the value of bits up to a limit, and zero above it, which no accepted job has
 unfoldable pub valueOf : ℕ → ℕ → Float
-valueOf limit bits = cond (leb bits limit) (ofBits binary32 bits) none
+valueOf limit bits = cond (leb bits limit) (ofBits binary32 bits) zeroWeight
 
 -- a weight's bits
 unfoldable pub bitsFrom : Float → MaybeBits
@@ -63,5 +63,5 @@ heavier a b = cond (lt a b) b a
 
 -- the heaviest of a list of weights, zero if there is none
 abbrev pub heaviest : List Float → Float
-heaviest [] = none
+heaviest [] = zeroWeight
 heaviest (w ∷ ws) = heavier (heaviest ws) w

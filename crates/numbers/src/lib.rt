@@ -3,8 +3,8 @@
 // Here: tuple structs for each kind of index, enums for what may be absent, and small functions on one number or weight each.
 // Proved: every function equals a definition of specs/, for all inputs; floats are IEEE 754 binary32. The laws of weights are in
 // proofs/ and are cited by the layers above: weights stay weights, their order is that of whole numbers of units of 2 to the
-// power -149, and a chain of weights that each pass the weight test over the one before has at most 9,495 members.
-// A caller should know: no function here has a `requires` and none traps. What no accepted job holds (bits above the limits, a use
+// power -149, and a chain of weights above zero that each pass the weight test over the one before has at most 9,495 members.
+// A caller should know: no public function has a `requires` and none traps. What no accepted job holds (bits above the limits, a use
 // kind above 9) has an answer all the same, which the definition states.
 ghost use mathlib.Core.Path.{_≡_};
 ghost use Rattle.numbers.specs.Point.{instOf, slotOf, roundUp, slotNumber};

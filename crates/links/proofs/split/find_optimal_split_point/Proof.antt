@@ -7,7 +7,7 @@ use native.Mathlib.Omega.{arith}
 use borrow.Author.Needs.{scaled-fits}
 use lib.ListN.{length, getD}
 use lib.Seq.{length-take-le}
-use Rattle.links.specs.Blocks.{Block, blocksOf, startOf, checkOf}
+use Rattle.links.specs.Blocks.{BlockRow, blocksOf, startOf, checkOf}
 use Rattle.links.specs.Split.{sideOf, splitPoint}
 use Rattle.links.specs.declared.blocks.Checked.the-variants.{Sound}
 use Rattle.links.proofs.Checks.{check-sound}
@@ -19,7 +19,7 @@ use Rattle.links.proofs.split.find_optimal_split_point.Tie as tie
 abbrev begin : tie.After-count → tie.Start
 begin c = c .before .before .before .before .before .before .before
 
-abbrev list : tie.After-count → List Block
+abbrev list : tie.After-count → List BlockRow
 list c = blocksOf (begin c .args .freq .now) (begin c .args .first .now) (begin c .args .end .now)
 
 -- past the check the list is sound
@@ -94,7 +94,7 @@ returns-4 c =
     let k = c .before .before .before .before .before .before .before .before .before .before in
     let s = begin k in
     answer-split _ _ _ _ (passed k) (c .between .result) (c .before .before .before .before .before .before .if1 .left) (subst (λ (x : ℕ). s .args .before .0 ≤ x) (last k) (c .before .before .before .before .if2 .left))
-    (c .between .ensures ∙ ap (λ (bs : List Block). splitPoint (sideOf (s .args .prefer-early)) bs (s .args .after .0) (s .args .before .0)) (same-list (s .args .freq .now) (s .args .first .now) (s .args .end .now) (k .count .result) (k .count .ensures)))
+    (c .between .ensures ∙ ap (λ (bs : List BlockRow). splitPoint (sideOf (s .args .prefer-early)) bs (s .args .after .0) (s .args .before .0)) (same-list (s .args .freq .now) (s .args .first .now) (s .args .end .now) (k .count .result) (k .count .ensures)))
 
 pub find-optimal-split-point-spec : {M : Type 1} → statement M
 find-optimal-split-point-spec =
