@@ -5,7 +5,7 @@ use mathlib.Core.List.{List, [], _∷_}
 use lib.Dec.{leb, ltb, eqb}
 use lib.ListN.{length, getD}
 use Rattle.numbers.specs.Weight.{weightLimit, costLimit}
-use Rattle.links.specs.First.{firstBelow}
+use Rattle.numbers.specs.Point.{roundUp}
 use Rattle.jobs.specs.Rows.{noSegment, noUse, noReservation, noFixedUse, liveOut, fixedDef}
 use Rattle.jobs.specs.declared.rows.Segment.{Segment}
 use Rattle.jobs.specs.declared.rows.Use.{Use}
@@ -21,32 +21,47 @@ above limit col i = ltb limit (getD col i 0)
 abbrev pub badValue : List ℕ → ℕ → Bool
 badValue codes = above 3 codes
 
--- what a table's row before row i says, d for none
-abbrev pub before : {A : Type 0} → (A → ℕ) → List A → A → ℕ → ℕ
-before field rows none zero = 0
-before field rows none (suc i) = field (getD rows i none)
+-- the row before row i, or no row
+abbrev pub rowBefore : {A : Type 0} → List A → A → ℕ → A
+rowBefore rows none zero = none
+rowBefore rows none (suc i) = getD rows i none
 
--- line 5, of a segment: its bounds, after one that ended at a point
-unfoldable pub badBounds : Limits → ℕ → Segment → Bool
+-- line 5, of a segment after another: its bounds, value and flags
+unfoldable pub badBounds : Limits → Segment → Segment → Bool
 badBounds limits last s =
-    leb (s .end) (s .start) || eqb (s .start % 4) 3 || eqb (s .end % 4) 3 || ltb (limits .end) (s .end) || ltb (s .start) last || leb (limits .values) (s .value) || ltb 15 (s .flags)
+    leb (s .end) (s .start) || eqb (s .start % 4) 3 || eqb (s .end % 4) 3 || ltb (limits .end) (s .end) || ltb (s .start) (last .end) || leb (limits .values) (s .value) || ltb 15 (s .flags)
 
--- line 5, of a segment: its use list, after one that ended at a place, and the last segment's reaching the last use
-unfoldable pub badList : Limits → ℕ → Bool → Segment → Bool
-badList limits from isLast s =
-    not (eqb (s .«first_use») from) || ltb (s .«end_use») (s .«first_use») || ltb (limits .uses) (s .«end_use») || (isLast && ltb (s .«end_use») (limits .uses))
+-- line 5, of a segment after another: its use list, which begins where that one's ended, and ends with the uses if it is the last
+unfoldable pub badList : Limits → Segment → Bool → Segment → Bool
+badList limits last isLast s =
+    not (eqb (s .«first_use») (last .«end_use»)) || ltb (s .«end_use») (s .«first_use») || ltb (limits .uses) (s .«end_use») || (isLast && ltb (s .«end_use») (limits .uses))
 
 -- segment i breaks line 5
 abbrev pub badSegment : Limits → List Segment → ℕ → Bool
 badSegment limits segments i =
-    badBounds limits (before (λ (s : Segment). s .end) segments noSegment i) (getD segments i noSegment)
-    || badList limits (before (λ (s : Segment). s .«end_use») segments noSegment i) (eqb (i + 1) (length segments)) (getD segments i noSegment)
+    badBounds limits (rowBefore segments noSegment i) (getD segments i noSegment)
+    || badList limits (rowBefore segments noSegment i) (eqb (i + 1) (length segments)) (getD segments i noSegment)
 
 -- line 6, of a segment: the fixed-def flag, and the start isn't a Boundary of instruction 1 or later, or the first use is missing or isn't kind 0 at the instruction before
 unfoldable pub badDef : List Use → Segment → Bool
 badDef uses s =
     let u = getD uses (s .«first_use») noUse in
     fixedDef (s .flags) && (not (eqb (s .start % 4) 0) || ltb (s .start) 4 || leb (s .«end_use») (s .«first_use») || not (eqb (u .kind) 0) || not (eqb (u .position) (s .start / 4 - 1)))
+
+-- line 8, of a segment: live-out, and its end isn't a Boundary or it has a use at its end's instruction; or the last one, not live-out, without a use or ending later than one instruction after its last use
+unfoldable pub badEnd : List Use → Bool → Segment → Bool
+badEnd uses isLast s =
+    let missing = leb (s .«end_use») (s .«first_use») in
+    let last = getD uses (s .«end_use» - 1) noUse .position in
+    cond (liveOut (s .flags)) (not (eqb (s .end % 4) 0) || (not missing && eqb last (s .end / 4)))
+    (isLast && (missing || ltb (last + 1) (roundUp (s .end))))
+
+-- segment i breaks line 6, or line 8
+abbrev pub badDefAt : List Use → List Segment → ℕ → Bool
+badDefAt uses segments i = badDef uses (getD segments i noSegment)
+
+abbrev pub badEndAt : List Use → List Segment → ℕ → Bool
+badEndAt uses segments i = badEnd uses (eqb (i + 1) (length segments)) (getD segments i noSegment)
 
 -- line 9: spill weight bits above infinity's
 abbrev pub badWeight : List ℕ → ℕ → Bool
@@ -57,3 +72,7 @@ unfoldable pub badFixedUse : Limits → FixedUse → FixedUse → Bool
 badFixedUse limits last f =
     leb (limits .units) (f .unit) || ltb (f .unit) (last .unit) || leb (limits .values) (f .value) || not (eqb (f .point % 4) 0) || leb (limits .end) (f .point)
     || (eqb (f .unit) (last .unit) && ltb (f .point) (last .point))
+
+-- fixed use i breaks line 11
+abbrev pub badFixedUseAt : Limits → List FixedUse → ℕ → Bool
+badFixedUseAt limits fixedUses i = badFixedUse limits (rowBefore fixedUses noFixedUse i) (getD fixedUses i noFixedUse)

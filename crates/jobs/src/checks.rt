@@ -3,9 +3,10 @@ ghost use mathlib.Core.Path.{_≡_};
 ghost use mathlib.Core.Bool.{_||_};
 ghost use lib.ListN.{length};
 ghost use Rattle.links.specs.First.{firstBelow};
-ghost use Rattle.jobs.specs.Rows.{segmentsOf};
-ghost use Rattle.jobs.specs.Lines.{above, badValue, badBounds, badList, badSegment, badWeight};
+ghost use Rattle.jobs.specs.Rows.{segmentsOf, usesOf, fixedUsesOf};
+ghost use Rattle.jobs.specs.Lines.{above, badValue, badBounds, badList, badSegment, badDef, badDefAt, badWeight, badFixedUse, badFixedUseAt};
 use crate::rows;
+use crate::rows::FixedUse;
 use crate::rows::Limits;
 use crate::rows::Segment;
 use numbers::weights;
@@ -38,8 +39,8 @@ pub fn first_bad_weight(weight: &[u32]) -> usize
     first_above(weight, weights::WEIGHT_LIMIT)
 }
 
-// Line 5: a segment's bounds, after one that ended at `last`.
-fn bounds_are_bad(limits: Limits, last: u32, s: Segment) -> bool
+// Line 5: a segment's bounds, value and flags, after the segment `last`.
+fn bounds_are_bad(limits: Limits, last: Segment, s: Segment) -> bool
     ensures { λ r. ⌜ r ≡ badBounds limits last s ⌝ }
 {
     if s.end <= s.start {
@@ -54,7 +55,7 @@ fn bounds_are_bad(limits: Limits, last: u32, s: Segment) -> bool
     if s.end > limits.end {
         return true;
     }
-    if s.start < last {
+    if s.start < last.end {
         return true;
     }
     if s.value as usize >= limits.values {
@@ -63,11 +64,11 @@ fn bounds_are_bad(limits: Limits, last: u32, s: Segment) -> bool
     s.flags > 15
 }
 
-// Line 5: a segment's use list, after one that ended at `from`; the last segment's list ends with the uses.
-fn list_is_bad(limits: Limits, from: u32, is_last: bool, s: Segment) -> bool
-    ensures { λ r. ⌜ r ≡ badList limits from «is_last» s ⌝ }
+// Line 5: a segment's use list, after that of the segment `last`; the last segment's list ends with the uses.
+fn list_is_bad(limits: Limits, last: Segment, is_last: bool, s: Segment) -> bool
+    ensures { λ r. ⌜ r ≡ badList limits last «is_last» s ⌝ }
 {
-    if s.first_use != from {
+    if s.first_use != last.end_use {
         return true;
     }
     if s.end_use < s.first_use {
@@ -95,19 +96,110 @@ pub fn first_bad_segment(
     ensures { λ r. ⌜ r ≡ firstBelow (badSegment limits (segmentsOf (now (start .entry)) (now (end .entry)) (now (value .entry)) (now («first_use» .entry)) (now («end_use» .entry)) (now (flags .entry)))) (length (segmentsOf (now (start .entry)) (now (end .entry)) (now (value .entry)) (now («first_use» .entry)) (now («end_use» .entry)) (now (flags .entry)))) ⌝ }
 {
     let n = rows::segment_count(start, end, value, first_use, end_use, flags);
-    let mut last: u32 = 0;
-    let mut from: u32 = 0;
+    let mut last = rows::no_segment();
     let mut i = 0;
     while i < n {
         let s = rows::segment_at(start, end, value, first_use, end_use, flags, i);
         if bounds_are_bad(limits, last, s) {
             return i;
         }
-        if list_is_bad(limits, from, i + 1 == n, s) {
+        if list_is_bad(limits, last, i + 1 == n, s) {
             return i;
         }
-        last = s.end;
-        from = s.end_use;
+        last = s;
+        i += 1;
+    }
+    n
+}
+
+// Line 6: a segment with a fixed def whose start is no Boundary of instruction 1 or later, or whose first use is missing or is no
+// fixed def at the instruction before. The use has not been checked: it may hold anything.
+fn def_is_bad(position: &[u32], kind: &[u32], cost: &[u32], s: Segment) -> bool
+    ensures { λ r. ⌜ r ≡ badDef (usesOf (now (position .entry)) (now (kind .entry)) (now (cost .entry))) s ⌝ }
+{
+    if !s.has_fixeddef() {
+        return false;
+    }
+    if s.start % 4 != 0 {
+        return true;
+    }
+    if s.start < 4 {
+        return true;
+    }
+    if s.end_use <= s.first_use {
+        return true;
+    }
+    let u = rows::use_or_none(position, kind, cost, s.first_use as usize);
+    if u.kind != 0 {
+        return true;
+    }
+    u.position != s.start / 4 - 1
+}
+
+// Line 6: the first segment whose fixed def is not as it must be.
+pub fn first_bad_def(
+    start: &[u32],
+    end: &[u32],
+    value: &[u32],
+    first_use: &[u32],
+    end_use: &[u32],
+    flags: &[u32],
+    position: &[u32],
+    kind: &[u32],
+    cost: &[u32],
+) -> usize
+    ensures { λ r. ⌜ r ≡ firstBelow (badDefAt (usesOf (now (position .entry)) (now (kind .entry)) (now (cost .entry))) (segmentsOf (now (start .entry)) (now (end .entry)) (now (value .entry)) (now («first_use» .entry)) (now («end_use» .entry)) (now (flags .entry)))) (length (segmentsOf (now (start .entry)) (now (end .entry)) (now (value .entry)) (now («first_use» .entry)) (now («end_use» .entry)) (now (flags .entry)))) ⌝ }
+{
+    let n = rows::segment_count(start, end, value, first_use, end_use, flags);
+    let mut i = 0;
+    while i < n {
+        let s = rows::segment_at(start, end, value, first_use, end_use, flags, i);
+        if def_is_bad(position, kind, cost, s) {
+            return i;
+        }
+        i += 1;
+    }
+    n
+}
+
+// Line 11: a fixed use after the fixed use `last`.
+fn fixed_use_is_bad(limits: Limits, last: FixedUse, f: FixedUse) -> bool
+    ensures { λ r. ⌜ r ≡ badFixedUse limits last f ⌝ }
+{
+    if f.unit >= limits.units {
+        return true;
+    }
+    if f.unit < last.unit {
+        return true;
+    }
+    if f.value as usize >= limits.values {
+        return true;
+    }
+    if f.point % 4 != 0 {
+        return true;
+    }
+    if f.point >= limits.end {
+        return true;
+    }
+    if f.unit == last.unit {
+        return f.point < last.point;
+    }
+    false
+}
+
+// Line 11: the first bad fixed use.
+pub fn first_bad_fixed_use(unit: &[u32], point: &[u32], value: &[u32], limits: Limits) -> usize
+    ensures { λ r. ⌜ r ≡ firstBelow (badFixedUseAt limits (fixedUsesOf (now (unit .entry)) (now (point .entry)) (now (value .entry)))) (length (fixedUsesOf (now (unit .entry)) (now (point .entry)) (now (value .entry)))) ⌝ }
+{
+    let n = rows::fixed_use_count(unit, point, value);
+    let mut last = rows::no_fixed_use();
+    let mut i = 0;
+    while i < n {
+        let f = rows::fixed_use_at(unit, point, value, i);
+        if fixed_use_is_bad(limits, last, f) {
+            return i;
+        }
+        last = f;
         i += 1;
     }
     n

@@ -2,7 +2,7 @@
 ghost use mathlib.Core.Path.{_≡_};
 ghost use Prim.Native.Nat.{_<_, min};
 ghost use lib.ListN.{length, getD};
-ghost use Rattle.jobs.specs.Rows.{segmentsOf, segmentRow, usesOf, useRow, fixedUsesOf, fixedUseRow, liveOut, fixedDef};
+ghost use Rattle.jobs.specs.Rows.{segmentsOf, segmentRow, usesOf, useRow, noSegment, noUse, noFixedUse, fixedUsesOf, fixedUseRow, liveOut, fixedDef};
 
 // A segment of the virtual register: points from start to end, its value, its uses from first to before end, and flags: 1
 // live-in, 2 live-out, 4 fixed hint, 8 fixed def.
@@ -54,6 +54,31 @@ pub fn shorter(a: usize, b: usize) -> usize
     if a < b { a } else { b }
 }
 
+// No segment, as it stands before the first.
+pub fn no_segment() -> Segment
+    ensures { λ r. ⌜ r ≡ noSegment ⌝ }
+{
+    Segment {
+        start: 0,
+        end: 0,
+        value: 0,
+        first_use: 0,
+        end_use: 0,
+        flags: 0,
+    }
+}
+
+// No fixed use, as it stands before the first.
+pub fn no_fixed_use() -> FixedUse
+    ensures { λ r. ⌜ r ≡ noFixedUse ⌝ }
+{
+    FixedUse {
+        unit: 0,
+        point: 0,
+        value: 0,
+    }
+}
+
 // A number of a column.
 pub fn cell(col: &[u32], i: usize) -> u32
     requires { ⌜ i < length (now col) ⌝ }
@@ -100,6 +125,61 @@ pub fn segment_at(
         first_use: cell(first_use, i),
         end_use: cell(end_use, i),
         flags: cell(flags, i),
+    }
+}
+
+// How many uses there are.
+pub fn use_count(position: &[u32], kind: &[u32], cost: &[u32]) -> usize
+    ensures { λ r. ⌜ r ≡ length (usesOf (now (position .entry)) (now (kind .entry)) (now (cost .entry))) ⌝ }
+{
+    let b = shorter(kind.len(), cost.len());
+    shorter(position.len(), b)
+}
+
+// Use i.
+pub fn use_at(position: &[u32], kind: &[u32], cost: &[u32], i: usize) -> Use
+    requires { ⌜ i < length (usesOf (now position) (now kind) (now cost)) ⌝ }
+    ensures { λ r. ⌜ r ≡ useRow (now (position .entry)) (now (kind .entry)) (now (cost .entry)) i ⌝ }
+{
+    Use {
+        position: cell(position, i),
+        kind: cell(kind, i),
+        cost: cell(cost, i),
+    }
+}
+
+// Use i, or no use past the last.
+pub fn use_or_none(position: &[u32], kind: &[u32], cost: &[u32], i: usize) -> Use
+    ensures { λ r. ⌜ r ≡ getD (usesOf (now (position .entry)) (now (kind .entry)) (now (cost .entry))) i noUse ⌝ }
+{
+    let n = use_count(position, kind, cost);
+    if i < n {
+        return use_at(position, kind, cost, i);
+    }
+    Use {
+        position: 0,
+        kind: 0,
+        cost: 0,
+    }
+}
+
+// How many fixed uses there are.
+pub fn fixed_use_count(unit: &[u32], point: &[u32], value: &[u32]) -> usize
+    ensures { λ r. ⌜ r ≡ length (fixedUsesOf (now (unit .entry)) (now (point .entry)) (now (value .entry))) ⌝ }
+{
+    let b = shorter(point.len(), value.len());
+    shorter(unit.len(), b)
+}
+
+// Fixed use i.
+pub fn fixed_use_at(unit: &[u32], point: &[u32], value: &[u32], i: usize) -> FixedUse
+    requires { ⌜ i < length (fixedUsesOf (now unit) (now point) (now value)) ⌝ }
+    ensures { λ r. ⌜ r ≡ fixedUseRow (now (unit .entry)) (now (point .entry)) (now (value .entry)) i ⌝ }
+{
+    FixedUse {
+        unit: cell(unit, i),
+        point: cell(point, i),
+        value: cell(value, i),
     }
 }
 

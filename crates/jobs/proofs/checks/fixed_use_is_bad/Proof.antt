@@ -1,0 +1,45 @@
+-- `fixed_use_is_bad` finds the first part of its definition that holds
+use mathlib.Core.Path.{refl, sym, ap}
+use mathlib.Core.Bool.{not}
+use borrow.Author.Tests.{lt-ltb, le-ltb, le-leb, lt-leb, eq-eqb, ne-eqb}
+use Rattle.jobs.specs.Lines.{badFixedUse}
+use Rattle.jobs.proofs.Walk.{or-first, or-second, or-none, and-both, and-first}
+use borrow.Author.Needs.{needs}
+use Rattle.jobs.proofs.checks.fixed_use_is_bad.Statement.{statement}
+use Rattle.jobs.proofs.checks.fixed_use_is_bad.Tie as tie
+
+returns : tie.Need-returns
+unfolding badFixedUse
+returns c = sym (or-first _ _ (or-first _ _ (or-first _ _ (or-first _ _ (or-first _ _ (le-leb _ _ (c .if1 .taken)))))))
+
+returns-2 : tie.Need-returns-2
+unfolding badFixedUse
+returns-2 c = sym (or-first _ _ (or-first _ _ (or-first _ _ (or-first _ _ (or-second _ _ _ (lt-leb _ _ (c .before .before .before .if1 .left)) (lt-ltb _ _ (c .if2 .taken)))))))
+
+cast-if3 : tie.Need-cast-if3
+cast-if3 c = search needs
+
+returns-3 : tie.Need-returns-3
+unfolding badFixedUse
+returns-3 c = sym (or-first _ _ (or-first _ _ (or-first _ _ (or-second _ _ _ (or-none (lt-leb _ _ (c .before .before .before .before .before .before .if1 .left)) (le-ltb _ _ (c .before .before .before .if2 .left))) (le-leb _ _ (c .if3 .taken))))))
+
+returns-4 : tie.Need-returns-4
+unfolding badFixedUse
+returns-4 c = sym (or-first _ _ (or-first _ _ (or-second _ _ _ (or-none (or-none (lt-leb _ _ (c .before .before .before .before .before .before .before .before .if1 .left)) (le-ltb _ _ (c .before .before .before .before .before .if2 .left))) (lt-leb _ _ (c .before .before .if3 .left))) (ap not (ne-eqb _ _ (c .if4 .taken))))))
+
+returns-5 : tie.Need-returns-5
+unfolding badFixedUse
+returns-5 c = sym (or-first _ _ (or-second _ _ _ (or-none (or-none (or-none (lt-leb _ _ (c .before .before .before .before .before .before .before .before .before .before .before .if1 .left)) (le-ltb _ _ (c .before .before .before .before .before .before .before .before .if2 .left))) (lt-leb _ _ (c .before .before .before .before .before .if3 .left))) (ap not (eq-eqb _ _ (c .before .before .before .if4 .left)))) (le-leb _ _ (c .if5 .taken))))
+
+returns-6 : tie.Need-returns-6
+unfolding badFixedUse
+returns-6 c = sym (or-second _ _ _ (or-none (or-none (or-none (or-none (lt-leb _ _ (c .before .before .before .before .before .before .before .before .before .before .before .before .before .before .before .before .if1 .left)) (le-ltb _ _ (c .before .before .before .before .before .before .before .before .before .before .before .before .before .if2 .left))) (lt-leb _ _ (c .before .before .before .before .before .before .before .before .before .before .if3 .left))) (ap not (eq-eqb _ _ (c .before .before .before .before .before .before .before .before .if4 .left)))) (lt-leb _ _ (c .before .before .before .before .before .if5 .left))) (and-both _ _ _ (eq-eqb _ _ (c .before .before .if6 .taken)) refl))
+
+returns-7 : tie.Need-returns-7
+unfolding badFixedUse
+returns-7 c = sym (or-second _ _ _ (or-none (or-none (or-none (or-none (lt-leb _ _ (c .before .before .before .before .before .before .before .before .before .before .before .before .before .before .if1 .left)) (le-ltb _ _ (c .before .before .before .before .before .before .before .before .before .before .before .if2 .left))) (lt-leb _ _ (c .before .before .before .before .before .before .before .before .if3 .left))) (ap not (eq-eqb _ _ (c .before .before .before .before .before .before .if4 .left)))) (lt-leb _ _ (c .before .before .before .if5 .left))) (and-first _ _ (ne-eqb _ _ (c .if6 .left))))
+
+pub fixed-use-is-bad-spec : {M : Type 1} → statement M
+fixed-use-is-bad-spec =
+    tie.close
+    (tie.spec returns returns-2 cast-if3 returns-3 returns-4 returns-5 returns-6 returns-7)

@@ -1,0 +1,34 @@
+-- `use_or_none` reads the row where there is one
+use mathlib.Core.Path.{sym, _∙_}
+use mathlib.Core.List.{[], _∷_}
+use Prim.Native.Nat.{ℕ, _<_, _≤_}
+use native.Mathlib.Nat.{lt-of-lt-of-le, le-trans, le-of-eq}
+use lib.ListN.{length}
+use Rattle.links.specs.Table.{shortest}
+use Rattle.links.proofs.Tables.{table-past, table-length}
+use Rattle.jobs.specs.Rows.{useRow, noUse}
+use Rattle.jobs.proofs.Walk.{own-row}
+use borrow.Author.Needs.{needs}
+use Rattle.jobs.proofs.rows.use_or_none.Statement.{statement}
+use Rattle.jobs.proofs.rows.use_or_none.Tie as tie
+
+use-count-requires : tie.Need-use-count-requires
+use-count-requires c κs = search needs
+
+use-at-requires : tie.Need-use-at-requires
+use-at-requires c κs = lt-of-lt-of-le (c .if1 .taken) (le-of-eq (c .before .use-count .ensures))
+
+returns : tie.Need-returns
+returns c =
+    let s = c .before .before .before .before .before .before in
+    own-row (useRow (s .args .position .now) (s .args .kind .now) (s .args .cost .now)) (shortest (length (s .args .position .now) ∷ length (s .args .kind .now) ∷ length (s .args .cost .now) ∷ [])) (s .args .i) noUse _ (c .use-at .ensures) (lt-of-lt-of-le (c .before .if1 .taken) (le-of-eq (c .before .before .use-count .ensures)))
+
+returns-2 : tie.Need-returns-2
+returns-2 c =
+    let s = c .before .before .before .before .before in
+    let r = useRow (s .args .position .now) (s .args .kind .now) (s .args .cost .now) in
+    let n = shortest (length (s .args .position .now) ∷ length (s .args .kind .now) ∷ length (s .args .cost .now) ∷ []) in
+    sym (table-past r n (s .args .i) noUse (le-trans (le-of-eq (sym (table-length r n))) (le-trans (le-of-eq (sym (c .before .use-count .ensures))) (c .if1 .left))))
+
+pub use-or-none-spec : {M : Type 1} → statement M
+use-or-none-spec = tie.close (tie.spec use-count-requires use-at-requires returns returns-2)
