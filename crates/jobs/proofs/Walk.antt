@@ -1,6 +1,6 @@
 -- A walk over a table's rows: what the row before says, the row itself, and tests joined by "or"
 use mathlib.Core.Path.{_≡_, refl, sym, ap, _∙_}
-use mathlib.Core.Bool.{Bool, true, false, _&&_, _||_}
+use mathlib.Core.Bool.{Bool, true, false, _&&_, _||_, cond}
 use mathlib.Core.List.{List}
 use Prim.Native.Nat.{ℕ, _+_, _<_, min}
 use native.Mathlib.Nat.{lt-of-lt-of-le, le-of-eq}
@@ -37,3 +37,10 @@ and-first a b p = rw p
 -- three columns' shortest
 pub shortest-three : (a b c m r : ℕ) → m ≡ min b c → r ≡ min a m → r ≡ min a (min b c)
 shortest-three a b c m r p q = q ∙ ap (min a) p
+
+-- a choice whose test is known
+pub pick-first : {A : Type 0} (t : Bool) (x y r : A) → t ≡ true → x ≡ r → cond t x y ≡ r
+pick-first t x y r p q = rw p q
+
+pub pick-second : {A : Type 0} (t : Bool) (x y r : A) → t ≡ false → y ≡ r → cond t x y ≡ r
+pick-second t x y r p q = rw p q

@@ -48,7 +48,7 @@ badDef uses s =
     let u = getD uses (s .«first_use») noUse in
     fixedDef (s .flags) && (not (eqb (s .start % 4) 0) || ltb (s .start) 4 || leb (s .«end_use») (s .«first_use») || not (eqb (u .kind) 0) || not (eqb (u .position) (s .start / 4 - 1)))
 
--- line 8, of a segment: live-out, and its end isn't a Boundary or it has a use at its end's instruction; or the last one, not live-out, without a use or ending later than one instruction after its last use
+-- line 8, of a segment: live-out, and its end isn't a Boundary or its last use, which is its highest, is at its end's instruction; or the last one, not live-out, without a use or ending later than one instruction after its last use
 unfoldable pub badEnd : List Use → Bool → Segment → Bool
 badEnd uses isLast s =
     let missing = leb (s .«end_use») (s .«first_use») in

@@ -4,11 +4,12 @@ ghost use mathlib.Core.Bool.{_||_};
 ghost use lib.ListN.{length};
 ghost use Rattle.links.specs.First.{firstBelow};
 ghost use Rattle.jobs.specs.Rows.{segmentsOf, usesOf, fixedUsesOf};
-ghost use Rattle.jobs.specs.Lines.{above, badValue, badBounds, badList, badSegment, badDef, badDefAt, badWeight, badFixedUse, badFixedUseAt};
+ghost use Rattle.jobs.specs.Lines.{above, badValue, badBounds, badList, badSegment, badDef, badDefAt, badEnd, badEndAt, badWeight, badFixedUse, badFixedUseAt};
 use crate::rows;
 use crate::rows::FixedUse;
 use crate::rows::Limits;
 use crate::rows::Segment;
+use numbers::Point;
 use numbers::weights;
 
 // The first number above a limit.
@@ -155,6 +156,57 @@ pub fn first_bad_def(
     while i < n {
         let s = rows::segment_at(start, end, value, first_use, end_use, flags, i);
         if def_is_bad(position, kind, cost, s) {
+            return i;
+        }
+        i += 1;
+    }
+    n
+}
+
+// Line 8: the end of a segment does not fit its flags and its last use.
+fn end_is_bad(position: &[u32], kind: &[u32], cost: &[u32], is_last: bool, s: Segment) -> bool
+    ensures { λ r. ⌜ r ≡ badEnd (usesOf (now (position .entry)) (now (kind .entry)) (now (cost .entry))) «is_last» s ⌝ }
+{
+    if s.has_liveout() {
+        if s.end % 4 != 0 {
+            return true;
+        }
+        if s.end_use <= s.first_use {
+            return false;
+        }
+        let u = rows::use_or_none(position, kind, cost, (s.end_use - 1) as usize);
+        return u.position == s.end / 4;
+    }
+    if !is_last {
+        return false;
+    }
+    if s.end_use <= s.first_use {
+        return true;
+    }
+    let u = rows::use_or_none(position, kind, cost, (s.end_use - 1) as usize);
+    let end = Point(s.end).round_to_next_inst();
+    (u.position as u64) + 1 < (end.0 as u64)
+}
+
+// Line 8: the first segment whose end is bad.
+pub fn first_bad_end(
+    start: &[u32],
+    end: &[u32],
+    value: &[u32],
+    first_use: &[u32],
+    end_use: &[u32],
+    flags: &[u32],
+    position: &[u32],
+    kind: &[u32],
+    cost: &[u32],
+) -> usize
+    ensures { λ r. ⌜ r ≡ firstBelow (badEndAt (usesOf (now (position .entry)) (now (kind .entry)) (now (cost .entry))) (segmentsOf (now (start .entry)) (now (end .entry)) (now (value .entry)) (now («first_use» .entry)) (now («end_use» .entry)) (now (flags .entry)))) (length (segmentsOf (now (start .entry)) (now (end .entry)) (now (value .entry)) (now («first_use» .entry)) (now («end_use» .entry)) (now (flags .entry)))) ⌝ }
+{
+    let n = rows::segment_count(start, end, value, first_use, end_use, flags);
+    let mut i = 0;
+    while i < n {
+        let s = rows::segment_at(start, end, value, first_use, end_use, flags, i);
+        if end_is_bad(position, kind, cost, i + 1 == n, s) {
             return i;
         }
         i += 1;

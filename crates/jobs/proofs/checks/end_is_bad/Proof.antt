@@ -1,0 +1,91 @@
+-- `end_is_bad` finds the part of its definition that holds
+use mathlib.Core.Path.{_≡_, refl, sym, ap, ap₂, _∙_}
+use mathlib.Core.Bool.{Bool, true, false, not}
+use Prim.Native.Nat.{ℕ, _+_, _/_}
+use lib.Dec.{eqb, ltb}
+use borrow.Author.Tests.{le-leb, lt-leb, eq-eqb, ne-eqb, not-true, not-false}
+use Rattle.jobs.specs.declared.rows.Use.{Use}
+use Rattle.jobs.specs.Lines.{badEnd}
+use Rattle.jobs.proofs.Walk.{or-first, or-second, and-both, and-first, pick-first, pick-second}
+use borrow.Author.Needs.{needs}
+use Rattle.jobs.proofs.checks.end_is_bad.Statement.{statement}
+use Rattle.jobs.proofs.checks.end_is_bad.Tie as tie
+
+has-liveout-requires : tie.Need-has-liveout-requires
+has-liveout-requires c κs = search needs
+
+returns : tie.Need-returns
+unfolding badEnd
+returns c = sym (pick-first _ _ _ _ (sym (c .before .before .before .has-liveout .ensures) ∙ c .before .before .if1 .taken) (or-first _ _ (ap not (ne-eqb _ _ (c .if2 .taken)))))
+
+returns-2 : tie.Need-returns-2
+unfolding badEnd
+returns-2 c = sym (pick-first _ _ _ _ (sym (c .before .before .before .before .before .has-liveout .ensures) ∙ c .before .before .before .before .if1 .taken) (or-second _ _ _ (ap not (eq-eqb _ _ (c .before .before .if2 .left))) (and-first _ _ (ap not (le-leb _ _ (c .if3 .taken))))))
+
+sub-use-or-none : tie.Need-sub-use-or-none
+sub-use-or-none c = search needs
+
+cast-use-or-none : tie.Need-cast-use-or-none
+cast-use-or-none c = search needs
+
+use-or-none-requires : tie.Need-use-or-none-requires
+use-or-none-requires c κs = search needs
+
+returns-3 : tie.Need-returns-3
+unfolding badEnd
+returns-3 c = sym (pick-first _ _ _ _ (sym (c .before .before .before .before .before .before .before .before .before .has-liveout .ensures) ∙ c .before .before .before .before .before .before .before .before .if1 .taken) (or-second _ _ _ (ap not (eq-eqb _ _ (c .before .before .before .before .before .before .if2 .left))) (and-both _ _ _ (ap not (lt-leb _ _ (c .before .before .before .before .if3 .left))) (ap (λ (u : Use). eqb (u .position) (c .before .before .before .before .before .before .before .before .before .before .before .before .before .args .s .end / 4)) (sym (c .before .before .use-or-none .ensures))))))
+
+returns-4 : tie.Need-returns-4
+unfolding badEnd
+returns-4 c = sym (pick-second _ _ _ _ (sym (c .before .before .has-liveout .ensures) ∙ c .before .if1 .left) (and-first _ _ (not-true (c .before .before .before .before .before .before .args .is-last) (c .if4 .taken))))
+
+returns-5 : tie.Need-returns-5
+unfolding badEnd
+returns-5 c = sym (pick-second _ _ _ _ (sym (c .before .before .before .before .has-liveout .ensures) ∙ c .before .before .before .if1 .left) (and-both _ _ _ (not-false (c .before .before .before .before .before .before .before .before .args .is-last) (c .before .before .if4 .left)) (or-first _ _ (le-leb _ _ (c .if5 .taken)))))
+
+sub-use-or-none-2 : tie.Need-sub-use-or-none-2
+sub-use-or-none-2 c = search needs
+
+cast-use-or-none-2 : tie.Need-cast-use-or-none-2
+cast-use-or-none-2 c = search needs
+
+use-or-none-requires-2 : tie.Need-use-or-none-requires-2
+use-or-none-requires-2 c κs = search needs
+
+round-to-next-inst-requires : tie.Need-round-to-next-inst-requires
+round-to-next-inst-requires c κs = search needs
+
+cast-result : tie.Need-cast-result
+cast-result c = search needs
+
+add-result : tie.Need-add-result
+add-result c = search needs
+
+cast-result-2 : tie.Need-cast-result-2
+cast-result-2 c = search needs
+
+returns-6 : tie.Need-returns-6
+unfolding badEnd
+returns-6 c = sym (pick-second _ _ _ _ (sym (c .before .before .before .before .before .before .before .before .before .has-liveout .ensures) ∙ c .before .before .before .before .before .before .before .before .if1 .left) (and-both _ _ _ (not-false (c .before .before .before .before .before .before .before .before .before .before .before .before .before .args .is-last) (c .before .before .before .before .before .before .before .if4 .left)) (or-second _ _ _ (lt-leb _ _ (c .before .before .before .before .before .if5 .left)) (ap₂ (λ (u : Use) (e : ℕ). ltb (u .position + 1) e) (sym (c .before .before .before .use-or-none2 .ensures)) (sym (c .before .before .round-to-next-inst .ensures))))))
+
+pub end-is-bad-spec : {M : Type 1} → statement M
+end-is-bad-spec =
+    tie.close
+    (tie.spec
+    has-liveout-requires
+    returns
+    returns-2
+    sub-use-or-none
+    cast-use-or-none
+    use-or-none-requires
+    returns-3
+    returns-4
+    returns-5
+    sub-use-or-none-2
+    cast-use-or-none-2
+    use-or-none-requires-2
+    round-to-next-inst-requires
+    cast-result
+    add-result
+    cast-result-2
+    returns-6)
