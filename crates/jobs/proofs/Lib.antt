@@ -1,2 +1,3 @@
 -- What the checks share
 pub mod Walk
+pub mod UseLists

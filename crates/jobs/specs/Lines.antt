@@ -1,11 +1,13 @@
 -- Document 01's table, lines 4 to 11: what breaks each line, by place
-use Prim.Native.Nat.{ℕ, zero, suc, _+_, _-_, _*_, _/_, _%_}
+use mathlib.Core.Path.{_≡_}
+use Prim.Native.Nat.{ℕ, zero, suc, _+_, _-_, _*_, _/_, _%_, _≤_, _<_}
 use mathlib.Core.Bool.{Bool, true, false, not, _&&_, _||_, cond}
 use mathlib.Core.List.{List, [], _∷_}
 use lib.Dec.{leb, ltb, eqb}
 use lib.ListN.{length, getD}
 use Rattle.numbers.specs.Weight.{weightLimit, costLimit}
 use Rattle.numbers.specs.Point.{roundUp}
+use Rattle.links.specs.First.{firstBelow}
 use Rattle.jobs.specs.Rows.{noSegment, noUse, noReservation, noFixedUse, liveOut, fixedDef}
 use Rattle.jobs.specs.declared.rows.Segment.{Segment}
 use Rattle.jobs.specs.declared.rows.Use.{Use}
@@ -76,3 +78,68 @@ badFixedUse limits last f =
 -- fixed use i breaks line 11
 abbrev pub badFixedUseAt : Limits → List FixedUse → ℕ → Bool
 badFixedUseAt limits fixedUses i = badFixedUse limits (rowBefore fixedUses noFixedUse i) (getD fixedUses i noFixedUse)
+
+-- how many numbers below n pass a test
+unfoldable pub countBelow : (ℕ → Bool) → ℕ → ℕ
+countBelow test zero = 0
+countBelow test (suc n) = countBelow test n + cond (test n) 1 0
+
+-- how many fixed uses a unit has, wherever they stand
+abbrev pub fixedOf : List FixedUse → ℕ → ℕ
+fixedOf fixedUses unit = countBelow (λ (i : ℕ). eqb (getD fixedUses i noFixedUse .unit) unit) (length fixedUses)
+
+-- the fixed row of a reservation that has none
+abbrev pub noFixed : ℕ
+noFixed = 4294967295
+
+-- line 10, of a row after another: unit unknown or falling, or a span that is empty, has slot 3, passes the last block's end or, within a unit, starts before the other's end
+unfoldable pub badSpan : Limits → Reservation → Reservation → Bool
+badSpan limits last r =
+    leb (limits .units) (r .unit) || ltb (r .unit) (last .unit) || leb (r .end) (r .start) || eqb (r .start % 4) 3 || eqb (r .end % 4) 3 || ltb (limits .end) (r .end)
+    || (eqb (r .unit) (last .unit) && ltb (r .start) (last .end))
+
+-- line 10, of a row whose unit has a number of fixed uses: kind 0 with a spill weight and a fixed row or none, kind 1 with 0 and 0, kind 2 with a value and 0; anything else is bad
+unfoldable pub badKind : Limits → ℕ → Reservation → Bool
+badKind limits have r =
+    cond (eqb (r .kind) 0) (leb (limits .weights) (r .index) || (not (eqb (r .fixed) noFixed) && leb have (r .fixed)))
+    (not (eqb (r .fixed) 0) || cond (eqb (r .kind) 1) (not (eqb (r .index) 0)) (not (eqb (r .kind) 2) || leb (limits .values) (r .index)))
+
+-- reservation i breaks line 10
+abbrev pub badReservation : Limits → List FixedUse → List Reservation → ℕ → Bool
+badReservation limits fixedUses reservations i =
+    badSpan limits (rowBefore reservations noReservation i) (getD reservations i noReservation)
+    || badKind limits (fixedOf fixedUses (getD reservations i noReservation .unit)) (getD reservations i noReservation)
+
+-- the largest cost field of a kind: fixed uses 1 for memory, class uses the cost limit, others 0
+abbrev pub costMost : ℕ → ℕ
+costMost kind = cond (ltb kind 2) 1 (cond (ltb kind 4) 0 (cond (ltb kind 8) costLimit 0))
+
+-- a use at an instruction needs 4 × (instruction + 1) above the start and 4 × instruction at most the end
+abbrev pub outside : Segment → Use → Bool
+outside s u = leb (4 * (u .position + 1)) (s .start) || ltb (s .end) (4 * u .position)
+
+-- line 7, of a use of a segment after another use: kind above 9, bad cost field, position falling within the segment, at or past the last block's end, or outside the segment, from which the first use of a fixed def is free
+unfoldable pub badUse : Limits → Segment → Bool → Use → Use → Bool
+badUse limits s isFirst last u =
+    ltb 9 (u .kind) || ltb (costMost (u .kind)) (u .cost) || leb (limits .end) (4 * u .position) || (not isFirst && ltb (u .position) (last .position))
+    || (not (isFirst && fixedDef (s .flags)) && outside s u)
+
+-- the segment that lists a use
+abbrev pub listOf : List Segment → ℕ → ℕ
+listOf segments u = firstBelow (λ (i : ℕ). ltb u (getD segments i noSegment .«end_use»)) (length segments)
+
+-- use u of segment s breaks line 7
+abbrev pub badUseOf : Limits → List Use → Segment → ℕ → Bool
+badUseOf limits uses s u = badUse limits s (eqb u (s .«first_use»)) (rowBefore uses noUse u) (getD uses u noUse)
+
+-- use u breaks line 7
+abbrev pub badUseAt : Limits → List Use → List Segment → ℕ → Bool
+badUseAt limits uses segments u = badUseOf limits uses (getD segments (listOf segments u) noSegment) u
+
+-- what line 7 relies on: use lists that follow one another from the first use to the last, as line 5 leaves them
+pub record Lists (uses : ℕ) (segments : List Segment) : Type 0 where
+  pub some : 0 < length segments
+  pub follows : (i : ℕ) → i < length segments → getD segments i noSegment .«first_use» ≡ rowBefore segments noSegment i .«end_use»
+  pub forward : (i : ℕ) → i < length segments → getD segments i noSegment .«first_use» ≤ getD segments i noSegment .«end_use»
+  pub inside : (i : ℕ) → i < length segments → getD segments i noSegment .«end_use» ≤ uses
+  pub all : rowBefore segments noSegment (length segments) .«end_use» ≡ uses

@@ -2,13 +2,16 @@
 ghost use mathlib.Core.Path.{_≡_};
 ghost use mathlib.Core.Bool.{_||_};
 ghost use lib.ListN.{length};
-ghost use Rattle.links.specs.First.{firstBelow};
-ghost use Rattle.jobs.specs.Rows.{segmentsOf, usesOf, fixedUsesOf};
-ghost use Rattle.jobs.specs.Lines.{above, badValue, badBounds, badList, badSegment, badDef, badDefAt, badEnd, badEndAt, badWeight, badFixedUse, badFixedUseAt};
+ghost use Rattle.links.specs.First.{firstBelow, FirstIn};
+ghost use Prim.Native.Nat.{_≤_};
+ghost use Rattle.jobs.specs.Rows.{segmentsOf, usesOf, reservationsOf, fixedUsesOf};
+ghost use Rattle.jobs.specs.Lines.{above, badValue, badBounds, badList, badSegment, badDef, badDefAt, badEnd, badEndAt, badWeight, fixedOf, badSpan, badKind, badReservation, badFixedUse, badFixedUseAt, costMost, outside, badUse, badUseOf, badUseAt, Lists};
 use crate::rows;
 use crate::rows::FixedUse;
 use crate::rows::Limits;
+use crate::rows::Reservation;
 use crate::rows::Segment;
+use crate::rows::Use;
 use numbers::Point;
 use numbers::weights;
 
@@ -255,4 +258,216 @@ pub fn first_bad_fixed_use(unit: &[u32], point: &[u32], value: &[u32], limits: L
         i += 1;
     }
     n
+}
+
+// How many fixed uses a unit has, in whatever order they stand.
+fn fixed_count(f_unit: &[u32], point: &[u32], value: &[u32], u: u32) -> usize
+    ensures { λ r. ⌜ r ≡ fixedOf (fixedUsesOf (now («f_unit» .entry)) (now (point .entry)) (now (value .entry))) u ⌝ }
+{
+    let n = rows::fixed_use_count(f_unit, point, value);
+    let mut have: usize = 0;
+    let mut i = 0;
+    while i < n {
+        let f = rows::fixed_use_at(f_unit, point, value, i);
+        if f.unit == u {
+            have += 1;
+        }
+        i += 1;
+    }
+    have
+}
+
+// Line 10: a reservation's unit and span, after the reservation `last`.
+fn span_is_bad(limits: Limits, last: Reservation, r: Reservation) -> bool
+    ensures { λ b. ⌜ b ≡ badSpan limits last r ⌝ }
+{
+    if r.unit >= limits.units {
+        return true;
+    }
+    if r.unit < last.unit {
+        return true;
+    }
+    if r.end <= r.start {
+        return true;
+    }
+    if r.start % 4 == 3 {
+        return true;
+    }
+    if r.end % 4 == 3 {
+        return true;
+    }
+    if r.end > limits.end {
+        return true;
+    }
+    if r.unit == last.unit {
+        return r.start < last.end;
+    }
+    false
+}
+
+// Line 10: a reservation's kind, index and fixed row, where its unit has `have` fixed uses.
+fn kind_is_bad(limits: Limits, have: usize, r: Reservation) -> bool
+    ensures { λ b. ⌜ b ≡ badKind limits have r ⌝ }
+{
+    if r.kind == 0 {
+        if r.index as usize >= limits.weights {
+            return true;
+        }
+        if r.fixed == 4294967295 {
+            return false;
+        }
+        return r.fixed as usize >= have;
+    }
+    if r.fixed != 0 {
+        return true;
+    }
+    if r.kind == 1 {
+        return r.index != 0;
+    }
+    if r.kind != 2 {
+        return true;
+    }
+    r.index as usize >= limits.values
+}
+
+// Line 10: the first bad reservation. Units do not fall, so a unit's fixed uses are counted once.
+pub fn first_bad_reservation(
+    unit: &[u32],
+    start: &[u32],
+    end: &[u32],
+    kind: &[u32],
+    index: &[u32],
+    fixed: &[u32],
+    f_unit: &[u32],
+    point: &[u32],
+    value: &[u32],
+    limits: Limits,
+) -> usize
+    ensures { λ r. ⌜ r ≡ firstBelow (badReservation limits (fixedUsesOf (now («f_unit» .entry)) (now (point .entry)) (now (value .entry))) (reservationsOf (now (unit .entry)) (now (start .entry)) (now (end .entry)) (now (kind .entry)) (now (index .entry)) (now (fixed .entry)))) (length (reservationsOf (now (unit .entry)) (now (start .entry)) (now (end .entry)) (now (kind .entry)) (now (index .entry)) (now (fixed .entry)))) ⌝ }
+{
+    let n = rows::reservation_count(unit, start, end, kind, index, fixed);
+    let mut have = fixed_count(f_unit, point, value, 0);
+    let mut last = rows::no_reservation();
+    let mut i = 0;
+    while i < n {
+        let r = rows::reservation_at(unit, start, end, kind, index, fixed, i);
+        if span_is_bad(limits, last, r) {
+            return i;
+        }
+        if r.unit != last.unit {
+            have = fixed_count(f_unit, point, value, r.unit);
+        }
+        if kind_is_bad(limits, have, r) {
+            return i;
+        }
+        last = r;
+        i += 1;
+    }
+    n
+}
+
+// The largest cost field of a kind.
+fn cost_most(kind: u32) -> u32
+    ensures { λ r. ⌜ r ≡ costMost kind ⌝ }
+{
+    if kind < 2 {
+        return 1;
+    }
+    if kind < 4 {
+        return 0;
+    }
+    if kind < 8 {
+        return weights::COST_LIMIT;
+    }
+    0
+}
+
+// A use lies outside a segment. The products are made in 64 bits: a position may be any 32-bit number here.
+fn is_outside(s: Segment, u: Use) -> bool
+    ensures { λ r. ⌜ r ≡ outside s u ⌝ }
+{
+    let p = u.position as u64;
+    if 4 * (p + 1) <= (s.start as u64) {
+        return true;
+    }
+    (s.end as u64) < 4 * p
+}
+
+// Line 7: a use of segment s, after the use `last`.
+fn use_is_bad(limits: Limits, s: Segment, is_first: bool, last: Use, u: Use) -> bool
+    ensures { λ r. ⌜ r ≡ badUse limits s «is_first» last u ⌝ }
+{
+    if u.kind > 9 {
+        return true;
+    }
+    if u.cost > cost_most(u.kind) {
+        return true;
+    }
+    if (limits.end as u64) <= 4 * (u.position as u64) {
+        return true;
+    }
+    if is_first {
+        if s.has_fixeddef() {
+            return false;
+        }
+        return is_outside(s, u);
+    }
+    if u.position < last.position {
+        return true;
+    }
+    is_outside(s, u)
+}
+
+// Line 7: the first bad use of segment s, or the end of its list.
+fn first_bad_use_of(
+    position: &[u32],
+    kind: &[u32],
+    cost: &[u32],
+    s: Segment,
+    limits: Limits,
+) -> usize
+    requires { ⌜ (s .«first_use» ≤ s .«end_use») × (s .«end_use» ≤ length (usesOf (now position) (now kind) (now cost))) ⌝ }
+    ensures { λ r. ⌜ FirstIn (badUseOf limits (usesOf (now (position .entry)) (now (kind .entry)) (now (cost .entry))) s) (s .«first_use») (s .«end_use») r ⌝ }
+{
+    let first = s.first_use as usize;
+    let end = s.end_use as usize;
+    let mut i = first;
+    while i < end {
+        let u = rows::use_at(position, kind, cost, i);
+        let last = rows::use_before(position, kind, cost, i);
+        if use_is_bad(limits, s, i == first, last, u) {
+            return i;
+        }
+        i += 1;
+    }
+    i
+}
+
+// Line 7: the first bad use. The use lists are those that line 5 has passed.
+pub fn first_bad_use(
+    start: &[u32],
+    end: &[u32],
+    value: &[u32],
+    first_use: &[u32],
+    end_use: &[u32],
+    flags: &[u32],
+    position: &[u32],
+    kind: &[u32],
+    cost: &[u32],
+    limits: Limits,
+) -> usize
+    requires { ⌜ Lists (length (usesOf (now position) (now kind) (now cost))) (segmentsOf (now start) (now end) (now value) (now «first_use») (now «end_use») (now flags)) ⌝ }
+    ensures { λ r. ⌜ r ≡ firstBelow (badUseAt limits (usesOf (now (position .entry)) (now (kind .entry)) (now (cost .entry))) (segmentsOf (now (start .entry)) (now (end .entry)) (now (value .entry)) (now («first_use» .entry)) (now («end_use» .entry)) (now (flags .entry)))) (length (usesOf (now (position .entry)) (now (kind .entry)) (now (cost .entry)))) ⌝ }
+{
+    let n = rows::segment_count(start, end, value, first_use, end_use, flags);
+    let mut i = 0;
+    while i < n {
+        let s = rows::segment_at(start, end, value, first_use, end_use, flags, i);
+        let bad = first_bad_use_of(position, kind, cost, s, limits);
+        if bad < s.end_use as usize {
+            return bad;
+        }
+        i += 1;
+    }
+    rows::use_count(position, kind, cost)
 }

@@ -2,7 +2,8 @@
 ghost use mathlib.Core.Path.{_≡_};
 ghost use Prim.Native.Nat.{_<_, min};
 ghost use lib.ListN.{length, getD};
-ghost use Rattle.jobs.specs.Rows.{segmentsOf, segmentRow, usesOf, useRow, noSegment, noUse, noFixedUse, fixedUsesOf, fixedUseRow, liveOut, fixedDef};
+ghost use Rattle.jobs.specs.Lines.{rowBefore};
+ghost use Rattle.jobs.specs.Rows.{segmentsOf, segmentRow, usesOf, useRow, noSegment, noUse, noReservation, noFixedUse, reservationsOf, reservationRow, fixedUsesOf, fixedUseRow, liveOut, fixedDef};
 
 // A segment of the virtual register: points from start to end, its value, its uses from first to before end, and flags: 1
 // live-in, 2 live-out, 4 fixed hint, 8 fixed def.
@@ -156,11 +157,17 @@ pub fn use_or_none(position: &[u32], kind: &[u32], cost: &[u32], i: usize) -> Us
     if i < n {
         return use_at(position, kind, cost, i);
     }
-    Use {
-        position: 0,
-        kind: 0,
-        cost: 0,
+    no_use()
+}
+
+// The use before use i, or no use before the first.
+pub fn use_before(position: &[u32], kind: &[u32], cost: &[u32], i: usize) -> Use
+    ensures { λ r. ⌜ r ≡ rowBefore (usesOf (now (position .entry)) (now (kind .entry)) (now (cost .entry))) noUse i ⌝ }
+{
+    if i == 0 {
+        return no_use();
     }
+    use_or_none(position, kind, cost, i - 1)
 }
 
 // How many fixed uses there are.
@@ -180,6 +187,72 @@ pub fn fixed_use_at(unit: &[u32], point: &[u32], value: &[u32], i: usize) -> Fix
         unit: cell(unit, i),
         point: cell(point, i),
         value: cell(value, i),
+    }
+}
+
+// No reservation, as it stands before the first.
+pub fn no_reservation() -> Reservation
+    ensures { λ r. ⌜ r ≡ noReservation ⌝ }
+{
+    Reservation {
+        unit: 0,
+        start: 0,
+        end: 0,
+        kind: 0,
+        index: 0,
+        fixed: 0,
+    }
+}
+
+// How many reservations there are.
+pub fn reservation_count(
+    unit: &[u32],
+    start: &[u32],
+    end: &[u32],
+    kind: &[u32],
+    index: &[u32],
+    fixed: &[u32],
+) -> usize
+    ensures { λ r. ⌜ r ≡ length (reservationsOf (now (unit .entry)) (now (start .entry)) (now (end .entry)) (now (kind .entry)) (now (index .entry)) (now (fixed .entry))) ⌝ }
+{
+    let e = shorter(index.len(), fixed.len());
+    let d = shorter(kind.len(), e);
+    let c = shorter(end.len(), d);
+    let b = shorter(start.len(), c);
+    shorter(unit.len(), b)
+}
+
+// Reservation i.
+pub fn reservation_at(
+    unit: &[u32],
+    start: &[u32],
+    end: &[u32],
+    kind: &[u32],
+    index: &[u32],
+    fixed: &[u32],
+    i: usize,
+) -> Reservation
+    requires { ⌜ i < length (reservationsOf (now unit) (now start) (now end) (now kind) (now index) (now fixed)) ⌝ }
+    ensures { λ r. ⌜ r ≡ reservationRow (now (unit .entry)) (now (start .entry)) (now (end .entry)) (now (kind .entry)) (now (index .entry)) (now (fixed .entry)) i ⌝ }
+{
+    Reservation {
+        unit: cell(unit, i),
+        start: cell(start, i),
+        end: cell(end, i),
+        kind: cell(kind, i),
+        index: cell(index, i),
+        fixed: cell(fixed, i),
+    }
+}
+
+// No use, as it stands before the first.
+pub fn no_use() -> Use
+    ensures { λ r. ⌜ r ≡ noUse ⌝ }
+{
+    Use {
+        position: 0,
+        kind: 0,
+        cost: 0,
     }
 }
 

@@ -23,12 +23,16 @@ returns c =
     let s = c .before .before .before .before .before .before in
     own-row (useRow (s .args .position .now) (s .args .kind .now) (s .args .cost .now)) (shortest (length (s .args .position .now) ∷ length (s .args .kind .now) ∷ length (s .args .cost .now) ∷ [])) (s .args .i) noUse _ (c .use-at .ensures) (lt-of-lt-of-le (c .before .if1 .taken) (le-of-eq (c .before .before .use-count .ensures)))
 
+no-use-requires : tie.Need-no-use-requires
+no-use-requires c κs = search needs
+
 returns-2 : tie.Need-returns-2
 returns-2 c =
-    let s = c .before .before .before .before .before in
+    let s = c .before .before .before .before .before .before in
     let r = useRow (s .args .position .now) (s .args .kind .now) (s .args .cost .now) in
     let n = shortest (length (s .args .position .now) ∷ length (s .args .kind .now) ∷ length (s .args .cost .now) ∷ []) in
-    sym (table-past r n (s .args .i) noUse (le-trans (le-of-eq (sym (table-length r n))) (le-trans (le-of-eq (sym (c .before .use-count .ensures))) (c .if1 .left))))
+    c .no-use .ensures ∙ sym (table-past r n (s .args .i) noUse (le-trans (le-of-eq (sym (table-length r n))) (le-trans (le-of-eq (sym (c .before .before .use-count .ensures))) (c .before .if1 .left))))
 
 pub use-or-none-spec : {M : Type 1} → statement M
-use-or-none-spec = tie.close (tie.spec use-count-requires use-at-requires returns returns-2)
+use-or-none-spec =
+    tie.close (tie.spec use-count-requires use-at-requires returns no-use-requires returns-2)

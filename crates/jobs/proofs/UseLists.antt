@@ -1,0 +1,65 @@
+-- The segment that lists a use, where the lists follow one another; and the first bad use over all lists, list by list
+use mathlib.Core.Path.{_≡_, refl, sym, ap, _∙_, subst}
+use mathlib.Core.Logic.{⊎-elim}
+use mathlib.Core.Bool.{Bool, true, false}
+use mathlib.Core.List.{List}
+use Prim.Native.Nat.{ℕ, zero, suc, _+_, _≤_, _<_}
+use native.Mathlib.Nat.{le-refl, le-trans, le-of-eq, le-of-lt, le-of-suc-le-suc, lt-of-lt-of-le, not-suc-le-zero}
+use native.Mathlib.Omega.{arith}
+use lib.Dec.{ltb}
+use lib.ListN.{length, getD}
+use borrow.Author.Tests.{lt-ltb, le-ltb}
+use Rattle.links.specs.First.{FirstIn, firstBelow}
+use Rattle.links.proofs.Firsts.{split, first-found}
+use Rattle.jobs.specs.declared.rows.Segment.{Segment}
+use Rattle.jobs.specs.declared.rows.Use.{Use}
+use Rattle.jobs.specs.declared.rows.Limits.{Limits}
+use Rattle.jobs.specs.Rows.{noSegment}
+use Rattle.jobs.specs.Lines.{rowBefore, listOf, badUseOf, badUseAt, Lists}
+use Rattle.jobs.proofs.Walk.{before-next}
+
+module _ (uses : ℕ) (segments : List Segment) (lists : Lists uses segments) where
+  abbrev firstOf : ℕ → ℕ
+  firstOf i = getD segments i noSegment .«first_use»
+
+  abbrev endOf : ℕ → ℕ
+  endOf i = getD segments i noSegment .«end_use»
+
+  -- an earlier list ends before a later one begins
+  ends-before : (i k : ℕ) → k < i → i < length segments → endOf k ≤ firstOf i
+  ends-before zero k h l = absurd (not-suc-le-zero h)
+  ends-before (suc i) k h l =
+      ⊎-elim
+      (λ m. le-trans (ends-before i k m (le-of-lt l)) (le-trans (lists .forward i (le-of-lt l)) (le-of-eq (sym (lists .follows (suc i) l)))))
+      (λ m. le-of-eq (ap endOf (same k i h m) ∙ sym (lists .follows (suc i) l)))
+      (split k i)
+    where
+      same : (k i : ℕ) → k < suc i → i ≤ k → k ≡ i
+      same k i p q = omega arith
+
+  -- the segment that lists a use
+  pub list-of : (i u : ℕ) → i < length segments → firstOf i ≤ u → u < endOf i → i ≡ listOf segments u
+  list-of i u h p q =
+      first-found (λ (k : ℕ). ltb u (endOf k)) (length segments) i h
+      (λ k l. le-ltb u (endOf k) (le-trans (ends-before i k l h) p)) (lt-ltb u (endOf i) q)
+
+  module _ (limits : Limits) (rows : List Use) (i : ℕ) (h : i < length segments) (r : ℕ)
+      (found : FirstIn (badUseOf limits rows (getD segments i noSegment)) (firstOf i) (endOf i) r)
+      (earlier : (u : ℕ) → u < rowBefore segments noSegment i .«end_use» → badUseAt limits rows segments u ≡ false) where
+    of-list : (u : ℕ) → firstOf i ≤ u → u < endOf i → badUseOf limits rows (getD segments i noSegment) u ≡ badUseAt limits rows segments u
+    of-list u p q = ap (λ (k : ℕ). badUseOf limits rows (getD segments k noSegment) u) (list-of i u h p q)
+
+    -- before the place found no use is bad
+    pub none-before : (u : ℕ) → u < r → badUseAt limits rows segments u ≡ false
+    none-before u l =
+        ⊎-elim (λ m. earlier u (lt-of-lt-of-le m (le-of-eq (lists .follows i h))))
+        (λ m. sym (of-list u m (lt-of-lt-of-le l (found .to))) ∙ found .passed u m l)
+        (split u (firstOf i))
+
+    -- a bad use in the list is the first of all
+    pub first-of-all : r < endOf i → r ≡ firstBelow (badUseAt limits rows segments) uses
+    first-of-all l = first-found (badUseAt limits rows segments) uses r (lt-of-lt-of-le l (lists .inside i h)) none-before (sym (of-list r (found .from) l) ∙ found .found l)
+
+    -- none in the list: none up to the list's end
+    pub none-listed : endOf i ≤ r → (u : ℕ) → u < rowBefore segments noSegment (i + 1) .«end_use» → badUseAt limits rows segments u ≡ false
+    none-listed l u m = none-before u (lt-of-lt-of-le (lt-of-lt-of-le m (le-of-eq (ap (λ (s : Segment). s .«end_use») (sym (before-next segments noSegment i))))) l)
