@@ -1,3 +1,4 @@
 -- What the checks share
 pub mod Walk
 pub mod UseLists
+pub mod Sound
