@@ -1,0 +1,3 @@
+-- What a sheet is, in document 01's words: read Kinds, Field, Sheet, Refusal, Cells, Answer, in this order.
+pub mod Kinds
+pub mod Field

@@ -1,0 +1,55 @@
+// The kinds of lines, in the order of a sheet: P B V S U W E F. A kind is its place in that order.
+ghost use mathlib.Core.Path.{_≡_};
+ghost use Prim.Native.Nat.{_<_, _≤_};
+ghost use Rattle.sheet.specs.Kinds.{kinds, letter, fields, limit, width, kindOf};
+
+pub const KINDS: usize = 8;
+
+// The limits are this layer's alone.
+const FEW: usize = 128;
+
+const MANY: usize = 256;
+
+const LETTERS: [u8; 8] = [b'P', b'B', b'V', b'S', b'U', b'W', b'E', b'F'];
+
+const FIELDS: [usize; 8] = [5, 3, 1, 6, 3, 1, 6, 3];
+
+const LIMITS: [usize; 8] = [1, FEW, FEW, FEW, MANY, FEW, MANY, FEW];
+
+// The letter of a kind.
+pub fn letter_of(k: usize) -> u8
+    requires { ⌜ k < kinds ⌝ }
+    ensures { λ r. ⌜ r ≡ letter k ⌝ }
+{
+    LETTERS[k]
+}
+
+// How many fields a line of a kind has.
+pub fn fields_of(k: usize) -> usize
+    requires { ⌜ k < kinds ⌝ }
+    ensures { λ r. ⌜ r ≡ fields k ⌝ }
+{
+    FIELDS[k]
+}
+
+// How many lines of a kind a sheet may have.
+pub fn limit_of(k: usize) -> usize
+    requires { ⌜ k < kinds ⌝ }
+    ensures { λ r. ⌜ r ≡ limit k ⌝ }
+{
+    LIMITS[k]
+}
+
+// The kind that a letter names, or KINDS.
+pub fn kind_of(c: u8) -> usize
+    ensures { λ r. ⌜ r ≡ kindOf c ⌝ }
+{
+    let mut k: usize = 0;
+    while k < KINDS {
+        if LETTERS[k] == c {
+            return k;
+        }
+        k += 1;
+    }
+    KINDS
+}
