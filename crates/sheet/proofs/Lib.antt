@@ -2,3 +2,6 @@
 pub mod Lists
 pub mod KindLaws
 pub mod FieldLaws
+pub mod LineLaws
+pub mod NextLaws
+pub mod CheckLaws

@@ -1,3 +1,6 @@
 -- What a sheet is, in document 01's words: read Kinds, Field, Sheet, Refusal, Cells, Answer, in this order.
 pub mod Kinds
 pub mod Field
+pub mod Sheet
+pub mod Refusal
+pub mod Next

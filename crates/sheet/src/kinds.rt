@@ -27,15 +27,23 @@ pub fn letter_of(k: usize) -> u8
 // How many fields a line of a kind has.
 pub fn fields_of(k: usize) -> usize
     requires { ⌜ k < kinds ⌝ }
-    ensures { λ r. ⌜ r ≡ fields k ⌝ }
+    ensures { λ r. ⌜ (r ≡ fields k) × (r ≤ 6) ⌝ }
 {
     FIELDS[k]
+}
+
+// How many bytes a line of a kind has.
+pub fn width_of(k: usize) -> usize
+    requires { ⌜ k < kinds ⌝ }
+    ensures { λ r. ⌜ (r ≡ width k) × (2 ≤ r) × (r ≤ 68) ⌝ }
+{
+    2 + 11 * fields_of(k)
 }
 
 // How many lines of a kind a sheet may have.
 pub fn limit_of(k: usize) -> usize
     requires { ⌜ k < kinds ⌝ }
-    ensures { λ r. ⌜ r ≡ limit k ⌝ }
+    ensures { λ r. ⌜ (r ≡ limit k) × (r ≤ 256) ⌝ }
 {
     LIMITS[k]
 }

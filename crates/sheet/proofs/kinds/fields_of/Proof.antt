@@ -3,6 +3,7 @@
 use borrow.Author.Needs.{needs}
 use mathlib.Core.Path.{refl}
 use Rattle.sheet.specs.Kinds.{fields}
+use Rattle.sheet.proofs.KindLaws.{fields-few}
 use Rattle.sheet.proofs.kinds.fields_of.Statement.{statement}
 use Rattle.sheet.proofs.kinds.fields_of.Tie as tie
 
@@ -14,7 +15,7 @@ array-read-result c = search needs
 
 returns : tie.Need-returns
 unfolding fields
-returns c = refl
+returns c = (refl, fields-few (c .args .k) (c .pre))
 
 pub fields-of-spec : {M : Type 1} → statement M
 fields-of-spec = tie.close (tie.spec mul-result array-read-result returns)

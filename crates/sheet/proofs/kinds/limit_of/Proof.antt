@@ -3,6 +3,7 @@
 use borrow.Author.Needs.{needs}
 use mathlib.Core.Path.{refl}
 use Rattle.sheet.specs.Kinds.{limit}
+use Rattle.sheet.proofs.KindLaws.{limit-small}
 use Rattle.sheet.proofs.kinds.limit_of.Statement.{statement}
 use Rattle.sheet.proofs.kinds.limit_of.Tie as tie
 
@@ -14,7 +15,7 @@ array-read-result c = search needs
 
 returns : tie.Need-returns
 unfolding limit
-returns c = refl
+returns c = (refl, limit-small (c .args .k) (c .pre))
 
 pub limit-of-spec : {M : Type 1} → statement M
 limit-of-spec = tie.close (tie.spec mul-result array-read-result returns)
