@@ -14,7 +14,7 @@ use native.Mathlib.Decide.{ℕ-discrete}
 use borrow.Author.Tests.{eq-eqb, ne-eqb, eqb-true, eqb-false, le-leb, leb-true, lt-ltb, le-ltb}
 use Rattle.sheet.specs.Kinds.{pick, kinds, letter, limit, width, kindOf}
 use Rattle.sheet.specs.Sheet.{line}
-use Rattle.sheet.specs.Refusal.{linesOf, isLine, kindOfLine, latest, ofKind, isInOrder, fault, judged, verdictBelow, verdict, rowOf, sheetOf, Checked}
+use Rattle.sheet.specs.Refusal.{linesOf, isLine, kindOfLine, latest, ofKind, isInOrder, fault, judged, verdictBelow, verdict, rowOf, sheetOf, Counted, Checked}
 use Rattle.sheet.specs.Next.{nextAt}
 use Rattle.sheet.specs.declared.check.Verdict.{Verdict}
 use Rattle.sheet.specs.declared.check.Verdict.the-variants.{Sound, Refused}
@@ -93,7 +93,7 @@ unfolding ofKind
 kind-other [] l k e = rw (ne-eqb (kindOfLine l) k e)
 kind-other (a ∷ bs) l k e = let r = kind-other bs l k e in rw r
 
-latest-more : (above : List (List ℕ)) (l : List ℕ) → latest (above ++ (l ∷ [])) ≡ max (latest above) (kindOfLine l)
+pub latest-more : (above : List (List ℕ)) (l : List ℕ) → latest (above ++ (l ∷ [])) ≡ max (latest above) (kindOfLine l)
 unfolding latest
 latest-more [] l = omega arith
 latest-more (a ∷ bs) l = omega (arith, latest-more bs l)
@@ -315,18 +315,19 @@ upto-end text counts lines m at u h n =
     let w : u .above ≡ linesOf text = sym (append-nil (u .above)) ∙ ap (λ (x : List ℕ). u .above ++ linesOf x) (sym d) ∙ u .whole in
     record {
       answer = sym e;
-      counted = λ s k l. u .rows k l ∙ ap (λ (x : List (List ℕ)). length (ofKind k x)) w ∙ sym (length-map (ofKind k (linesOf text)) (rowOf k));
-      refused = λ f. absurd (f e);
+      counted = record {
+        sound = λ s k l. u .rows k l ∙ ap (λ (x : List (List ℕ)). length (ofKind k x)) w ∙ sym (length-map (ofKind k (linesOf text)) (rowOf k));
+        refused = λ f. absurd (f refl);
+      };
     }
 
 -- a text that is refused
+pub not-counted : (text : List ℕ) (v : Verdict) → (v ≡ Sound → ⊥) → Counted text v (replicate 8 0)
+not-counted text v f = record { sound = λ s. absurd (f s); refused = λ g. refl }
+
 pub refused-checked : (text : List ℕ) (n p : ℕ) → verdict text ≡ Refused n p → Checked text (Refused n p) (replicate 8 0)
 refused-checked text n p e =
-    record {
-      answer = sym e;
-      counted = λ s. let z : _≡_ {A = ℕ} 0 1 = cc in absurd (omega arith);
-      refused = λ f. refl;
-    }
+    record { answer = sym e; counted = not-counted text (Refused n p) (λ s. let z : _≡_ {A = ℕ} 0 1 = cc in omega arith) }
 
 pub empty-refused : (text : List ℕ) → length text ≡ 0 → verdict text ≡ Refused 14 1
 unfolding verdict

@@ -5,3 +5,5 @@ pub mod FieldLaws
 pub mod LineLaws
 pub mod NextLaws
 pub mod CheckLaws
+pub mod SoundLaws
+pub mod CompleteLaws

@@ -85,8 +85,12 @@ rowOf k l = numbers (fields k) (drop 1 l)
 unfoldable pub sheetOf : List ℕ → Sheet
 sheetOf text k = map (rowOf k) (ofKind k (linesOf text))
 
--- what a check answers: the verdict, and the counts of a sound text; none of a refused one
+-- the counts that come with a verdict: those of a sound text, none where it is refused
+pub record Counted (text : List ℕ) (v : Verdict) (counts : List ℕ) : Type 0 where
+  pub sound : v ≡ Sound → (k : ℕ) → k < kinds → getD counts k 0 ≡ length (sheetOf text k)
+  pub refused : (v ≡ Sound → ⊥) → counts ≡ replicate kinds 0
+
+-- what a check answers
 pub record Checked (text : List ℕ) (v : Verdict) (counts : List ℕ) : Type 0 where
   pub answer : v ≡ verdict text
-  pub counted : verdict text ≡ Sound → (k : ℕ) → k < kinds → getD counts k 0 ≡ length (sheetOf text k)
-  pub refused : (verdict text ≡ Sound → ⊥) → counts ≡ replicate kinds 0
+  pub counted : Counted text v counts
