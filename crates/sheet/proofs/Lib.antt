@@ -7,3 +7,5 @@ pub mod NextLaws
 pub mod CheckLaws
 pub mod SoundLaws
 pub mod CompleteLaws
+pub mod FillLaws
+pub mod ReadLaws

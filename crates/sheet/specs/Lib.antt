@@ -4,3 +4,5 @@ pub mod Field
 pub mod Sheet
 pub mod Refusal
 pub mod Next
+pub mod Lines
+pub mod Cells

@@ -1,0 +1,58 @@
+-- Where the numbers of a sheet are kept: one cell a number, column by column.
+-- Assumes nothing.
+use Prim.Native.Nat.{ℕ, zero, suc, _+_, _*_, _<_}
+use mathlib.Core.Path.{_≡_}
+use mathlib.Core.List.{List, [], _∷_, map}
+use lib.ListN.{length, getD}
+use lib.Dec.{ltb}
+use lib.Seq.{sets}
+use Rattle.sheet.specs.Kinds.{pick, kinds, fields, limit}
+use Rattle.sheet.specs.Sheet.{Sheet}
+use Rattle.sheet.specs.Refusal.{verdict, sheetOf, Counted}
+use Rattle.sheet.specs.declared.check.Verdict.{Verdict}
+use Rattle.sheet.specs.declared.check.Verdict.the-variants.{Sound, Refused, NoRoom}
+
+-- where the cells of each kind start: those of P stand last
+abbrev pub bases : List ℕ
+bases = 4096 ∷ 0 ∷ 384 ∷ 512 ∷ 1280 ∷ 2048 ∷ 2176 ∷ 3712 ∷ []
+
+unfoldable pub base : ℕ → ℕ
+base k = getD bases k 0
+
+-- how many cells a sheet needs
+abbrev pub cellCount : ℕ
+cellCount = 4101
+
+-- where column c of kind k starts: each column has as many cells as the kind's limit
+unfoldable pub place : ℕ → ℕ → ℕ
+place k c = base k + c * limit k
+
+-- column c of some rows
+unfoldable pub column : ℕ → List (List ℕ) → List ℕ
+column c rows = map (λ (row : List ℕ). getD row c 0) rows
+
+-- the cells with n columns from column c on, of rows of kind k, each stored at its place
+unfoldable pub storedColumns : ℕ → List (List ℕ) → ℕ → ℕ → List ℕ → List ℕ
+storedColumns k rows c zero cells = cells
+storedColumns k rows c (suc n) cells = storedColumns k rows (suc c) n (sets cells (place k c) (column c rows))
+
+-- the cells with n kinds from kind k on stored
+unfoldable pub storedKinds : Sheet → ℕ → ℕ → List ℕ → List ℕ
+storedKinds s k zero cells = cells
+storedKinds s k (suc n) cells = storedKinds s (suc k) n (storedColumns k (s k) 0 (fields k) cells)
+
+-- the cells with a sheet stored
+unfoldable pub stored : Sheet → List ℕ → List ℕ
+stored s cells = storedKinds s 0 kinds cells
+
+-- the cells after a reading, by its verdict: only a sound one stores
+unfoldable pub cellsAfter : Verdict → Sheet → List ℕ → List ℕ
+cellsAfter Sound s cells = stored s cells
+cellsAfter (Refused n p) s cells = cells
+cellsAfter NoRoom s cells = cells
+
+-- a reading: too few cells are no room, whatever the text; else the verdict is the text's
+pub record Read (text before after : List ℕ) (v : Verdict) (counts : List ℕ) : Type 0 where
+  pub answer : v ≡ pick (ltb (length before) cellCount) NoRoom (verdict text)
+  pub cells : after ≡ cellsAfter v (sheetOf text) before
+  pub counted : Counted text v counts
