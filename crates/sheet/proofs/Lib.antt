@@ -9,3 +9,4 @@ pub mod SoundLaws
 pub mod CompleteLaws
 pub mod FillLaws
 pub mod ReadLaws
+pub mod WriteLaws

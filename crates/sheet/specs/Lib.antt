@@ -6,3 +6,4 @@ pub mod Refusal
 pub mod Next
 pub mod Lines
 pub mod Cells
+pub mod Answer

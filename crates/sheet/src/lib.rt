@@ -3,3 +3,4 @@ pub mod check;
 pub mod field;
 pub mod fill;
 pub mod kinds;
+pub mod write;
