@@ -318,12 +318,13 @@ upto-end text counts lines m at u h n =
       counted = record {
         sound = λ s k l. u .rows k l ∙ ap (λ (x : List (List ℕ)). length (ofKind k x)) w ∙ sym (length-map (ofKind k (linesOf text)) (rowOf k));
         refused = λ f. absurd (f refl);
+        within = λ k l. omega (arith, u .rows k l, u .within k l);
       };
     }
 
 -- a text that is refused
 pub not-counted : (text : List ℕ) (v : Verdict) → (v ≡ Sound → ⊥) → Counted text v (replicate 8 0)
-not-counted text v f = record { sound = λ s. absurd (f s); refused = λ g. refl }
+not-counted text v f = record { sound = λ s. absurd (f s); refused = λ g. refl; within = λ k h. omega (arith, getD-replicate {A = ℕ} 8 k 0 0 h) }
 
 pub refused-checked : (text : List ℕ) (n p : ℕ) → verdict text ≡ Refused n p → Checked text (Refused n p) (replicate 8 0)
 refused-checked text n p e =

@@ -1,6 +1,6 @@
 -- Refusals 14 and 15: the first bad line decides, and on one line 14 comes before 15.
 -- Assumes nothing.
-use Prim.Native.Nat.{ℕ, zero, suc, _+_, _-_, _<_, max}
+use Prim.Native.Nat.{ℕ, zero, suc, _+_, _-_, _<_, _≤_, max}
 use mathlib.Core.Path.{_≡_}
 use mathlib.Core.Bool.{Bool, true, false}
 use mathlib.Core.List.{List, [], _∷_, _++_, map}
@@ -85,10 +85,11 @@ rowOf k l = numbers (fields k) (drop 1 l)
 unfoldable pub sheetOf : List ℕ → Sheet
 sheetOf text k = map (rowOf k) (ofKind k (linesOf text))
 
--- the counts that come with a verdict: those of a sound text, none where it is refused
+-- the counts that come with a verdict: those of a sound text, none where it is refused; each within its limit
 pub record Counted (text : List ℕ) (v : Verdict) (counts : List ℕ) : Type 0 where
   pub sound : v ≡ Sound → (k : ℕ) → k < kinds → getD counts k 0 ≡ length (sheetOf text k)
   pub refused : (v ≡ Sound → ⊥) → counts ≡ replicate kinds 0
+  pub within : (k : ℕ) → k < kinds → getD counts k 0 ≤ limit k
 
 -- what a check answers
 pub record Checked (text : List ℕ) (v : Verdict) (counts : List ℕ) : Type 0 where
