@@ -8,5 +8,7 @@ pub mod CheckLaws
 pub mod SoundLaws
 pub mod CompleteLaws
 pub mod FillLaws
+pub mod CellLaws
 pub mod ReadLaws
 pub mod WriteLaws
+pub mod Exact

@@ -56,3 +56,15 @@ pub record Read (text before after : List ℕ) (v : Verdict) (counts : List ℕ)
   pub answer : v ≡ pick (ltb (length before) cellCount) NoRoom (verdict text)
   pub cells : after ≡ cellsAfter v (sheetOf text) before
   pub counted : Counted text v counts
+
+-- the sheet that the cells hold, by the counts: number c of row i of kind k is the cell i of column c
+unfoldable pub heldRow : List ℕ → ℕ → ℕ → ℕ → ℕ → List ℕ
+heldRow cells k i c zero = []
+heldRow cells k i c (suc n) = getD cells (place k c + i) 0 ∷ heldRow cells k i (suc c) n
+
+unfoldable pub heldRows : List ℕ → ℕ → ℕ → ℕ → List (List ℕ)
+heldRows cells k i zero = []
+heldRows cells k i (suc n) = heldRow cells k i 0 (fields k) ∷ heldRows cells k (suc i) n
+
+unfoldable pub held : List ℕ → List ℕ → Sheet
+held cells counts k = heldRows cells k 0 (getD counts k 0)
