@@ -1,19 +1,19 @@
 -- Laws of the cells: no two columns share a cell, so that each number stands in its own, every other cell is kept, and the sheet that was stored is held.
 -- Assumes nothing.
-use Prim.Native.Nat.{ℕ, zero, suc, _+_, _*_, _-_, _≤_, _<_}
+use Prim.Native.Nat.{ℕ, zero, suc, _+_, _*_, _≤_, _<_}
 use mathlib.Core.Path.{_≡_, refl, sym, ap, _∙_, subst}
 use mathlib.Core.Bool.{Bool, true, false}
-use mathlib.Core.List.{List, [], _∷_, _++_, map}
+use mathlib.Core.List.{List, [], _∷_}
 use mathlib.Core.Logic.{_⊎_, inl, inr, ⊎-elim}
 use native.Mathlib.Omega.{arith}
 use native.Mathlib.Nat.{mul-le-mul-right, suc-mul, add-zero}
 use native.Mathlib.Decide.{ℕ-discrete}
-use lib.ListN.{length, getD, set, drop, length-set, length-map, List·getD-map}
-use lib.Seq.{sets, length-sets, getD-set-same, getD-set-other, drop-length}
+use lib.ListN.{length, getD, set, take, drop, length-set, length-drop, length-map, List·getD-map}
+use lib.Seq.{sets, length-sets, getD-set-same, getD-set-other, getD-take, getD-drop, length-take-le, ext-getD}
 use lib.Dec.{T, eqb, leb}
 use borrow.Author.Tests.{leb-true, ne-eqb}
 use Rattle.sheet.specs.Kinds.{pick, kinds, fields, limit}
-use Rattle.sheet.specs.Sheet.{linesText, Sheet, textFrom, render, IsRow, AreRows, Within}
+use Rattle.sheet.specs.Sheet.{Sheet, IsRow, AreRows, Within}
 use Rattle.sheet.specs.Cells.{base, cellCount, place, column, storedColumns, storedKinds, stored, heldRow, heldRows, held}
 use Rattle.sheet.proofs.Lists.{drop-next}
 use Rattle.sheet.proofs.KindLaws.{allBelow, all-at}
@@ -150,6 +150,29 @@ module _ (s : Sheet) (within : Within s) (k c i : ℕ) (kind : k < kinds) (few :
 pub cell-held : (s : Sheet) (cells : List ℕ) → Within s → cellCount ≤ length cells → (k c i : ℕ) → k < kinds → c < fields k → i < length (s k) → getD (stored s cells) (place k c + i) 0 ≡ getD (getD (s k) i []) c 0
 unfolding stored here
 cell-held s cells w e k c i h f r = held-kinds s w k c i h f r kinds 0 cells (omega arith) (omega arith) (omega arith) e
+
+kinds-length : (n k : ℕ) (s : Sheet) (cells : List ℕ) → length (storedKinds s k n cells) ≡ length cells
+unfolding storedKinds
+kinds-length zero k s cells = refl
+kinds-length (suc n) k s cells = kinds-length n (suc k) s (storedColumns k (s k) 0 (fields k) cells) ∙ columns-length (fields k) 0 k (s k) cells
+
+pub stored-length : (s : Sheet) (cells : List ℕ) → length (stored s cells) ≡ length cells
+unfolding stored
+stored-length s cells = kinds-length kinds 0 s cells
+
+-- the used cells of a column are that column
+pub column-held : (s : Sheet) (cells : List ℕ) → Within s → cellCount ≤ length cells → (k c : ℕ) → k < kinds → c < fields k → take (length (s k)) (drop (place k c) (stored s cells)) ≡ column c (s k)
+unfolding column place
+column-held s cells w e k c h f =
+    let x = stored s cells in
+    let p = place-fits (base k) (fields k) (limit k) c (length (s k)) cellCount f (w k h) (base-fits k h) in
+    let n : length (take (length (s k)) (drop (place k c) x)) ≡ length (s k) = length-take-le (length (s k)) (drop (place k c) x) (omega (arith, length-drop (place k c) x, stored-length s cells)) in
+    ext-getD 0 (take (length (s k)) (drop (place k c) x)) (column c (s k)) (n ∙ sym (column-length c (s k)))
+    (λ i l.
+    getD-take (length (s k)) (drop (place k c) x) i 0 (omega arith)
+    ∙ getD-drop (place k c) x i 0
+    ∙ cell-held s cells w e k c i h f (omega arith)
+    ∙ sym (List·getD-map (λ (r : List ℕ). getD r c 0) (s k) i []))
 
 -- the sheet that was stored is held
 row-held : (n c k i : ℕ) (cells row : List ℕ) → length row ≡ c + n → ((d : ℕ) → d < length row → getD cells (place k d + i) 0 ≡ getD row d 0) → heldRow cells k i c n ≡ drop c row

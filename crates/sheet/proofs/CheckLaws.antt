@@ -1,27 +1,26 @@
 -- Laws of the check: what one line does to the verdict, and what is known of the lines passed.
 -- Assumes nothing.
-use Prim.Native.Nat.{ℕ, zero, suc, _+_, _-_, _≤_, _<_, min, max}
+use Prim.Native.Nat.{ℕ, zero, suc, _+_, _≤_, _<_, max}
 use mathlib.Core.Path.{_≡_, refl, sym, ap, _∙_, subst}
 use mathlib.Core.Bool.{Bool, true, false}
-use mathlib.Core.List.{List, [], _∷_, _++_, append-assoc, append-nil, map}
+use mathlib.Core.List.{List, [], _∷_, _++_, append-assoc, append-nil}
 use mathlib.Core.Logic.{_⊎_, inl, inr, ⊎-elim}
 use native.Mathlib.Omega.{arith}
 use native.Mathlib.Nat.{add-zero}
 use lib.ListN.{length, getD, take, drop, set, replicate, length-append, length-drop, length-take, length-set, length-map, take-append-drop, drop-of-length-le, getD-replicate}
 use lib.Seq.{take-at, drop-drop, getD-drop, getD-set-same, getD-set-other}
-use lib.Dec.{eqb, leb, ltb}
+use lib.Dec.{eqb, leb}
 use native.Mathlib.Decide.{ℕ-discrete}
-use borrow.Author.Tests.{eq-eqb, ne-eqb, eqb-true, eqb-false, le-leb, leb-true, lt-ltb, le-ltb}
-use Rattle.sheet.specs.Kinds.{pick, kinds, letter, limit, width, kindOf}
+use borrow.Author.Tests.{eq-eqb, ne-eqb, leb-true, lt-ltb, le-ltb}
+use Rattle.sheet.specs.Kinds.{pick, kinds, limit, width, kindOf}
 use Rattle.sheet.specs.Sheet.{line}
 use Rattle.sheet.specs.Refusal.{linesOf, isLine, kindOfLine, latest, ofKind, isInOrder, fault, judged, verdictBelow, verdict, rowOf, sheetOf, Counted, Checked}
 use Rattle.sheet.specs.Next.{nextAt}
 use Rattle.sheet.specs.declared.check.Verdict.{Verdict}
 use Rattle.sheet.specs.declared.check.Verdict.the-variants.{Sound, Refused}
-use Rattle.sheet.specs.declared.check.Next.{Next}
 use Rattle.sheet.specs.declared.check.Next.the-variants.{Line, Bad}
-use Rattle.sheet.proofs.FieldLaws.{not-both, pick-both}
-use Rattle.sheet.proofs.LineLaws.{LineIs, line-is, line-kind, line-lines, First, first-line}
+use Rattle.sheet.proofs.FieldLaws.{not-both}
+use Rattle.sheet.proofs.LineLaws.{line-is, line-kind, line-lines, First, first-line}
 use Rattle.sheet.proofs.NextLaws.{next-of}
 
 false-if : (b : Bool) → (b ≡ true → ⊥) → b ≡ false

@@ -1,22 +1,20 @@
 -- The text of every sheet within the limits is sound, and the sheet that it holds is that sheet.
 -- Assumes nothing.
-use Prim.Native.Nat.{ℕ, zero, suc, _+_, _≤_, _<_, max}
+use Prim.Native.Nat.{ℕ, zero, suc, _+_, _≤_, _<_}
 use mathlib.Core.Path.{_≡_, refl, sym, ap, _∙_, subst}
-use mathlib.Core.Bool.{Bool, true, false}
+use mathlib.Core.Bool.{true}
 use mathlib.Core.List.{List, [], _∷_, _++_, append-assoc, append-nil, map}
 use native.Mathlib.Omega.{arith}
 use native.Mathlib.Decide.{ℕ-discrete}
 use lib.ListN.{length, length-append, length-map}
-use lib.Dec.{eqb, leb, ltb}
 use borrow.Author.Tests.{eq-eqb, ne-eqb, le-leb}
-use Rattle.sheet.specs.Kinds.{pick, kinds, limit, width}
+use Rattle.sheet.specs.Kinds.{kinds, limit}
 use Rattle.sheet.specs.Sheet.{line, linesText, Sheet, textFrom, render, IsRow, AreRows, IsSheet, Within}
 use Rattle.sheet.specs.Refusal.{linesOf, isLine, kindOfLine, latest, ofKind, isInOrder, verdictBelow, verdict, rowOf, sheetOf}
-use Rattle.sheet.specs.declared.check.Verdict.{Verdict}
 use Rattle.sheet.specs.declared.check.Verdict.the-variants.{Sound}
-use Rattle.sheet.proofs.LineLaws.{line-length, line-kind, line-row, is-line, line-lines}
+use Rattle.sheet.proofs.LineLaws.{line-kind, line-row, is-line, line-lines}
 use Rattle.sheet.proofs.CheckLaws.{kind-more, latest-more, verdict-lines}
-use Rattle.sheet.proofs.SoundLaws.{Passes, AllPass, pass-sound, joined, lines-joined}
+use Rattle.sheet.proofs.SoundLaws.{Passes, AllPass, pass-sound}
 
 -- the lines of n kinds from k on
 lineList : Sheet → ℕ → ℕ → List (List ℕ)

@@ -6,19 +6,18 @@ use mathlib.Core.Bool.{Bool, true, false}
 use mathlib.Core.List.{List, [], _∷_, _++_, append-assoc, append-nil}
 use mathlib.Core.Logic.{_⊎_, ⊎-elim, _↔_}
 use native.Mathlib.Omega.{arith}
-use lib.ListN.{length, getD}
-use lib.Dec.{eqb, ltb}
-use borrow.Author.Tests.{eq-eqb, lt-ltb, le-ltb, ltb-false}
-use Rattle.sheet.specs.Kinds.{pick, kinds, limit}
+use lib.ListN.{length, getD, take, drop}
+use lib.Dec.{ltb}
+use borrow.Author.Tests.{le-ltb, ltb-false}
+use Rattle.sheet.specs.Kinds.{pick, kinds, fields, limit}
 use Rattle.sheet.specs.Sheet.{linesText, Sheet, textFrom, render, IsSheet, Within}
 use Rattle.sheet.specs.Refusal.{linesOf, isLine, kindOfLine, latest, ofKind, isInOrder, fault, judged, verdictBelow, verdict, sheetOf}
-use Rattle.sheet.specs.Cells.{cellCount, stored, cellsAfter, held, Read}
-use Rattle.sheet.specs.declared.check.Verdict.{Verdict}
+use Rattle.sheet.specs.Cells.{cellCount, place, column, stored, cellsAfter, held, Read}
 use Rattle.sheet.specs.declared.check.Verdict.the-variants.{Sound, Refused, NoRoom}
 use Rattle.sheet.proofs.CheckLaws.{verdict-lines, passed}
-use Rattle.sheet.proofs.SoundLaws.{Passes, AllPass, fault-none, sound-sheet}
+use Rattle.sheet.proofs.SoundLaws.{AllPass, fault-none, sound-sheet}
 use Rattle.sheet.proofs.CompleteLaws.{render-sound, render-held}
-use Rattle.sheet.proofs.CellLaws.{sheet-held}
+use Rattle.sheet.proofs.CellLaws.{sheet-held, column-held}
 
 -- a text of a sheet with one P within the limits
 pub record Rendering (text : List ℕ) : Type 0 where
@@ -165,3 +164,12 @@ module _ (text before after counts : List ℕ) (r : Read text before after Sound
   -- whatever sheet the text renders is the one that was read
   pub read-only : (s : Sheet) → IsSheet s → render s ≡ text → (k : ℕ) → k < kinds → held after counts k ≡ s k
   read-only s is e k h = read-held k h ∙ ap (λ (x : List ℕ). sheetOf x k) (sym e) ∙ render-held s is k h
+
+  -- the used cells of a column are that column of the sheet
+  pub read-column : (k c : ℕ) → k < kinds → c < fields k → take (getD counts k 0) (drop (place k c) after) ≡ column c (sheetOf text k)
+  unfolding cellsAfter
+  read-column k c h f =
+      let t = sound-sheet text sound in
+      ap (λ (x : List ℕ). take (getD counts k 0) (drop (place k c) x)) (r .cells)
+      ∙ ap (λ (n : ℕ). take n (drop (place k c) (stored (sheetOf text) before))) (r .counted .sound refl k h)
+      ∙ column-held (sheetOf text) before (t .within) room k c h f

@@ -4,17 +4,16 @@ use Prim.Native.Nat.{ℕ, zero, suc, _+_, _*_, _-_, _/_, _%_, _^_, _≤_, _<_}
 use mathlib.Core.Path.{_≡_, refl, sym, ap, _∙_, subst}
 use mathlib.Core.Bool.{Bool, true, false}
 use mathlib.Core.List.{List, [], _∷_, _++_}
-use mathlib.Core.Logic.{_⊎_, ⊎-elim}
 use native.Mathlib.Omega.{arith}
 use native.Mathlib.Numerals.{add-one}
-use native.Mathlib.Nat.{add-zero, pow-succ', pow-zero, pow-le-pow-right, suc-sub-suc}
-use lib.ListN.{length, getD, set, take, drop, length-append}
+use native.Mathlib.Nat.{pow-succ', pow-zero, pow-le-pow-right}
+use lib.ListN.{length, getD, set, drop, length-append}
 use lib.Dec.{eqb, leb, lit<}
-use borrow.Author.Tests.{eq-eqb, ne-eqb, eqb-true, eqb-false, le-leb, leb-true}
+use borrow.Author.Tests.{eq-eqb, ne-eqb, eqb-true, le-leb, leb-true}
 use Rattle.sheet.specs.Kinds.{pick}
 use Rattle.sheet.specs.Field.{digitOrBlank, columns, field, valueFrom, value, sameText, isField}
 use lib.Seq.{sets}
-use Rattle.sheet.proofs.Lists.{drop-next, sets-snoc, sets-whole}
+use Rattle.sheet.proofs.Lists.{drop-next, sets-snoc}
 
 pub not-both : true ≡ false → ⊥
 not-both e = subst (λ (b : Bool). lib.Dec.T b) e tt

@@ -1,26 +1,25 @@
 -- Laws of filling: in a sound text every field stands where the counts say, and a turn of each loop stores what the definition stores.
 -- Assumes nothing.
-use Prim.Native.Nat.{ℕ, zero, suc, _+_, _*_, _-_, _≤_, _<_, min}
+use Prim.Native.Nat.{ℕ, zero, suc, _+_, _*_, _-_, _≤_, _<_}
 use mathlib.Core.Path.{_≡_, refl, sym, ap, _∙_, subst, subst⁻¹}
-use mathlib.Core.Bool.{Bool, true, false}
-use mathlib.Core.List.{List, [], _∷_, _++_, append-assoc, append-nil, map}
+use mathlib.Core.List.{List, [], _∷_, _++_, append-assoc}
 use native.Mathlib.Omega.{arith}
 use native.Mathlib.Numerals.{add-one}
-use native.Mathlib.Nat.{mul-le-mul-right, add-zero, sub-zero, suc-sub-suc, zero-sub}
-use lib.ListN.{length, getD, set, take, drop, length-append, length-drop, length-take, length-set}
-use lib.Seq.{sets, length-sets, take-at, drop-at, drop-drop, drop-nil, take-nil, take-take}
+use native.Mathlib.Nat.{zero-mul, suc-mul, mul-le-mul-right, sub-zero, suc-sub-suc, zero-sub}
+use lib.ListN.{length, getD, set, take, drop, length-append, length-drop, length-take}
+use lib.Seq.{sets, take-at, drop-at, drop-drop, take-nil, take-take}
 use lib.Dec.{leb}
 use borrow.Author.Tests.{leb-true}
-use Rattle.sheet.proofs.KindLaws.{all-at}
-use Rattle.sheet.specs.Kinds.{kinds, fields, limit, width, letter}
+use Rattle.sheet.proofs.KindLaws.{all-at, table-past}
+use Rattle.sheet.specs.Kinds.{kinds, fieldCounts, fields, limit, width}
 use Rattle.sheet.specs.Field.{value}
-use Rattle.sheet.specs.Sheet.{fieldsText, lineText, line, linesText, Sheet, textFrom, render, Small, IsRow, AreRows, IsSheet, Within}
-use Rattle.sheet.specs.Refusal.{isLine, numbers, rowOf, verdict, sheetOf}
+use Rattle.sheet.specs.Sheet.{fieldsText, lineText, line, linesText, textFrom, render, Small, IsRow, AreRows}
+use Rattle.sheet.specs.Refusal.{numbers, rowOf, verdict, sheetOf}
 use Rattle.sheet.specs.declared.check.Verdict.the-variants.{Sound}
 use Rattle.sheet.proofs.SoundLaws.{sound-sheet}
 use Rattle.sheet.specs.Lines.{AreLines, rowsOf, Readable, fieldsAt}
 use Rattle.sheet.specs.Cells.{base, cellCount, place, column, storedColumns, storedKinds, stored}
-use Rattle.sheet.proofs.LineLaws.{LineIs, line-is, line-length, is-line, numbers-text}
+use Rattle.sheet.proofs.LineLaws.{line-is, line-length, is-line, numbers-text}
 
 -- a turn of the loop over the lines of a column
 module _ (text : List ℕ) (p step count i : ℕ) (h : i < count) where
@@ -112,7 +111,7 @@ module _ (k c : ℕ) (few : c < fields k) (text : List ℕ) where
 pub place-fits : (b n m c count most : ℕ) → c < n → count ≤ m → b + n * m ≤ most → b + c * m + count ≤ most
 place-fits b n m c count most h g e =
     let p : suc c * m ≤ n * m = mul-le-mul-right m h in
-    let q : suc c * m ≡ c * m + m = native.Mathlib.Nat.suc-mul c m in
+    let q : suc c * m ≡ c * m + m = suc-mul c m in
     omega arith
 
 -- a turn of the loop over the columns of a kind
@@ -159,9 +158,9 @@ module _ (k : ℕ) (kind : k < kinds) (r : List ℕ) where
 
   pub lines-length : (rows : List (List ℕ)) → AreRows k rows → length (linesText k rows) ≡ length rows * width k
   unfolding linesText
-  lines-length [] a = sym (native.Mathlib.Nat.zero-mul (width k))
+  lines-length [] a = sym (zero-mul (width k))
   lines-length (row ∷ rows) a =
-      simp length-append (omega (arith, line-length k row kind (a .0), lines-length rows (a .1), native.Mathlib.Nat.suc-mul (length rows) (width k)))
+      simp length-append (omega (arith, line-length k row kind (a .0), lines-length rows (a .1), suc-mul (length rows) (width k)))
 
 -- the cells of each kind end where the cells end, or before
 pub base-fits : (k : ℕ) → k < kinds → base k + fields k * limit k ≤ cellCount
@@ -269,3 +268,7 @@ unfolding storedKinds
 left-none text cells₀ cells at k h u =
     let z : kinds - k ≡ 0 = omega arith in
     subst (λ (j : ℕ). storedKinds (sheetOf text) k j cells ≡ stored (sheetOf text) cells₀) z (u .left)
+
+pub past-fits : (k : ℕ) → kinds ≤ k → 0 + fields k * limit k ≤ cellCount
+unfolding fields
+past-fits k h = rw (← table-past fieldCounts k h, zero-mul (limit k)) (omega arith)

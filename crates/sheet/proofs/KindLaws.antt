@@ -1,14 +1,14 @@
 -- Laws of the kinds: the place of a letter among the letters.
 -- Assumes nothing.
-use Prim.Native.Nat.{ℕ, zero, suc, _+_, _*_, _-_, _≤_, _<_}
-use mathlib.Core.Path.{_≡_, refl, sym, ap, _∙_, subst}
+use Prim.Native.Nat.{ℕ, zero, suc, _+_, _≤_, _<_}
+use mathlib.Core.Path.{sym, _≡_, refl, ap, _∙_, subst}
 use mathlib.Core.Bool.{Bool, true, false, not}
 use mathlib.Core.Logic.{⊎-elim}
-use mathlib.Core.List.{List, [], _∷_}
+use mathlib.Core.List.{List}
 use native.Mathlib.Nat.{eq-or-lt-of-le, le-of-suc-le-suc}
 use lib.Dec.{T, eqb, leb}
 use native.Mathlib.Omega.{arith}
-use lib.ListN.{length, getD, drop}
+use lib.ListN.{length, getD, drop, List·getD-eq-default}
 use borrow.Author.Tests.{eq-eqb, ne-eqb, eqb-true, eqb-false, leb-true, not-true}
 use Rattle.sheet.specs.Kinds.{pick, letters, letter, fields, limit, position, kindOf}
 use Rattle.sheet.proofs.Lists.{drop-next}
@@ -60,3 +60,7 @@ fields-few k h = leb-true (fields k) 6 (all-at 8 (λ j. leb (fields j) 6) tt k h
 pub limit-small : (k : ℕ) → k < 8 → limit k ≤ 256
 unfolding limit
 limit-small k h = leb-true (limit k) 256 (all-at 8 (λ j. leb (limit j) 256) tt k h)
+
+-- what is no kind has the entry 0 in every table
+pub table-past : (entries : List ℕ) (k : ℕ) → length entries ≤ k → 0 ≡ getD entries k 0
+table-past entries k h = sym (List·getD-eq-default entries 0 {n = k} h)

@@ -1,21 +1,21 @@
 -- Laws of lines: a text is a well-formed line exactly if it is the line of a row, and a line stands first in its text exactly as it is written.
 -- Assumes nothing.
-use Prim.Native.Nat.{ℕ, zero, suc, _+_, _*_, _-_, _≤_, _<_, _^_}
+use Prim.Native.Nat.{ℕ, zero, suc, _+_, _*_, _-_, _≤_, _<_}
 use mathlib.Core.Path.{_≡_, refl, sym, ap, _∙_, subst}
 use mathlib.Core.Bool.{Bool, true, false}
-use mathlib.Core.List.{List, [], _∷_, _++_, append-assoc, append-nil}
+use mathlib.Core.List.{List, [], _∷_, _++_, append-assoc}
 use native.Mathlib.Omega.{arith}
-use lib.ListN.{length, getD, take, drop, length-append, length-drop, take-append-drop, drop-of-length-le}
-use lib.Seq.{take-at, drop-at, getD-at, drop-drop, drop-cons}
-use lib.Dec.{T, eqb, leb, ltb}
-use borrow.Author.Tests.{eq-eqb, ne-eqb, eqb-true, eqb-false, lt-ltb, le-ltb, ltb-true}
-use Rattle.sheet.specs.Kinds.{pick, kinds, letters, letter, fields, limit, width, position, kindOf}
+use lib.ListN.{length, getD, take, drop, length-append, take-append-drop, drop-of-length-le}
+use lib.Seq.{take-at, drop-at, getD-at, drop-drop}
+use lib.Dec.{eqb, ltb}
+use borrow.Author.Tests.{eq-eqb, ne-eqb, eqb-true, lt-ltb, le-ltb, ltb-true}
+use Rattle.sheet.specs.Kinds.{pick, kinds, letter, fields, width}
 use Rattle.sheet.specs.Field.{field, value, isField}
 use Rattle.sheet.specs.Sheet.{fieldsText, lineText, line, Small, IsRow}
-use Rattle.sheet.specs.Refusal.{joinFirst, linesOf, areFields, isLine, kindOfLine, numbers, rowOf}
+use Rattle.sheet.specs.Refusal.{linesOf, areFields, isLine, kindOfLine, numbers, rowOf}
 use Rattle.sheet.proofs.Lists.{drop-next}
 use Rattle.sheet.proofs.KindLaws.{letter-kind, letter-no-feed}
-use Rattle.sheet.proofs.FieldLaws.{not-both, pick-both, pick-false, field-length, field-value, is-field, field-is, NoFeed, no-feed-append, field-no-feed}
+use Rattle.sheet.proofs.FieldLaws.{pick-both, pick-false, field-length, field-value, is-field, field-is, NoFeed, no-feed-append, field-no-feed}
 
 -- fields that stand at the front of a text
 pub record FieldsAre (n : ℕ) (x : List ℕ) : Type 0 where

@@ -1,12 +1,12 @@
 -- Laws of the line at a place: what the check answers there, by its tests.
 -- Assumes nothing.
-use Prim.Native.Nat.{ℕ, _+_, _-_, _≤_, _<_}
+use Prim.Native.Nat.{ℕ, _+_, _-_}
 use mathlib.Core.Path.{_≡_, refl, sym, ap, _∙_, subst}
 use mathlib.Core.Bool.{Bool, true, false}
 use mathlib.Core.List.{List}
 use native.Mathlib.Omega.{arith}
-use lib.ListN.{length, getD, take, drop}
-use Rattle.sheet.specs.Kinds.{pick, kinds, width, kindOf}
+use lib.ListN.{getD, take, drop}
+use Rattle.sheet.specs.Kinds.{pick, width, kindOf}
 use Rattle.sheet.specs.Refusal.{isLine, isInOrder}
 use Rattle.sheet.specs.Next.{nextAt}
 use Rattle.sheet.specs.declared.check.Next.{Next}

@@ -1,14 +1,14 @@
 -- Laws of a reading: its parts by the verdict.
 -- Assumes nothing.
 use Prim.Native.Nat.{ℕ, _≤_, _<_}
-use mathlib.Core.Path.{_≡_, refl, sym, ap, _∙_, subst}
+use mathlib.Core.Path.{_≡_, refl, sym, ap, _∙_}
 use mathlib.Core.List.{List}
 use native.Mathlib.Omega.{arith}
 use lib.ListN.{length, replicate}
 use borrow.Author.Tests.{lt-ltb, le-ltb}
-use Rattle.sheet.specs.Kinds.{pick, kinds}
+use Rattle.sheet.specs.Kinds.{pick}
 use Rattle.sheet.specs.Sheet.{Sheet}
-use Rattle.sheet.specs.Refusal.{verdict, sheetOf, Counted, Checked}
+use Rattle.sheet.specs.Refusal.{verdict, sheetOf, Checked}
 use Rattle.sheet.specs.Cells.{cellCount, stored, cellsAfter, Read}
 use Rattle.sheet.specs.declared.check.Verdict.{Verdict}
 use Rattle.sheet.specs.declared.check.Verdict.the-variants.{Sound, Refused, NoRoom}

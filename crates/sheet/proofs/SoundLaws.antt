@@ -1,20 +1,20 @@
 -- A text whose verdict is sound is the text of the sheet that it holds, which has one P and is within the limits.
 -- Assumes nothing.
-use Prim.Native.Nat.{ℕ, zero, suc, _+_, _≤_, _<_, max}
+use Prim.Native.Nat.{ℕ, zero, suc, _+_, _≤_, _<_}
 use mathlib.Core.Path.{_≡_, refl, sym, ap, _∙_, subst}
 use mathlib.Core.Bool.{Bool, true, false}
 use mathlib.Core.List.{List, [], _∷_, _++_, append-assoc, append-nil, map}
 use native.Mathlib.Omega.{arith}
 use native.Mathlib.Decide.{ℕ-discrete}
 use lib.ListN.{length, length-append, length-map}
-use lib.Dec.{eqb, leb, ltb}
+use lib.Dec.{eqb, ltb}
 use borrow.Author.Tests.{eq-eqb, ne-eqb, eqb-true, ltb-true}
-use Rattle.sheet.specs.Kinds.{pick, kinds, limit, width}
+use Rattle.sheet.specs.Kinds.{pick, kinds, limit}
 use Rattle.sheet.specs.Sheet.{line, linesText, Sheet, textFrom, render, IsRow, AreRows, IsSheet, Within}
 use Rattle.sheet.specs.Refusal.{joinFirst, linesOf, isLine, kindOfLine, latest, ofKind, isInOrder, fault, judged, verdictBelow, verdict, rowOf, sheetOf}
 use Rattle.sheet.specs.declared.check.Verdict.{Verdict}
-use Rattle.sheet.specs.declared.check.Verdict.the-variants.{Sound, Refused}
-use Rattle.sheet.proofs.FieldLaws.{not-both, pick-both}
+use Rattle.sheet.specs.declared.check.Verdict.the-variants.{Sound}
+use Rattle.sheet.proofs.FieldLaws.{not-both}
 use Rattle.sheet.proofs.LineLaws.{LineIs, line-is}
 use Rattle.sheet.proofs.CheckLaws.{passed, kind-more, kind-other, latest-more, order-latest, verdict-lines}
 

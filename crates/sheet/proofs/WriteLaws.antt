@@ -1,15 +1,14 @@
 -- Laws of writing: pieces that are written one behind the other are one text.
 -- Assumes nothing.
-use Prim.Native.Nat.{ℕ, zero, suc, _+_, _*_, _-_, _≤_, _<_, _/_, _%_}
-use mathlib.Core.Path.{_≡_, refl, sym, ap, _∙_, subst}
+use Prim.Native.Nat.{ℕ, _+_, _≤_, _<_}
+use mathlib.Core.Path.{_≡_, refl, sym, ap, _∙_}
 use mathlib.Core.List.{List, [], _∷_, _++_, append-assoc, append-nil}
 use native.Mathlib.Omega.{arith}
-use lib.ListN.{length, set, take, drop, replicate, length-append}
+use lib.ListN.{length, set, drop, replicate, length-append}
 use lib.Seq.{sets, sets-eq, set-set}
 use lib.Dec.{ltb}
 use mathlib.Core.Bool.{true, false}
 use borrow.Author.Tests.{lt-ltb, le-ltb}
-use Rattle.sheet.specs.Kinds.{pick}
 use Rattle.sheet.specs.Field.{digitOrBlank, columns, field}
 use Rattle.sheet.specs.Sheet.{fieldsText, lineText}
 use Rattle.sheet.specs.Answer.{endText, endsText, weightsText, figuresText, answerText, Wrote}
@@ -18,7 +17,6 @@ use Rattle.sheet.specs.declared.write.End.the-variants.{At, Absent}
 use Rattle.sheet.specs.declared.write.Figures.{Figures}
 use Rattle.sheet.specs.declared.write.Answer.{Answer}
 use Rattle.sheet.specs.declared.write.Answer.the-variants.{Proposal, NoneOf, Refused}
-use Rattle.sheet.specs.declared.write.Written.{Written}
 use Rattle.sheet.specs.declared.write.Written.the-variants.{Bytes, NoRoom}
 use Rattle.sheet.proofs.Lists.{sets-append}
 use Rattle.sheet.proofs.FieldLaws.{field-length}

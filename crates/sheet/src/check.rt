@@ -2,9 +2,8 @@
 use crate::field::is_field;
 use crate::kinds;
 ghost use mathlib.Core.Path.{_≡_};
-ghost use Prim.Native.Nat.{ℕ, _+_, _*_, _<_, _≤_};
-ghost use lib.ListN.{length, getD, take, drop};
-ghost use Rattle.sheet.specs.Kinds.{kinds, width};
+ghost use Prim.Native.Nat.{_+_, _*_, _<_, _≤_};
+ghost use lib.ListN.{length};
 ghost use Rattle.sheet.specs.Refusal.{areFields, isLine, isInOrder, Checked};
 ghost use Rattle.sheet.specs.Next.{nextAt};
 

@@ -11,7 +11,7 @@ ghost use lib.Seq.{sets};
 ghost use Rattle.sheet.specs.Kinds.{kinds, fields, limit};
 ghost use Rattle.sheet.specs.Refusal.{verdict, sheetOf};
 ghost use Rattle.sheet.specs.Lines.{AreLines, rowsOf, Readable, fieldsAt};
-ghost use Rattle.sheet.specs.Cells.{base, cellCount, storedColumns, stored, Read};
+ghost use Rattle.sheet.specs.Cells.{base, cellCount, place, storedColumns, stored, Read};
 ghost use Rattle.sheet.specs.declared.check.Verdict.the-variants.{Sound};
 
 // How many cells a sheet needs.
@@ -19,12 +19,27 @@ pub const CELLS: usize = 4101;
 
 const BASES: [usize; 8] = [4096, 0, 384, 512, 1280, 2048, 2176, 3712];
 
-// Where the cells of a kind start. Column c of kind k starts at base_of(k) + c * limit_of(k).
-pub fn base_of(k: usize) -> usize
-    requires { ⌜ k < kinds ⌝ }
+// Where the cells of a kind start.
+fn base_of(k: usize) -> usize
     ensures { λ r. ⌜ (r ≡ base k) × (r + fields k * limit k ≤ cellCount) ⌝ }
 {
+    if k >= kinds::KINDS {
+        return 0;
+    }
     BASES[k]
+}
+
+// Where column c of kind k starts among the cells; their end for a column that does not exist.
+pub fn column_of(k: usize, c: usize) -> usize
+    ensures { λ r. ⌜ (k < kinds → c < fields k → r ≡ place k c) × (r ≤ cellCount) ⌝ }
+{
+    if k >= kinds::KINDS {
+        return CELLS;
+    }
+    if c >= kinds::fields_of(k) {
+        return CELLS;
+    }
+    base_of(k) + c * kinds::limit_of(k)
 }
 
 // Stores one field of each of `count` lines, the first field at `from` and `step` bytes apart, to the cells from `place` on.

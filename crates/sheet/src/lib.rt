@@ -6,8 +6,8 @@
 // the first bad line and its refusal; the cells at exit are the definition's, and rendering what was read gives the
 // text back; the bytes that are written are the definition's.
 // A caller should know: no public entry point has a `requires`. Too few cells, or a buffer that is too short, is an
-// answer of its own. Column c of kind k starts at cell base_of(k) + c * limit_of(k), kinds in the order P B V S U W E F.
-// The limits belong to this layer alone.
+// answer of its own. Column c of kind k starts at cell column_of(k, c), kinds in the order P B V S U W E F, and as many of
+// its cells as the kind has rows are in use. The limits belong to this layer alone.
 mod check;
 mod field;
 mod fill;
@@ -18,10 +18,8 @@ pub use check::Reading;
 pub use check::Verdict;
 pub use check::check_text;
 pub use fill::CELLS;
-pub use fill::base_of;
+pub use fill::column_of;
 pub use fill::read_sheet;
-pub use kinds::fields_of;
-pub use kinds::limit_of;
 pub use write::Answer;
 pub use write::End;
 pub use write::Figures;

@@ -1,9 +1,8 @@
 -- `append` is safe and ends: the bytes used stay inside the buffer where they were.
 -- Assumes nothing.
 use native.Mathlib.Omega.{arith}
-use Prim.Native.Nat.{ℕ, _+_, _-_, _≤_, _<_}
-use mathlib.Core.Path.{_≡_, refl, sym, _∙_}
-use lib.Seq.{length-take-le}
+use Prim.Native.Nat.{_-_, _≤_}
+use mathlib.Core.Path.{_≡_, refl, _∙_}
 use lib.ListN.{length, length-set}
 use Rattle.sheet_cases.proofs.append.Statement.{statement}
 use Rattle.sheet_cases.proofs.append.Tie as tie

@@ -1,10 +1,7 @@
 -- `print_counts` is safe and ends.
 -- Assumes nothing.
 use native.Mathlib.Omega.{arith}
-use Prim.Native.Nat.{ℕ, _+_, _-_, _≤_, _<_}
-use mathlib.Core.Path.{_≡_, refl, sym, _∙_}
-use lib.Seq.{length-take-le}
-use lib.ListN.{length, length-set}
+use Prim.Native.Nat.{_-_, _≤_}
 use Rattle.sheet_cases.proofs.print_counts.Statement.{statement}
 use Rattle.sheet_cases.proofs.print_counts.Tie as tie
 

@@ -1,10 +1,9 @@
 -- `repeat` is safe and ends: the bytes used stay inside the buffer.
 -- Assumes nothing.
 use native.Mathlib.Omega.{arith}
-use Prim.Native.Nat.{ℕ, _+_, _-_, _≤_, _<_}
-use mathlib.Core.Path.{_≡_, refl, sym, _∙_}
-use lib.Seq.{length-take-le}
-use lib.ListN.{length, length-set}
+use Prim.Native.Nat.{_-_, _≤_}
+use mathlib.Core.Path.{_≡_, _∙_}
+use lib.ListN.{length}
 use Rattle.sheet_cases.proofs.repeat.Statement.{statement}
 use Rattle.sheet_cases.proofs.repeat.Tie as tie
 

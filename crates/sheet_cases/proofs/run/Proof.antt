@@ -1,10 +1,10 @@
 -- `run` is safe and ends: a place past the input is never read, and the bytes used stay inside the buffer.
 -- Assumes nothing.
 use native.Mathlib.Omega.{arith}
-use Prim.Native.Nat.{ℕ, _+_, _-_, _≤_, _<_}
-use mathlib.Core.Path.{_≡_, refl, sym, _∙_}
+use Prim.Native.Nat.{_-_, _≤_}
+use mathlib.Core.Path.{_≡_, sym}
 use lib.Seq.{length-take-le}
-use lib.ListN.{length, length-set}
+use lib.ListN.{length}
 use Rattle.sheet_cases.proofs.run.Statement.{statement}
 use Rattle.sheet_cases.proofs.run.Tie as tie
 

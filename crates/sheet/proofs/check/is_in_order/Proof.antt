@@ -1,6 +1,5 @@
 -- `check::is_in_order` meets its contract.
 -- Assumes nothing.
-use mathlib.Core.Path.{refl}
 use borrow.Author.Tests.{eq-eqb, ne-eqb}
 use Rattle.sheet.specs.Refusal.{isInOrder}
 use Rattle.sheet.proofs.check.is_in_order.Statement.{statement}

@@ -2,13 +2,13 @@
 -- Assumes nothing.
 use native.Mathlib.Omega.{arith}
 use borrow.Author.Needs.{needs}
-use Prim.Native.Nat.{ℕ, _*_, _-_, _+_, _≤_}
-use mathlib.Core.Path.{_≡_, refl, sym, ap, _∙_}
+use Prim.Native.Nat.{ℕ, _-_, _≤_}
+use mathlib.Core.Path.{_≡_, sym, ap, _∙_}
 use lib.ListN.{length, getD, drop, take, length-drop}
 use mathlib.Core.List.{List}
 use lib.Seq.{take-all}
-use Rattle.sheet.specs.Kinds.{kinds, width, letter, fields}
-use Rattle.sheet.specs.Refusal.{areFields, isLine}
+use Rattle.sheet.specs.Kinds.{width, letter, fields}
+use Rattle.sheet.specs.Refusal.{areFields}
 use Rattle.sheet.proofs.LineLaws.{line-test, line-not-kind, line-not-long, line-not-letter, line-not-feed}
 use Rattle.sheet.proofs.check.is_line.Statement.{statement}
 use Rattle.sheet.proofs.check.is_line.Tie as tie

@@ -2,13 +2,12 @@
 -- Assumes nothing.
 use native.Mathlib.Omega.{arith}
 use borrow.Author.Needs.{needs}
-use Prim.Native.Nat.{ℕ, _*_, _-_, _+_, _≤_, min}
-use mathlib.Core.Path.{_≡_, refl, sym, ap, _∙_, subst}
+use Prim.Native.Nat.{_-_, min}
+use mathlib.Core.Path.{_≡_, sym, _∙_}
 use mathlib.Core.Bool.{true, false}
-use lib.ListN.{length, getD, drop, take, length-drop, length-take}
+use lib.ListN.{length, drop, take, length-drop, length-take}
 use borrow.Author.Tests.{not-true, not-false}
-use Rattle.sheet.specs.Kinds.{kinds, width}
-use Rattle.sheet.specs.Refusal.{isLine}
+use Rattle.sheet.specs.Kinds.{width}
 use Rattle.sheet.proofs.LineLaws.{line-not-kind, line-not-long}
 use Rattle.sheet.proofs.NextLaws.{next-not-line, next-not-order, next-line, line-there}
 use Rattle.sheet.proofs.check.next_line.Statement.{statement}

@@ -1,7 +1,6 @@
 -- `field::digit_or_blank` meets its contract.
 -- Assumes nothing.
 use borrow.Author.Needs.{needs}
-use mathlib.Core.Path.{refl}
 use borrow.Author.Tests.{eq-eqb, ne-eqb}
 use Rattle.sheet.specs.Field.{digitOrBlank}
 use Rattle.sheet.proofs.field.digit_or_blank.Statement.{statement}

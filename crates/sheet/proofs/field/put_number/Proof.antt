@@ -1,11 +1,11 @@
 -- `field::put_number` meets its contract. The invariant: the columns left, stored into the buffer as it is, give what all ten give.
 -- Assumes nothing.
 use native.Mathlib.Omega.{arith}
-use Prim.Native.Nat.{ℕ, _+_, _-_, _/_, _%_, _≤_}
-use mathlib.Core.Path.{_≡_, refl, sym, _∙_}
+use Prim.Native.Nat.{_+_, _/_, _%_, _≤_}
+use mathlib.Core.Path.{_≡_, refl, _∙_}
 use lib.ListN.{length, length-set}
 use lib.Seq.{sets}
-use Rattle.sheet.specs.Field.{columns, field, digitOrBlank}
+use Rattle.sheet.specs.Field.{columns}
 use Rattle.sheet.proofs.FieldLaws.{put-step, put-end, put-whole}
 use Rattle.sheet.proofs.field.put_number.Statement.{statement}
 use Rattle.sheet.proofs.field.put_number.Tie as tie

@@ -1,7 +1,7 @@
 -- `field::same` meets its contract. The invariant: the texts are the same exactly if what is left of them is.
 -- Assumes nothing.
 use native.Mathlib.Omega.{arith}
-use Prim.Native.Nat.{ℕ, _-_, _≤_}
+use Prim.Native.Nat.{_-_, _≤_}
 use mathlib.Core.Path.{_≡_, refl, sym, _∙_}
 use lib.ListN.{length, drop}
 use Rattle.sheet.specs.Field.{sameText}

@@ -1,7 +1,7 @@
 -- `field::value_of` meets its contract. The invariant: the bytes left, read behind the number made so far, make the whole; the number is small.
 -- Assumes nothing.
 use native.Mathlib.Omega.{arith}
-use Prim.Native.Nat.{ℕ, _+_, _-_, _*_, _^_, _≤_}
+use Prim.Native.Nat.{_+_, _-_, _*_, _^_, _≤_}
 use mathlib.Core.Path.{_≡_, refl}
 use lib.ListN.{length, drop}
 use Rattle.sheet.specs.Field.{value, valueFrom}

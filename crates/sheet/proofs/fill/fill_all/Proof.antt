@@ -1,9 +1,8 @@
 -- `fill::fill_all` meets its contract. The invariant: the kinds left, stored into the cells as they are, give the whole sheet.
 -- Assumes nothing.
 use native.Mathlib.Omega.{arith}
-use Prim.Native.Nat.{ℕ, _+_, _*_, _-_, _≤_, _<_}
-use mathlib.Core.Path.{_≡_, refl, sym, ap, _∙_}
-use lib.ListN.{length, getD, drop}
+use Prim.Native.Nat.{_+_, _*_, _-_, _≤_}
+use lib.ListN.{length, getD}
 use Rattle.sheet.proofs.FillLaws.{Left, left-all, kind-lines, kind-count, kind-room, left-less, left-none}
 use Rattle.sheet.proofs.fill.fill_all.Statement.{statement}
 use Rattle.sheet.proofs.fill.fill_all.Tie as tie

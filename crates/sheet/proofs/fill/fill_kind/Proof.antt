@@ -1,12 +1,12 @@
 -- `fill::fill_kind` meets its contract. The invariant: the columns left, stored into the cells as they are, give what all give.
 -- Assumes nothing.
 use native.Mathlib.Omega.{arith}
-use Prim.Native.Nat.{ℕ, _+_, _*_, _-_, _≤_, _<_}
-use mathlib.Core.Path.{_≡_, refl, sym, ap, _∙_}
+use Prim.Native.Nat.{ℕ, _+_, _*_, _-_, _≤_}
+use mathlib.Core.Path.{_≡_, refl, ap, _∙_}
 use native.Mathlib.Nat.{sub-zero}
 use lib.ListN.{length, drop}
-use Rattle.sheet.specs.Kinds.{fields, limit, width}
-use Rattle.sheet.specs.Lines.{AreLines, rowsOf}
+use Rattle.sheet.specs.Kinds.{fields}
+use Rattle.sheet.specs.Lines.{rowsOf}
 use Rattle.sheet.specs.Cells.{storedColumns}
 use Rattle.sheet.proofs.FillLaws.{Entries, column-readable, column-fits, column-stored, column-step, column-end}
 use Rattle.sheet.proofs.fill.fill_kind.Statement.{statement}
@@ -31,16 +31,16 @@ fits-here c =
     column-fits _ _ _ _ _ (l .inv .2) (l .c) (c .before .loop-test .taken) (s .args .text .now) (s .args .at) (s .args .count) (s .pre .0 .2)
 
 fields-of-requires : tie.Need-fields-of-requires Inv-loop μ-loop
-fields-of-requires c κs = c .before .before .pre .0 .0
+fields-of-requires c κs = tt
 
 width-of-requires : tie.Need-width-of-requires Inv-loop μ-loop
-width-of-requires c κs = c .before .before .before .pre .0 .0
+width-of-requires c κs = tt
 
 limit-of-requires : tie.Need-limit-of-requires Inv-loop μ-loop
-limit-of-requires c κs = c .before .before .before .before .pre .0 .0
+limit-of-requires c κs = tt
 
 base-of-requires : tie.Need-base-of-requires Inv-loop μ-loop
-base-of-requires c κs = c .before .before .before .before .before .pre .0 .0
+base-of-requires c κs = tt
 
 loop-holds : tie.Need-loop-holds Inv-loop μ-loop
 loop-holds c =

@@ -1,7 +1,7 @@
 -- `fill::read_sheet` meets its contract, verdict by verdict.
 -- Assumes nothing.
 use borrow.Author.Needs.{needs}
-use mathlib.Core.Path.{_≡_, refl, sym, ap, _∙_}
+use mathlib.Core.Path.{sym, _∙_}
 use Rattle.sheet.proofs.ReadLaws.{read-short, read-stored, read-kept, refused-not-sound, no-room-not-sound}
 use Rattle.sheet.proofs.fill.read_sheet.Statement.{statement}
 use Rattle.sheet.proofs.fill.read_sheet.Tie as tie

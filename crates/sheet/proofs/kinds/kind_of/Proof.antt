@@ -1,9 +1,9 @@
 -- `kinds::kind_of` meets its contract. The invariant: the letter stands as far behind the kinds passed as in the rest of the letters.
 -- Assumes nothing.
 use native.Mathlib.Omega.{arith}
-use Prim.Native.Nat.{ℕ, suc, _+_, _-_, _≤_, _<_}
-use mathlib.Core.Path.{_≡_, refl, sym, ap, _∙_, subst}
-use lib.ListN.{length, drop, getD}
+use Prim.Native.Nat.{_+_, _-_, _≤_}
+use mathlib.Core.Path.{_≡_}
+use lib.ListN.{drop}
 use Rattle.sheet.specs.Kinds.{letters, position, kindOf}
 use Rattle.sheet.proofs.KindLaws.{position-here, position-step, position-past}
 use Rattle.sheet.proofs.kinds.kind_of.Statement.{statement}

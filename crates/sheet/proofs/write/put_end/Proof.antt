@@ -1,12 +1,11 @@
 -- `write::put_end` meets its contract.
 -- Assumes nothing.
 use borrow.Author.Needs.{needs}
-use Prim.Native.Nat.{ℕ, _+_, _≤_}
-use mathlib.Core.Path.{_≡_, refl, sym, ap, _∙_}
-use mathlib.Core.List.{List, [], _∷_, _++_}
-use lib.ListN.{length, set, length-set}
+use Prim.Native.Nat.{ℕ, _+_}
+use mathlib.Core.Path.{sym, ap, _∙_}
+use mathlib.Core.List.{List}
+use lib.ListN.{set}
 use lib.Seq.{sets}
-use Rattle.sheet.specs.Field.{field}
 use Rattle.sheet.specs.Answer.{endText}
 use Rattle.sheet.specs.declared.write.End.{End}
 use Rattle.sheet.proofs.WriteLaws.{end-absent}

@@ -2,12 +2,9 @@
 -- Assumes nothing.
 use native.Mathlib.Omega.{arith}
 use borrow.Author.Needs.{needs}
-use Prim.Native.Nat.{ℕ, _+_, _≤_}
-use mathlib.Core.Path.{_≡_, refl, sym, ap, _∙_}
-use mathlib.Core.List.{List, [], _∷_, _++_}
-use lib.ListN.{length, set, length-set}
-use lib.Seq.{sets}
-use Rattle.sheet.specs.Field.{field}
+use mathlib.Core.Path.{refl, _∙_}
+use mathlib.Core.List.{[], _∷_}
+use lib.ListN.{set, length-set}
 use Rattle.sheet.specs.Answer.{endText}
 use Rattle.sheet.proofs.WriteLaws.{put-none, put-more, put-as, ends-text, end-length}
 use Rattle.sheet.proofs.write.put_ends.Statement.{statement}

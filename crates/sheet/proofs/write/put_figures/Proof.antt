@@ -1,12 +1,8 @@
 -- `write::put_figures` meets its contract: its pieces, one behind the other.
 -- Assumes nothing.
 use borrow.Author.Needs.{needs}
-use Prim.Native.Nat.{ℕ, _+_, _≤_}
-use mathlib.Core.Path.{_≡_, refl, sym, ap, _∙_}
-use mathlib.Core.List.{List, [], _∷_, _++_}
-use lib.ListN.{length, set, length-set}
-use lib.Seq.{sets}
-use Rattle.sheet.specs.Field.{field}
+use mathlib.Core.Path.{refl}
+use mathlib.Core.List.{[], _∷_}
 use Rattle.sheet.specs.Sheet.{lineText}
 use Rattle.sheet.specs.Answer.{endsText, weightsText, figuresText}
 use Rattle.sheet.proofs.WriteLaws.{put-none, put-more, put-as, ends-length, weights-length, line-length-one}

@@ -2,11 +2,9 @@
 -- Assumes nothing.
 use native.Mathlib.Omega.{arith}
 use borrow.Author.Needs.{needs}
-use Prim.Native.Nat.{ℕ, _+_, _≤_}
-use mathlib.Core.Path.{_≡_, refl, sym, ap, _∙_}
-use mathlib.Core.List.{List, [], _∷_, _++_}
-use lib.ListN.{length, set, length-set}
-use lib.Seq.{sets}
+use mathlib.Core.Path.{refl, _∙_}
+use mathlib.Core.List.{[], _∷_}
+use lib.ListN.{set, length-set}
 use Rattle.sheet.specs.Field.{field}
 use Rattle.sheet.proofs.FieldLaws.{field-length}
 use Rattle.sheet.proofs.WriteLaws.{put-none, put-more, put-as, two-text}

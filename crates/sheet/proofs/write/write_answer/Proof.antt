@@ -1,12 +1,9 @@
 -- `write::write_answer` meets its contract, answer by answer.
 -- Assumes nothing.
 use borrow.Author.Needs.{needs}
-use Prim.Native.Nat.{ℕ, _+_, _≤_}
-use mathlib.Core.Path.{_≡_, refl, sym, ap, _∙_}
-use mathlib.Core.List.{List, [], _∷_, _++_}
-use lib.ListN.{length, set, length-set}
+use mathlib.Core.Path.{sym, ap, _∙_}
+use lib.ListN.{length}
 use lib.Seq.{sets}
-use Rattle.sheet.specs.Field.{field}
 use Rattle.sheet.proofs.WriteLaws.{wrote-none, wrote-all, proposal-text, none-text, refusal-text, figures-length, line-length-one, line-length-two}
 use Rattle.sheet.proofs.write.write_answer.Statement.{statement}
 use Rattle.sheet.proofs.write.write_answer.Tie as tie
