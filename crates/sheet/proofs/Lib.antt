@@ -12,3 +12,4 @@ pub mod CellLaws
 pub mod ReadLaws
 pub mod WriteLaws
 pub mod Exact
+pub mod Case

@@ -6,6 +6,7 @@ use mathlib.Core.List.{List, [], _∷_}
 use lib.ListN.{getD}
 use lib.Dec.{eqb}
 
+-- a where a test holds, else b
 abbrev pub pick : {A : Type 0} → Bool → A → A → A
 pick true a b = a
 pick false a b = b
@@ -18,14 +19,24 @@ kinds = 8
 abbrev pub letters : List ℕ
 letters = 80 ∷ 66 ∷ 86 ∷ 83 ∷ 85 ∷ 87 ∷ 69 ∷ 70 ∷ []
 
--- how many fields a line of each kind has
+-- how many fields a line of each kind has. P: k, three scales, units. B: frequency, first, end. V: code.
+-- S: start, end, value, first use, end use, flags. U: position, kind, cost. W: weight.
+-- E: unit, start, end, kind, index, fixed. F: unit, point, value.
 abbrev pub fieldCounts : List ℕ
 fieldCounts = 5 ∷ 3 ∷ 1 ∷ 6 ∷ 3 ∷ 1 ∷ 6 ∷ 3 ∷ []
 
--- how many lines of each kind a sheet may have: one P, 256 uses or reservations, 128 of the others
-abbrev pub limits : List ℕ
-limits = 1 ∷ 128 ∷ 128 ∷ 128 ∷ 256 ∷ 128 ∷ 256 ∷ 128 ∷ []
+-- the limits of this layer: of uses or reservations, and of another kind
+abbrev pub many : ℕ
+many = 256
 
+abbrev pub few : ℕ
+few = 128
+
+-- how many lines of each kind a sheet may have: one P, and the limits
+abbrev pub limits : List ℕ
+limits = 1 ∷ few ∷ few ∷ few ∷ many ∷ few ∷ many ∷ few ∷ []
+
+-- letter, number of fields and limit of kind k; 0 for what is no kind
 unfoldable pub letter : ℕ → ℕ
 letter k = getD letters k 0
 

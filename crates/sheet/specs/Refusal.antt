@@ -27,7 +27,7 @@ unfoldable pub areFields : ℕ → List ℕ → Bool
 areFields zero x = true
 areFields (suc n) x = pick (isField (take 11 x)) (areFields n (drop 11 x)) false
 
--- a text is a well-formed line of kind k: its length, its letter, its line feed, its fields
+-- a text is a well-formed line of kind k, that is, the line of a row: its length, its letter, its line feed, its fields
 unfoldable pub isLine : ℕ → List ℕ → Bool
 isLine k l =
     pick (ltb k kinds)
@@ -48,7 +48,7 @@ unfoldable pub ofKind : ℕ → List (List ℕ) → List (List ℕ)
 ofKind k [] = []
 ofKind k (l ∷ ls) = pick (eqb (kindOfLine l) k) (l ∷ ofKind k ls) (ofKind k ls)
 
--- a line of kind k is in order below n lines, the latest of kind m: P is the first line and no other, and no kind comes before an earlier one
+-- a line of kind k is in order below n lines, the latest of kind m: P is the first line and no other, and no kind stands below a later one
 unfoldable pub isInOrder : ℕ → ℕ → ℕ → Bool
 isInOrder n m k = pick (eqb n 0) (eqb k 0) (pick (eqb k 0) false (leb m k))
 
@@ -59,6 +59,7 @@ fault above l =
     (pick (isInOrder (length above) (latest above) (kindOfLine l)) (pick (ltb (length (ofKind (kindOfLine l) above)) (limit (kindOfLine l))) 0 15) 14)
     14
 
+-- a refusal with its place where there is a fault, else what is said of the lines below
 abbrev pub judged : ℕ → ℕ → Verdict → Verdict
 judged zero place v = v
 judged (suc n) place v = Refused (suc n) place

@@ -14,10 +14,25 @@ ghost use Rattle.sheet.specs.Lines.{AreLines, rowsOf, Readable, fieldsAt
 ghost use Rattle.sheet.specs.Cells.{base, cellCount, place, storedColumns, stored, Read};
 ghost use Rattle.sheet.specs.declared.check.Verdict.the-variants.{Sound};
 
-// How many cells a sheet needs.
-pub const CELLS: usize = 4101;
+// The cells of B to F one kind behind the other, each with its fields times its limit, and then the five of P.
+const V_AT: usize = 3 * kinds::FEW;
 
-const BASES: [usize; 8] = [4096, 0, 384, 512, 1280, 2048, 2176, 3712];
+const S_AT: usize = V_AT + kinds::FEW;
+
+const U_AT: usize = S_AT + 6 * kinds::FEW;
+
+const W_AT: usize = U_AT + 3 * kinds::MANY;
+
+const E_AT: usize = W_AT + kinds::FEW;
+
+const F_AT: usize = E_AT + 6 * kinds::MANY;
+
+const P_AT: usize = F_AT + 3 * kinds::FEW;
+
+// How many cells a sheet needs.
+pub const CELLS: usize = P_AT + 5;
+
+const BASES: [usize; 8] = [P_AT, 0, V_AT, S_AT, U_AT, W_AT, E_AT, F_AT];
 
 // Where the cells of a kind start.
 fn base_of(k: usize) -> usize

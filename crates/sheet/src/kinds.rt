@@ -5,10 +5,10 @@ ghost use Rattle.sheet.specs.Kinds.{letter, fields, limit, width, kindOf
 
 pub const KINDS: usize = 8;
 
-// The limits are this layer's alone.
-const FEW: usize = 128;
+// The limits are this layer's alone: uses and reservations are many, the others few.
+pub const FEW: usize = 128;
 
-const MANY: usize = 256;
+pub const MANY: usize = 256;
 
 const LETTERS: [u8; 8] = [b'P', b'B', b'V', b'S', b'U', b'W', b'E', b'F'];
 
