@@ -6,7 +6,7 @@ use mathlib.Core.List.{List, [], _∷_}
 use lib.ListN.{getD}
 use Rattle.sheet.specs.Kinds.{letter, fields, limit, width, position, kindOf}
 use Rattle.sheet.specs.Field.{digitOrBlank, columns, field, valueFrom, value, sameText, isField}
-use Rattle.sheet.specs.Sheet.{fieldsText, lineText, line, linesText, Sheet, textFrom, render}
+use Rattle.sheet.specs.Sheet.{fieldsText, lineText, line, linesText, textFrom, render}
 use Rattle.sheet.specs.Refusal.{linesOf, areFields, isLine, kindOfLine, latest, ofKind, isInOrder, fault, verdictBelow, verdict}
 use Rattle.sheet.specs.Answer.{endText, endsText, weightsText, figuresText, answerText}
 use Rattle.sheet.specs.declared.check.Verdict.the-variants.{Sound}

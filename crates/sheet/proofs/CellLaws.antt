@@ -20,7 +20,7 @@ use Rattle.sheet.proofs.KindLaws.{allBelow, all-at}
 use Rattle.sheet.proofs.FillLaws.{place-fits, base-fits}
 
 -- an index is outside a run of n from p on
-abbrev Outside : ℕ → ℕ → ℕ → Type 0
+abbrev pub Outside : ℕ → ℕ → ℕ → Type 0
 Outside j p n = (j < p) ⊎ (p + n ≤ j)
 
 sets-outside : (vs l : List ℕ) (p j : ℕ) → Outside j p (length vs) → getD (sets l p vs) j 0 ≡ getD l j 0

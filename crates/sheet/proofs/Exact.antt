@@ -13,11 +13,13 @@ use Rattle.sheet.specs.Kinds.{pick, kinds, fields, limit}
 use Rattle.sheet.specs.Sheet.{linesText, Sheet, textFrom, render, IsSheet, Within}
 use Rattle.sheet.specs.Refusal.{linesOf, isLine, kindOfLine, latest, ofKind, isInOrder, fault, judged, verdictBelow, verdict, sheetOf}
 use Rattle.sheet.specs.Cells.{cellCount, place, column, stored, cellsAfter, held, Read}
+use Rattle.sheet.specs.declared.check.Verdict.{Verdict}
 use Rattle.sheet.specs.declared.check.Verdict.the-variants.{Sound, Refused, NoRoom}
 use Rattle.sheet.proofs.CheckLaws.{verdict-lines, passed}
 use Rattle.sheet.proofs.SoundLaws.{AllPass, fault-none, sound-sheet}
 use Rattle.sheet.proofs.CompleteLaws.{render-sound, render-held}
-use Rattle.sheet.proofs.CellLaws.{sheet-held, column-held}
+use Rattle.sheet.proofs.CellLaws.{Outside, cells-kept, sheet-held, column-held}
+use Rattle.sheet.proofs.ReadLaws.{cells-same}
 
 -- a text of a sheet with one P within the limits
 pub record Rendering (text : List ℕ) : Type 0 where
@@ -173,3 +175,14 @@ module _ (text before after counts : List ℕ) (r : Read text before after Sound
       ap (λ (x : List ℕ). take (getD counts k 0) (drop (place k c) x)) (r .cells)
       ∙ ap (λ (n : ℕ). take n (drop (place k c) (stored (sheetOf text) before))) (r .counted .sound refl k h)
       ∙ column-held (sheetOf text) before (t .within) room k c h f
+
+  -- a cell in no used row keeps what it held
+  pub read-kept : (j : ℕ) → ((k c : ℕ) → k < kinds → c < fields k → Outside j (place k c) (getD counts k 0)) → getD after j 0 ≡ getD before j 0
+  unfolding cellsAfter
+  read-kept j o =
+      ap (λ (x : List ℕ). getD x j 0) (r .cells)
+      ∙ cells-kept (sheetOf text) before j (λ k c h f. subst (Outside j (place k c)) (r .counted .sound refl k h) (o k c h f))
+
+-- where the text is refused, or there are too few cells, every cell keeps what it held
+pub refused-kept : (text before after counts : List ℕ) (v : Verdict) → Read text before after v counts → (v ≡ Sound → ⊥) → after ≡ before
+refused-kept text before after counts v r f = r .cells ∙ sym (cells-same v (sheetOf text) before f)

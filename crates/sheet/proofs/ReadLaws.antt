@@ -14,16 +14,16 @@ use Rattle.sheet.specs.declared.check.Verdict.{Verdict}
 use Rattle.sheet.specs.declared.check.Verdict.the-variants.{Sound, Refused, NoRoom}
 use Rattle.sheet.proofs.CheckLaws.{not-counted}
 
-pub cells-kept : (v : Verdict) (s : Sheet) (cells : List ℕ) → (v ≡ Sound → ⊥) → cells ≡ cellsAfter v s cells
+pub cells-same : (v : Verdict) (s : Sheet) (cells : List ℕ) → (v ≡ Sound → ⊥) → cells ≡ cellsAfter v s cells
 unfolding cellsAfter
-cells-kept Sound s cells f = absurd (f refl)
-cells-kept (Refused n p) s cells f = refl
-cells-kept NoRoom s cells f = refl
+cells-same Sound s cells f = absurd (f refl)
+cells-same (Refused n p) s cells f = refl
+cells-same NoRoom s cells f = refl
 
 pub read-short : (text cells : List ℕ) → length cells < cellCount → Read text cells cells NoRoom (replicate 8 0)
 read-short text cells h =
     let f : NoRoom ≡ Sound → ⊥ = λ e. (let z : _≡_ {A = ℕ} 0 1 = cc in omega arith) in
-    record { answer = rw (lt-ltb (length cells) cellCount h); cells = cells-kept NoRoom (sheetOf text) cells f; counted = not-counted text NoRoom f }
+    record { answer = rw (lt-ltb (length cells) cellCount h); cells = cells-same NoRoom (sheetOf text) cells f; counted = not-counted text NoRoom f }
 
 module _ (text before : List ℕ) (v : Verdict) (counts : List ℕ) (checked : Checked text v counts) (room : cellCount ≤ length before) where
   answered : v ≡ pick (lib.Dec.ltb (length before) cellCount) NoRoom (verdict text)
@@ -35,7 +35,7 @@ module _ (text before : List ℕ) (v : Verdict) (counts : List ℕ) (checked : C
       record { answer = answered; cells = q ∙ ap (λ (w : Verdict). cellsAfter w (sheetOf text) before) (sym e); counted = checked .counted }
 
   pub read-kept : (v ≡ Sound → ⊥) → Read text before before v counts
-  read-kept f = record { answer = answered; cells = cells-kept v (sheetOf text) before f; counted = checked .counted }
+  read-kept f = record { answer = answered; cells = cells-same v (sheetOf text) before f; counted = checked .counted }
 
 pub refused-not-sound : (v : Verdict) (n p : ℕ) → v ≡ Refused n p → v ≡ Sound → ⊥
 refused-not-sound v n p e q = let z : _≡_ {A = ℕ} 0 1 = cc in omega arith

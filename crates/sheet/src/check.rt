@@ -7,6 +7,11 @@ ghost use lib.ListN.{length};
 ghost use Rattle.sheet.specs.Refusal.{areFields, isLine, isInOrder, Checked};
 ghost use Rattle.sheet.specs.Next.{nextAt};
 
+// The numbers of the two refusals: a line malformed or out of order, and one too many of its kind.
+const BAD_LINE: u32 = 14;
+
+const TOO_MANY: u32 = 15;
+
 // What a text, or a reading, comes to: a number and a line where it is refused; no room where the lent cells are too few.
 pub enum Verdict {
     Sound,
@@ -106,7 +111,7 @@ pub fn check_text(text: &[u8]) -> Reading
     let mut counts = [0usize; 8];
     if text.len() == 0 {
         return Reading {
-            verdict: Verdict::Refused(14, 1),
+            verdict: Verdict::Refused(BAD_LINE, 1),
             counts,
         };
     }
@@ -116,14 +121,14 @@ pub fn check_text(text: &[u8]) -> Reading
     while at < text.len() {
         let Next::Line(k, e) = next_line(text, at, lines as usize, latest) else {
             return Reading {
-                verdict: Verdict::Refused(14, lines + 1),
+                verdict: Verdict::Refused(BAD_LINE, lines + 1),
                 counts: [0usize; 8],
             };
         };
         let rows = counts[k];
         if rows >= kinds::limit_of(k) {
             return Reading {
-                verdict: Verdict::Refused(15, lines + 1),
+                verdict: Verdict::Refused(TOO_MANY, lines + 1),
                 counts: [0usize; 8],
             };
         }
