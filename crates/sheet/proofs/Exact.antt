@@ -12,13 +12,14 @@ use borrow.Author.Tests.{le-ltb, ltb-false}
 use Rattle.sheet.specs.Kinds.{pick, kinds, fields, limit}
 use Rattle.sheet.specs.Sheet.{linesText, Sheet, textFrom, render, IsSheet, Within}
 use Rattle.sheet.specs.Refusal.{linesOf, isLine, kindOfLine, latest, ofKind, isInOrder, fault, judged, verdictBelow, verdict, sheetOf}
-use Rattle.sheet.specs.Cells.{cellCount, place, column, stored, cellsAfter, held, Read}
+use Rattle.sheet.specs.Cells.{base, cellCount, place, column, stored, cellsAfter, held, Read}
 use Rattle.sheet.specs.declared.check.Verdict.{Verdict}
 use Rattle.sheet.specs.declared.check.Verdict.the-variants.{Sound, Refused, NoRoom}
 use Rattle.sheet.proofs.CheckLaws.{verdict-lines, passed}
 use Rattle.sheet.proofs.SoundLaws.{AllPass, fault-none, sound-sheet}
 use Rattle.sheet.proofs.CompleteLaws.{render-sound, render-held}
 use Rattle.sheet.proofs.CellLaws.{Outside, cells-kept, sheet-held, column-held}
+use Rattle.sheet.proofs.FillLaws.{place-fits, base-fits}
 use Rattle.sheet.proofs.ReadLaws.{cells-same}
 
 -- a text of a sheet with one P within the limits
@@ -135,16 +136,19 @@ render-same (suc n) k s t h =
     ∙ ap (λ (x : List ℕ). linesText k (t k) ++ x) (render-same n (suc k) s t (λ j a b. h j (omega arith) (omega arith)))
 
 -- what a sound reading left in the cells
-module _ (text before after counts : List ℕ) (r : Read text before after Sound counts) where
-  sound : verdict text ≡ Sound
+module _ (text before after : List ℕ) (v : Verdict) (counts : List ℕ) (given : Read text before after v counts) (is-sound : v ≡ Sound) where
+  r : Read text before after Sound counts
+  r = subst (λ (w : Verdict). Read text before after w counts) is-sound given
+
+  pub sound : verdict text ≡ Sound
   sound = by (ltb (length before) cellCount) (r .answer)
     where
       by : (b : Bool) → Sound ≡ pick b NoRoom (verdict text) → verdict text ≡ Sound
       by true e = let z : _≡_ {A = ℕ} 0 1 = cc in absurd (omega arith)
       by false e = sym e
 
-  room : cellCount ≤ length before
-  room = by (ltb (length before) cellCount) refl (r .answer)
+  pub read-room : cellCount ≤ length before
+  read-room = by (ltb (length before) cellCount) refl (r .answer)
     where
       by : (b : Bool) → ltb (length before) cellCount ≡ b → Sound ≡ pick b NoRoom (verdict text) → cellCount ≤ length before
       by true e q = let z : _≡_ {A = ℕ} 0 1 = cc in absurd (omega arith)
@@ -156,7 +160,7 @@ module _ (text before after counts : List ℕ) (r : Read text before after Sound
   read-held k h =
       let t = sound-sheet text sound in
       ap (λ (x : List ℕ). held x counts k) (r .cells)
-      ∙ sheet-held (sheetOf text) before counts (t .within) room k h (t .sheet .rows k h) (r .counted .sound refl k h)
+      ∙ sheet-held (sheetOf text) before counts (t .within) read-room k h (t .sheet .rows k h) (r .counted .sound refl k h)
 
   -- rendering what was read gives the text back, byte for byte
   pub read-back : render (held after counts) ≡ text
@@ -167,6 +171,11 @@ module _ (text before after counts : List ℕ) (r : Read text before after Sound
   pub read-only : (s : Sheet) → IsSheet s → render s ≡ text → (k : ℕ) → k < kinds → held after counts k ≡ s k
   read-only s is e k h = read-held k h ∙ ap (λ (x : List ℕ). sheetOf x k) (sym e) ∙ render-held s is k h
 
+  -- a column lies inside the cells
+  pub read-inside : (k c : ℕ) → k < kinds → c < fields k → place k c + getD counts k 0 ≤ cellCount
+  unfolding place
+  read-inside k c h f = place-fits (base k) (fields k) (limit k) c (getD counts k 0) cellCount f (r .counted .within k h) (base-fits k h)
+
   -- the used cells of a column are that column of the sheet
   pub read-column : (k c : ℕ) → k < kinds → c < fields k → take (getD counts k 0) (drop (place k c) after) ≡ column c (sheetOf text k)
   unfolding cellsAfter
@@ -174,7 +183,7 @@ module _ (text before after counts : List ℕ) (r : Read text before after Sound
       let t = sound-sheet text sound in
       ap (λ (x : List ℕ). take (getD counts k 0) (drop (place k c) x)) (r .cells)
       ∙ ap (λ (n : ℕ). take n (drop (place k c) (stored (sheetOf text) before))) (r .counted .sound refl k h)
-      ∙ column-held (sheetOf text) before (t .within) room k c h f
+      ∙ column-held (sheetOf text) before (t .within) read-room k c h f
 
   -- a cell in no used row keeps what it held
   pub read-kept : (j : ℕ) → ((k c : ℕ) → k < kinds → c < fields k → Outside j (place k c) (getD counts k 0)) → getD after j 0 ≡ getD before j 0
