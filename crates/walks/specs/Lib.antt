@@ -1,0 +1,2 @@
+-- The tables between a checked job and the growth
+pub mod Uses
