@@ -1,2 +1,4 @@
 -- What the walks share
 pub mod Largest
+pub mod UseRows
+pub mod Pending

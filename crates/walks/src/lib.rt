@@ -1,2 +1,2 @@
-// Walks: from a checked job to its gaps. So far the best use.
+// Walks: from a checked job to its gaps. So far the rows of the use table and the best use.
 pub mod uses;

@@ -1,11 +1,82 @@
-// The best use of the use table.
+// The rows of the use table, and the best use.
+use jobs::rows::Segment;
+use numbers::Inst;
 ghost use mathlib.Core.Path.{_≡_};
-ghost use Rattle.walks.specs.Uses.{AllWeights, bestUse};
+ghost use Prim.Native.Nat.{_≤_};
+ghost use Rattle.walks.specs.Uses.{AllWeights, bestUse, partOf, noWeights, addedTo};
+
+// Which of a row's weights a use adds to.
+pub enum Part {
+    Main,
+    Left,
+    Right,
+}
+
+// A row of the use table: an instruction, the weight of its uses, and what counts only if a region extends to its left or right.
+pub struct SplitUse {
+    pub inst: Inst,
+    pub weight: f32,
+    pub left_weight: f32,
+    pub right_weight: f32,
+}
 
 // A row of the use table, or none.
 pub enum BestUse {
     At(usize),
     Nothing,
+}
+
+// The weight to which a use at an instruction adds. A use outside its segment's live range counts only on the side where that lies.
+pub fn part_of(s: Segment, inst: Inst) -> Part
+    ensures { λ r. ⌜ r ≡ partOf s (inst .0) ⌝ }
+{
+    let p = inst.0 as u64;
+    if 4 * (p + 1) == (s.start as u64) {
+        return Part::Right;
+    }
+    if 4 * p == (s.end as u64) {
+        return Part::Left;
+    }
+    Part::Main
+}
+
+// The row of an instruction at which nothing counts yet.
+pub fn no_weights(inst: Inst) -> SplitUse
+    ensures { λ r. ⌜ r ≡ noWeights (inst .0) ⌝ }
+{
+    SplitUse {
+        inst,
+        weight: 0.0,
+        left_weight: 0.0,
+        right_weight: 0.0,
+    }
+}
+
+// The row with a use's weight added to one of its three.
+pub fn added_to(u: SplitUse, part: Part, weight: f32) -> SplitUse
+    ensures { λ r. ⌜ r ≡ addedTo u part weight ⌝ }
+{
+    let inst = u.inst;
+    match part {
+        Part::Main => SplitUse {
+            inst,
+            weight: u.weight + weight,
+            left_weight: u.left_weight,
+            right_weight: u.right_weight,
+        },
+        Part::Left => SplitUse {
+            inst,
+            weight: u.weight,
+            left_weight: u.left_weight + weight,
+            right_weight: u.right_weight,
+        },
+        Part::Right => SplitUse {
+            inst,
+            weight: u.weight,
+            left_weight: u.left_weight,
+            right_weight: u.right_weight + weight,
+        },
+    }
 }
 
 // The best use of a table with these main weights. A table of one row has none: nothing could be cut off.

@@ -1,0 +1,109 @@
+-- The use table as it is collected: all rows but the latest are written, and one more use makes one step
+use mathlib.Core.Path.{_≡_, refl, sym, ap, ap₂, _∙_, subst}
+use mathlib.Core.Bool.{Bool, true, false, not, _&&_, _||_, cond, true≢false}
+use mathlib.Core.List.{List, [], _∷_, _++_, append-assoc, append-nil}
+use Prim.Native.Nat.{ℕ, zero, suc, _+_, _-_, _≤_, _<_}
+use native.Mathlib.Nat.{add-zero, le-refl, le-of-eq, lt-irrefl}
+use native.Mathlib.Omega.{arith}
+use lib.Dec.{eqb}
+use borrow.Author.Tests.{eq-eqb, ne-eqb}
+use Rattle.numbers.specs.declared.Inst.{Inst}
+use Rattle.walks.specs.declared.uses.SplitUse.{SplitUse}
+use Rattle.walks.specs.Uses.{noWeights, addedTo, Seen, countsAt, carries, splitUse, hasRow, rowsFrom}
+use Rattle.walks.proofs.UseRows.{skipped-carries, skipped-row, other-carries, other-row, own-carries, own-row, row-none, rows-split, rows-none, rows-one, rows-same, or-all, or-last}
+
+-- n uses are seen: the rows before instruction p are written, `latest` is the row of p, and none is after it
+pub record Pending (seen : Seen) (first n p : ℕ) (written : List SplitUse) (latest : SplitUse) : Type 0 where
+  pub from : first ≤ p
+  pub rows : written ≡ rowsFrom seen n first first first (p - first)
+  pub row : latest ≡ splitUse seen n p
+  pub has : hasRow seen n first first p ≡ true
+  pub none : (q : ℕ) → p < q → hasRow seen n first first q ≡ false
+
+module _ (seen : Seen) (first : ℕ) where
+  rows-to : ℕ → ℕ → List SplitUse
+  rows-to n p = rowsFrom seen n first first first (p - first)
+
+  -- before any use there is the first instruction's row
+  pub pending-first : Pending seen first 0 first [] (noWeights first)
+  unfolding splitUse carries rowsFrom
+  pending-first =
+      record {
+        from = le-refl first;
+        rows = ap (rowsFrom seen 0 first first first) (nothing first);
+        row = refl;
+        has = start first;
+        none = λ q h. later q (ne-eqb q first (λ e. lt-irrefl q (subst (λ (x : ℕ). x < q) (sym e) h)));
+      }
+    where
+      nothing : (x : ℕ) → 0 ≡ x - x
+      nothing x = omega arith
+
+      start : (x : ℕ) → (eqb x x || eqb x x || false) ≡ true
+      start x = rw (eq-eqb x x refl)
+
+      later : (q : ℕ) → eqb q first ≡ false → (eqb q first || eqb q first || false) ≡ false
+      later q e = rw e
+
+  -- a use that does not count changes nothing
+  module _ (n p : ℕ) (written : List SplitUse) (latest : SplitUse) (known : Pending seen first n p written latest) where
+    pub pending-skipped : seen .counts n ≡ false → Pending seen first (suc n) p written latest
+    pending-skipped e =
+        record {
+          from = known .from;
+          rows = known .rows ∙ rows-same seen n (suc n) first first first first first (p - first) (λ q a b. (sym (has-same q), sym (skipped-row seen n e q)));
+          row = known .row ∙ sym (skipped-row seen n e p);
+          has = has-same p ∙ known .has;
+          none = λ q h. has-same q ∙ known .none q h;
+        }
+      where
+        has-same : (q : ℕ) → hasRow seen (suc n) first first q ≡ hasRow seen n first first q
+        has-same q = ap (λ (b : Bool). eqb q first || eqb q first || b) (skipped-carries seen n e q)
+
+    -- one that counts
+    module _ (counted : seen .counts n ≡ true) where
+      -- leaves the rows of other instructions
+      other-has : (q : ℕ) → (seen .inst n ≡ q → ⊥) → hasRow seen (suc n) first first q ≡ hasRow seen n first first q
+      other-has q e = ap (λ (b : Bool). eqb q first || eqb q first || b) (other-carries seen n q e)
+
+      own-has : hasRow seen (suc n) first first (seen .inst n) ≡ true
+      own-has = or-all (eqb (seen .inst n) first || eqb (seen .inst n) first) (carries seen (suc n) (seen .inst n)) (own-carries seen n counted)
+
+      others : (q c : ℕ) → ((x : ℕ) → q ≤ x → x < q + c → seen .inst n ≡ x → ⊥) → rowsFrom seen n first first q c ≡ rowsFrom seen (suc n) first first q c
+      others q c h = rows-same seen n (suc n) first first first first q c (λ x a b. (sym (other-has x (h x a b)), sym (other-row seen n x (h x a b))))
+
+      -- at the latest row's instruction: its weight is added there
+      pub pending-same : seen .inst n ≡ p → Pending seen first (suc n) p written (addedTo latest (seen .part n) (seen .weight n))
+      pending-same e =
+          record {
+            from = known .from;
+            rows = known .rows ∙ others first (p - first) (λ x a b f. let g = e in let h = known .from in omega (arith, a, b, f, g, h));
+            row =
+                ap (λ (u : SplitUse). addedTo u (seen .part n) (seen .weight n)) (known .row ∙ ap (splitUse seen n) (sym e))
+                ∙ sym (own-row seen n counted)
+                ∙ ap (splitUse seen (suc n)) e;
+            has = subst (λ (q : ℕ). hasRow seen (suc n) first first q ≡ true) e own-has;
+            none = λ q h. other-has q (λ f. let g = e in omega (arith, f, g, h)) ∙ known .none q h;
+          }
+
+      -- after it: that row is written, and the use's own is the latest
+      pub pending-later : p < seen .inst n → Pending seen first (suc n) (seen .inst n) (written ++ (latest ∷ [])) (addedTo (noWeights (seen .inst n)) (seen .part n) (seen .weight n))
+      pending-later h =
+          record {
+            from = let f = known .from in omega (arith, f, h);
+            rows = all;
+            row = ap (λ (u : SplitUse). addedTo u (seen .part n) (seen .weight n)) (sym (row-none seen n (seen .inst n) (or-last (eqb (seen .inst n) first || eqb (seen .inst n) first) (carries seen n (seen .inst n)) (known .none (seen .inst n) h)))) ∙ sym (own-row seen n counted);
+            has = own-has;
+            none = λ q l. other-has q (λ f. omega (arith, f, l)) ∙ known .none q (omega (arith, h, l));
+          }
+        where
+          -- the rows up to the use: those written, the latest, and none between
+          all : written ++ (latest ∷ []) ≡ rowsFrom seen (suc n) first first first (seen .inst n - first)
+          all =
+              let f = known .from in
+              let count : seen .inst n - first ≡ (p - first) + (1 + (seen .inst n - p - 1)) = omega (arith, f, h) in
+              let here : first + (p - first) ≡ p = omega (arith, f) in
+              ap₂ (λ (a b : List SplitUse). a ++ b) (known .rows) (ap (λ (u : SplitUse). u ∷ []) (known .row) ∙ sym (rows-one seen n first first p (known .has)) ∙ sym (append-nil _) ∙ ap (λ (r : List SplitUse). rowsFrom seen n first first p 1 ++ r) (sym (rows-none seen n first first (p + 1) (seen .inst n - p - 1) (λ q a b. known .none q (omega (arith, a))))) ∙ sym (rows-split seen n first first p 1 (seen .inst n - p - 1)) ∙ ap (λ (x : ℕ). rowsFrom seen n first first x (1 + (seen .inst n - p - 1))) (sym here))
+              ∙ sym (rows-split seen n first first first (p - first) (1 + (seen .inst n - p - 1)))
+              ∙ ap (rowsFrom seen n first first first) (sym count)
+              ∙ others first (seen .inst n - first) (λ x a b e. omega (arith, a, b, e, f, h))
