@@ -2,3 +2,4 @@
 pub mod Largest
 pub mod UseRows
 pub mod Pending
+pub mod UseCases
