@@ -4,6 +4,7 @@ use numbers::Inst;
 ghost use mathlib.Core.Path.{_≡_};
 ghost use Prim.Native.Nat.{_≤_};
 ghost use Rattle.walks.specs.Uses.{AllWeights, bestUse, partOf, noWeights, addedTo};
+ghost use Rattle.walks.specs.UseColumns.{columns, Inside, withUse, useIn};
 
 // Which of a row's weights a use adds to.
 pub enum Part {
@@ -76,6 +77,43 @@ pub fn added_to(u: SplitUse, part: Part, weight: f32) -> SplitUse
             left_weight: u.left_weight,
             right_weight: u.right_weight + weight,
         },
+    }
+}
+
+// Stores a row of the use table in its columns.
+fn put_use(
+    inst: &mut [u32],
+    weight: &mut [f32],
+    left_weight: &mut [f32],
+    right_weight: &mut [f32],
+    at: usize,
+    u: SplitUse,
+)
+    requires { ⌜ Inside at (columns (now inst) (now weight) (now «left_weight») (now «right_weight»)) ⌝ }
+    ensures { λ _. ⌜ columns (now (inst .exit)) (now (weight .exit)) (now («left_weight» .exit)) (now («right_weight» .exit)) ≡ withUse (columns (now (inst .entry)) (now (weight .entry)) (now («left_weight» .entry)) (now («right_weight» .entry))) at u ⌝ }
+{
+    inst[at] = u.inst.0;
+    weight[at] = u.weight;
+    left_weight[at] = u.left_weight;
+    right_weight[at] = u.right_weight;
+}
+
+// A row of the use table, from its columns.
+fn use_at(
+    inst: &[u32],
+    weight: &[f32],
+    left_weight: &[f32],
+    right_weight: &[f32],
+    at: usize,
+) -> SplitUse
+    requires { ⌜ Inside at (columns (now inst) (now weight) (now «left_weight») (now «right_weight»)) ⌝ }
+    ensures { λ r. ⌜ r ≡ useIn (columns (now (inst .entry)) (now (weight .entry)) (now («left_weight» .entry)) (now («right_weight» .entry))) at ⌝ }
+{
+    SplitUse {
+        inst: Inst(inst[at]),
+        weight: weight[at],
+        left_weight: left_weight[at],
+        right_weight: right_weight[at],
     }
 }
 
