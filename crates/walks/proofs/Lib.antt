@@ -3,3 +3,4 @@ pub mod Largest
 pub mod UseRows
 pub mod Pending
 pub mod UseCases
+pub mod Storing

@@ -1,11 +1,16 @@
 -- The use table in its four lent columns
-use Prim.Native.Nat.{ℕ, _<_}
+use Prim.Native.Nat.{ℕ, zero, suc, _+_, _-_, _<_}
+use mathlib.Core.Bool.{Bool, false, cond}
+use lib.Dec.{ltb, eqb}
 use mathlib.Core.List.{List, map}
 use lib.Ieee.{Float}
 use lib.ListN.{length, getD, set}
 use Rattle.numbers.specs.Weight.{zeroWeight}
 use Rattle.links.specs.Table.{table, filled}
+use Rattle.walks.specs.declared.uses.Part.{Part}
 use Rattle.walks.specs.declared.uses.SplitUse.{SplitUse}
+use Rattle.walks.specs.declared.uses.Collected.{Collected}
+use Rattle.walks.specs.Uses.{noWeights, addedTo}
 
 -- instructions, main, left and right weights
 pub record UseColumns : Type 0 where
@@ -39,3 +44,32 @@ abbrev pub filledWith : List SplitUse → UseColumns → UseColumns
 filledWith rows cols =
     columns (filled (map (λ (u : SplitUse). u .inst .0) rows) (cols .insts)) (filled (map (λ (u : SplitUse). u .weight) rows) (cols .mains))
     (filled (map (λ (u : SplitUse). u .«left_weight») rows) (cols .lefts)) (filled (map (λ (u : SplitUse). u .«right_weight») rows) (cols .rights))
+
+-- ---- what the contracts of private functions say: one use added while the table is collected
+-- the columns, the number of rows stored, and the latest row, which is not
+pub record Collecting : Type 0 where
+  pub cols : UseColumns
+  pub rows : ℕ
+  pub latest : SplitUse
+
+abbrev pub collecting : UseColumns → Collected → Collecting
+collecting cols c = record { cols = cols; rows = c .rows; latest = c .latest }
+
+-- the row stored last is that of instruction p
+unfoldable pub isStored : List ℕ → ℕ → ℕ → Bool
+isStored insts zero p = false
+isStored insts (suc rows) p = eqb (getD insts rows 0) p
+
+-- a use just before the latest row: added to the row stored last if that is its own, else stored behind it
+unfoldable pub addedBefore : Collecting → ℕ → Part → Float → Collecting
+addedBefore c p part w =
+    cond (isStored (c .cols .insts) (c .rows) p)
+    (record { cols = withUse (c .cols) (c .rows - 1) (addedTo (useIn (c .cols) (c .rows - 1)) part w); rows = c .rows; latest = c .latest })
+    (record { cols = withUse (c .cols) (c .rows) (addedTo (noWeights p) part w); rows = c .rows + 1; latest = c .latest })
+
+-- a use before the latest row, at it, or after it
+unfoldable pub added : Collecting → ℕ → Part → Float → Collecting
+added c p part w =
+    cond (ltb p (c .latest .inst .0)) (addedBefore c p part w)
+    (cond (eqb p (c .latest .inst .0)) (record { cols = c .cols; rows = c .rows; latest = addedTo (c .latest) part w })
+    (record { cols = withUse (c .cols) (c .rows) (c .latest); rows = c .rows + 1; latest = addedTo (noWeights p) part w }))

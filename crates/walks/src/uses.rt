@@ -4,7 +4,8 @@ use numbers::Inst;
 ghost use mathlib.Core.Path.{_≡_};
 ghost use Prim.Native.Nat.{_≤_};
 ghost use Rattle.walks.specs.Uses.{AllWeights, bestUse, partOf, noWeights, addedTo};
-ghost use Rattle.walks.specs.UseColumns.{columns, Inside, withUse, useIn};
+ghost use Rattle.walks.specs.UseColumns.{columns, Inside, withUse, useIn, collecting, isStored, addedBefore, added};
+ghost use lib.ListN.{length};
 
 // Which of a row's weights a use adds to.
 pub enum Part {
@@ -114,6 +115,87 @@ fn use_at(
         weight: weight[at],
         left_weight: left_weight[at],
         right_weight: right_weight[at],
+    }
+}
+
+// How far the collection is: the rows stored, and the latest row, which is not.
+pub struct Collected {
+    pub rows: usize,
+    pub latest: SplitUse,
+}
+
+// Whether the row stored last is that of an instruction.
+fn is_stored(inst: &[u32], rows: usize, p: Inst) -> bool
+    requires { ⌜ rows ≤ length (now inst) ⌝ }
+    ensures { λ r. ⌜ r ≡ isStored (now (inst .entry)) rows (p .0) ⌝ }
+{
+    if rows == 0 {
+        return false;
+    }
+    inst[rows - 1] == p.0
+}
+
+// Adds a use just before the latest row: a fixed def, which stands before its segment.
+fn add_before(
+    inst: &mut [u32],
+    weight: &mut [f32],
+    left_weight: &mut [f32],
+    right_weight: &mut [f32],
+    done: Collected,
+    p: Inst,
+    part: Part,
+    w: f32,
+) -> Collected
+    requires { ⌜ Inside (done .rows) (columns (now inst) (now weight) (now «left_weight») (now «right_weight»)) ⌝ }
+    ensures { λ r. ⌜ collecting (columns (now (inst .exit)) (now (weight .exit)) (now («left_weight» .exit)) (now («right_weight» .exit))) r ≡ addedBefore (collecting (columns (now (inst .entry)) (now (weight .entry)) (now («left_weight» .entry)) (now («right_weight» .entry))) done) (p .0) part w ⌝ }
+{
+    let rows = done.rows;
+    let latest = done.latest;
+    if is_stored(inst, rows, p) {
+        let u = use_at(inst, weight, left_weight, right_weight, rows - 1);
+        let v = added_to(u, part, w);
+        put_use(inst, weight, left_weight, right_weight, rows - 1, v);
+        return Collected { rows, latest };
+    }
+    let u = no_weights(p);
+    let v = added_to(u, part, w);
+    put_use(inst, weight, left_weight, right_weight, rows, v);
+    Collected {
+        rows: rows + 1,
+        latest,
+    }
+}
+
+// Adds a use that counts: to the latest row, after it or just before it.
+fn add_use(
+    inst: &mut [u32],
+    weight: &mut [f32],
+    left_weight: &mut [f32],
+    right_weight: &mut [f32],
+    done: Collected,
+    p: Inst,
+    part: Part,
+    w: f32,
+) -> Collected
+    requires { ⌜ Inside (done .rows) (columns (now inst) (now weight) (now «left_weight») (now «right_weight»)) ⌝ }
+    ensures { λ r. ⌜ collecting (columns (now (inst .exit)) (now (weight .exit)) (now («left_weight» .exit)) (now («right_weight» .exit))) r ≡ added (collecting (columns (now (inst .entry)) (now (weight .entry)) (now («left_weight» .entry)) (now («right_weight» .entry))) done) (p .0) part w ⌝ }
+{
+    let latest = done.latest;
+    let at = latest.inst;
+    if p.0 < at.0 {
+        return add_before(inst, weight, left_weight, right_weight, done, p, part, w);
+    }
+    let rows = done.rows;
+    if p.0 == at.0 {
+        let v = added_to(latest, part, w);
+        return Collected { rows, latest: v };
+    }
+    put_use(inst, weight, left_weight, right_weight, rows, latest);
+    let u = no_weights(p);
+    let v = added_to(u, part, w);
+    Collected {
+        rows: rows + 1,
+        latest: v,
     }
 }
 

@@ -1,0 +1,109 @@
+-- `add_before` stores the row that the definition names, where it names it
+use mathlib.Core.Path.{_≡_, sym, ap, _∙_}
+use Prim.Native.Nat.{ℕ, _+_, _-_, _≤_}
+use native.Mathlib.Omega.{arith}
+use Rattle.numbers.proofs.Tests.{cond-true, cond-false}
+use Rattle.walks.specs.declared.uses.SplitUse.{SplitUse}
+use Rattle.walks.specs.Uses.{addedTo}
+use Rattle.walks.specs.UseColumns.{UseColumns, columns, withUse, Collecting, addedBefore}
+use Rattle.walks.proofs.Storing.{stored-some}
+use borrow.Author.Needs.{needs}
+use Rattle.walks.proofs.uses.add_before.Statement.{statement}
+use Rattle.walks.proofs.uses.add_before.Tie as tie
+
+is-stored-requires : tie.Need-is-stored-requires
+is-stored-requires c κs = search needs
+
+sub-use-at : tie.Need-sub-use-at
+sub-use-at c = stored-some (c .before .before .before .before .before .before .before .before .before .before .before .before .args .inst .now) (c .before .before .before .before .before .before .before .before .before .before .before .before .args .done .rows) (c .before .before .before .before .before .before .before .before .before .before .before .before .args .p .0) (sym (c .before .before .before .before .before .is-stored .ensures) ∙ c .before .before .before .before .if1 .taken)
+
+use-at-requires : tie.Need-use-at-requires
+use-at-requires c κs = search needs
+
+added-to-requires : tie.Need-added-to-requires
+added-to-requires c κs = search needs
+
+sub-put-use : tie.Need-sub-put-use
+sub-put-use c = stored-some (c .before .before .before .before .before .before .before .before .before .before .before .before .before .before .before .before .before .before .args .inst .now) (c .before .before .before .before .before .before .before .before .before .before .before .before .before .before .before .before .before .before .args .done .rows) (c .before .before .before .before .before .before .before .before .before .before .before .before .before .before .before .before .before .before .args .p .0) (sym (c .before .before .before .before .before .before .before .before .before .before .before .is-stored .ensures) ∙ c .before .before .before .before .before .before .before .before .before .before .if1 .taken)
+
+put-use-requires : tie.Need-put-use-requires
+put-use-requires c κs = search needs
+
+same-length : tie.Need-same-length
+same-length c = search needs
+
+same-length-2 : tie.Need-same-length-2
+same-length-2 c = search needs
+
+same-length-3 : tie.Need-same-length-3
+same-length-3 c = search needs
+
+same-length-4 : tie.Need-same-length-4
+same-length-4 c = search needs
+
+returns : tie.Need-returns
+unfolding addedBefore
+returns c =
+    let a = c .before .before .before .before .before .before .before .before .before .before .before .before .before .before .before .before .before .before .before .before .before .before .before .before .before .before .before .args in
+    let cols = columns (a .inst .now) (a .weight .now) (a .left-weight .now) (a .right-weight .now) in
+    ap (λ (x : UseColumns). record { cols = x; rows = a .done .rows; latest = a .done .latest })
+    (c .before .before .before .before .before .before .before .before .put-use .ensures ∙ ap (withUse cols (a .done .rows - 1)) (c .before .before .before .before .before .before .before .before .before .before .before .before .before .added-to .ensures ∙ ap (λ (u : SplitUse). addedTo u (a .part) (a .w)) (c .before .before .before .before .before .before .before .before .before .before .before .before .before .before .use-at .ensures)))
+    ∙ sym (cond-true _ _ (sym (c .before .before .before .before .before .before .before .before .before .before .before .before .before .before .before .before .before .before .before .before .is-stored .ensures) ∙ c .before .before .before .before .before .before .before .before .before .before .before .before .before .before .before .before .before .before .before .if1 .taken))
+
+no-weights-requires : tie.Need-no-weights-requires
+no-weights-requires c κs = search needs
+
+added-to-requires-2 : tie.Need-added-to-requires-2
+added-to-requires-2 c κs = search needs
+
+put-use-requires-2 : tie.Need-put-use-requires-2
+put-use-requires-2 c κs = search needs
+
+add-t45 : tie.Need-add-t45
+add-t45 c = omega (arith, c .before .before .before .before .before .before .before .before .before .before .before .before .before .before .before .before .before .before .before .before .before .before .before .pre .inst, c .before .before .before .before .before .before .before .before .before .before .before .before .before .before .before .before .before .before .before .before .before .before .before .good .0 .1)
+
+same-length-5 : tie.Need-same-length-5
+same-length-5 c = search needs
+
+same-length-6 : tie.Need-same-length-6
+same-length-6 c = search needs
+
+same-length-7 : tie.Need-same-length-7
+same-length-7 c = search needs
+
+same-length-8 : tie.Need-same-length-8
+same-length-8 c = search needs
+
+returns-2 : tie.Need-returns-2
+unfolding addedBefore
+returns-2 c =
+    let a = c .before .before .before .before .before .before .before .before .before .before .before .before .before .before .before .before .before .before .before .before .before .before .before .args in
+    let cols = columns (a .inst .now) (a .weight .now) (a .left-weight .now) (a .right-weight .now) in
+    ap (λ (x : UseColumns). record { cols = x; rows = a .done .rows + 1; latest = a .done .latest })
+    (c .before .before .before .before .before .before .before .before .put-use2 .ensures ∙ ap (withUse cols (a .done .rows)) (c .before .before .before .before .before .before .before .before .before .before .before .before .before .added-to2 .ensures ∙ ap (λ (u : SplitUse). addedTo u (a .part) (a .w)) (c .before .before .before .before .before .before .before .before .before .before .before .before .before .before .no-weights .ensures)))
+    ∙ sym (cond-false _ _ (sym (c .before .before .before .before .before .before .before .before .before .before .before .before .before .before .before .before .is-stored .ensures) ∙ c .before .before .before .before .before .before .before .before .before .before .before .before .before .before .before .if1 .left))
+
+pub add-before-spec : {M : Type 1} → statement M
+add-before-spec =
+    tie.close
+    (tie.spec
+    is-stored-requires
+    sub-use-at
+    use-at-requires
+    added-to-requires
+    sub-put-use
+    put-use-requires
+    same-length
+    same-length-2
+    same-length-3
+    same-length-4
+    returns
+    no-weights-requires
+    added-to-requires-2
+    put-use-requires-2
+    add-t45
+    same-length-5
+    same-length-6
+    same-length-7
+    same-length-8
+    returns-2)

@@ -1,0 +1,94 @@
+-- `add_use` picks by the same two comparisons
+use mathlib.Core.Path.{_≡_, sym, ap, ap₂, _∙_}
+use Prim.Native.Nat.{ℕ, _+_}
+use native.Mathlib.Omega.{arith}
+use borrow.Author.Tests.{lt-ltb, le-ltb, eq-eqb, ne-eqb}
+use Rattle.numbers.proofs.Tests.{cond-true, cond-false}
+use Rattle.walks.specs.declared.uses.SplitUse.{SplitUse}
+use Rattle.walks.specs.Uses.{addedTo}
+use Rattle.walks.specs.UseColumns.{UseColumns, columns, withUse, Collecting, added}
+use borrow.Author.Needs.{needs}
+use Rattle.walks.proofs.uses.add_use.Statement.{statement}
+use Rattle.walks.proofs.uses.add_use.Tie as tie
+
+add-before-requires : tie.Need-add-before-requires
+add-before-requires c κs = search needs
+
+same-length : tie.Need-same-length
+same-length c = search needs
+
+same-length-2 : tie.Need-same-length-2
+same-length-2 c = search needs
+
+same-length-3 : tie.Need-same-length-3
+same-length-3 c = search needs
+
+same-length-4 : tie.Need-same-length-4
+same-length-4 c = search needs
+
+returns : tie.Need-returns
+unfolding added
+returns c = c .before .before .before .before .before .before .before .before .add-before .ensures ∙ sym (cond-true _ _ (lt-ltb _ _ (c .before .before .before .before .before .before .before .before .before .before .before .before .before .if1 .taken)))
+
+added-to-requires : tie.Need-added-to-requires
+added-to-requires c κs = search needs
+
+returns-2 : tie.Need-returns-2
+unfolding added
+returns-2 c =
+    let a = c .before .before .before .before .before .before .before .before .before .before .before .before .before .args in
+    ap (λ (u : SplitUse). record { cols = columns (a .inst .now) (a .weight .now) (a .left-weight .now) (a .right-weight .now); rows = a .done .rows; latest = u }) (c .added-to .ensures)
+    ∙ sym (cond-false _ _ (le-ltb _ _ (c .before .before .before .before .if1 .left)) ∙ cond-true _ _ (eq-eqb _ _ (c .before .if2 .taken)))
+
+put-use-requires : tie.Need-put-use-requires
+put-use-requires c κs = search needs
+
+no-weights-requires : tie.Need-no-weights-requires
+no-weights-requires c κs = search needs
+
+added-to-requires-2 : tie.Need-added-to-requires-2
+added-to-requires-2 c κs = search needs
+
+add-t33 : tie.Need-add-t33
+add-t33 c = omega (arith, c .before .before .before .before .before .before .before .before .before .before .before .before .before .before .before .before .before .before .before .before .before .before .before .before .before .before .before .pre .inst, c .before .before .before .before .before .before .before .before .before .before .before .before .before .before .before .before .before .before .before .before .before .before .before .before .before .before .before .good .0 .1)
+
+same-length-5 : tie.Need-same-length-5
+same-length-5 c = search needs
+
+same-length-6 : tie.Need-same-length-6
+same-length-6 c = search needs
+
+same-length-7 : tie.Need-same-length-7
+same-length-7 c = search needs
+
+same-length-8 : tie.Need-same-length-8
+same-length-8 c = search needs
+
+returns-3 : tie.Need-returns-3
+unfolding added
+returns-3 c =
+    let a = c .before .before .before .before .before .before .before .before .before .before .before .before .before .before .before .before .before .before .before .before .before .before .before .before .before .before .before .args in
+    ap₂ (λ (x : UseColumns) (u : SplitUse). record { cols = x; rows = a .done .rows + 1; latest = u }) (c .before .before .before .before .before .before .before .before .before .before .put-use .ensures) (c .added-to2 .ensures ∙ ap (λ (u : SplitUse). addedTo u (a .part) (a .w)) (c .before .no-weights .ensures))
+    ∙ sym (cond-false _ _ (le-ltb _ _ (c .before .before .before .before .before .before .before .before .before .before .before .before .before .before .before .before .before .before .if1 .left)) ∙ cond-false _ _ (ne-eqb _ _ (c .before .before .before .before .before .before .before .before .before .before .before .before .before .before .before .if2 .left)))
+
+pub add-use-spec : {M : Type 1} → statement M
+add-use-spec =
+    tie.close
+    (tie.spec
+    add-before-requires
+    same-length
+    same-length-2
+    same-length-3
+    same-length-4
+    returns
+    added-to-requires
+    returns-2
+    put-use-requires
+    no-weights-requires
+    added-to-requires-2
+    add-t33
+    same-length-5
+    same-length-6
+    same-length-7
+    same-length-8
+    returns-3)
