@@ -4,3 +4,5 @@ pub mod UseRows
 pub mod Pending
 pub mod UseCases
 pub mod Storing
+pub mod Fills
+pub mod Adding

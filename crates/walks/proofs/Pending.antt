@@ -144,11 +144,17 @@ module _ (seen : Seen) (first : ℕ) where
             }
 
         -- the use's instruction had no row: it is written behind the others
+        pub written-front : hasRow seen n first first (seen .inst n) ≡ false → written ≡ front n
+        written-front e =
+            known .rows
+            ∙ cut n
+            ∙ ap (λ (r : List SplitUse). front n ++ r) (rows-none seen n first first (seen .inst n) 1 (λ q a b. let same : q ≡ seen .inst n = omega (arith, a, b) in subst (λ (x : ℕ). hasRow seen n first first x ≡ false) (sym same) e))
+            ∙ append-nil (front n)
+
         pub pending-before : hasRow seen n first first (seen .inst n) ≡ false → Pending seen first (suc n) p (written ++ (addedTo (noWeights (seen .inst n)) (seen .part n) (seen .weight n) ∷ [])) latest
         pending-before e =
             step _
-            (ap₂ (λ (a b : List SplitUse). a ++ b)
-            (known .rows ∙ cut n ∙ ap (λ (r : List SplitUse). front n ++ r) (rows-none seen n first first (seen .inst n) 1 (λ q a b. let same : q ≡ seen .inst n = omega (arith, a, b) in subst (λ (x : ℕ). hasRow seen n first first x ≡ false) (sym same) e)) ∙ append-nil (front n))
+            (ap₂ (λ (a b : List SplitUse). a ++ b) (written-front e)
             (ap (λ (u : SplitUse). addedTo u (seen .part n) (seen .weight n) ∷ []) (sym (row-none seen n (seen .inst n) (or-last (eqb (seen .inst n) first || eqb (seen .inst n) first) (carries seen n (seen .inst n)) e)))))
 
         -- it had one: that is the last one written, and it changes
