@@ -1,2 +1,3 @@
 -- The tables between a checked job and the growth
+pub mod Live
 pub mod Uses
