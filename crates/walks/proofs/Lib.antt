@@ -6,3 +6,5 @@ pub mod UseCases
 pub mod Storing
 pub mod Fills
 pub mod Adding
+pub mod LiveLaws
+pub mod LiveTotal
