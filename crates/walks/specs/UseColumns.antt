@@ -3,14 +3,16 @@ use Prim.Native.Nat.{ℕ, zero, suc, _+_, _-_, _<_}
 use mathlib.Core.Bool.{Bool, false, cond}
 use lib.Dec.{ltb, eqb}
 use mathlib.Core.List.{List, map}
-use lib.Ieee.{Float}
+use lib.Ieee.{Float, binary32, mul, eq}
 use lib.ListN.{length, getD, set}
-use Rattle.numbers.specs.Weight.{zeroWeight}
+use Rattle.numbers.specs.Weight.{zeroWeight, frequencyLimit, valueOf}
+use Rattle.links.specs.First.{firstBelow}
+use Rattle.jobs.specs.declared.rows.Segment.{Segment}
 use Rattle.links.specs.Table.{table, filled}
 use Rattle.walks.specs.declared.uses.Part.{Part}
 use Rattle.walks.specs.declared.uses.SplitUse.{SplitUse}
 use Rattle.walks.specs.declared.uses.Collected.{Collected}
-use Rattle.walks.specs.Uses.{noWeights, addedTo}
+use Rattle.walks.specs.Uses.{noWeights, addedTo, partOf}
 
 -- instructions, main, left and right weights
 pub record UseColumns : Type 0 where
@@ -73,3 +75,11 @@ added c p part w =
     cond (ltb p (c .latest .inst .0)) (addedBefore c p part w)
     (cond (eqb p (c .latest .inst .0)) (record { cols = c .cols; rows = c .rows; latest = addedTo (c .latest) part w })
     (record { cols = withUse (c .cols) (c .rows) (c .latest); rows = c .rows + 1; latest = addedTo (noWeights p) part w }))
+
+-- cost × the frequency of the first block that ends after an instruction, from the columns of frequencies and ends
+unfoldable pub weightAt : List ℕ → List ℕ → Float → ℕ → Float
+weightAt freqs ends cost p = mul binary32 cost (valueOf frequencyLimit (getD freqs (firstBelow (λ (i : ℕ). ltb p (getD ends i 0)) (length freqs)) 0))
+
+-- a use of a segment, at an instruction, added unless it costs nothing
+unfoldable pub counted : List ℕ → List ℕ → Segment → ℕ → Float → Collecting → Collecting
+counted freqs ends s p cost c = cond (eq cost zeroWeight) c (added c p (partOf s p) (weightAt freqs ends cost p))

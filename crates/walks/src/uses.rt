@@ -1,10 +1,13 @@
 // The rows of the use table, and the best use.
 use jobs::rows::Segment;
+use links::blocks::block_of;
 use numbers::Inst;
+use numbers::weights::frequency_of;
 ghost use mathlib.Core.Path.{_≡_};
 ghost use Prim.Native.Nat.{_≤_};
 ghost use Rattle.walks.specs.Uses.{AllWeights, bestUse, partOf, noWeights, addedTo};
-ghost use Rattle.walks.specs.UseColumns.{columns, Inside, withUse, useIn, collecting, isStored, addedBefore, added};
+ghost use Rattle.walks.specs.UseColumns.{columns, Inside, withUse, useIn, collecting, isStored, addedBefore, added, weightAt, counted};
+ghost use Rattle.links.specs.Blocks.{Ends};
 ghost use lib.ListN.{length};
 
 // Which of a row's weights a use adds to.
@@ -197,6 +200,41 @@ fn add_use(
         rows: rows + 1,
         latest: v,
     }
+}
+
+// A use's weight: its cost times the frequency of the block of its instruction.
+fn use_weight(freq: &[u32], end: &[u32], cost: f32, p: Inst) -> f32
+    requires { ⌜ Ends (now end) (length (now freq)) (p .0) ⌝ }
+    ensures { λ r. ⌜ r ≡ weightAt (now (freq .entry)) (now (end .entry)) cost (p .0) ⌝ }
+{
+    let b = block_of(end, freq.len(), p);
+    let i = b.0 as usize;
+    cost * frequency_of(freq[i])
+}
+
+// Collects one use of a segment. A use that costs nothing is ignored.
+fn count_use(
+    freq: &[u32],
+    end: &[u32],
+    s: Segment,
+    p: Inst,
+    cost: f32,
+    inst: &mut [u32],
+    weight: &mut [f32],
+    left_weight: &mut [f32],
+    right_weight: &mut [f32],
+    done: Collected,
+) -> Collected
+    requires { ⌜ Inside (done .rows) (columns (now inst) (now weight) (now «left_weight») (now «right_weight»)) ⌝ }
+    requires { ⌜ Ends (now end) (length (now freq)) (p .0) ⌝ }
+    ensures { λ r. ⌜ collecting (columns (now (inst .exit)) (now (weight .exit)) (now («left_weight» .exit)) (now («right_weight» .exit))) r ≡ counted (now (freq .entry)) (now (end .entry)) s (p .0) cost (collecting (columns (now (inst .entry)) (now (weight .entry)) (now («left_weight» .entry)) (now («right_weight» .entry))) done) ⌝ }
+{
+    if cost == 0.0 {
+        return done;
+    }
+    let w = use_weight(freq, end, cost, p);
+    let part = part_of(s, p);
+    add_use(inst, weight, left_weight, right_weight, done, p, part, w)
 }
 
 // The best use of a table with these main weights. A table of one row has none: nothing could be cut off.
