@@ -6,5 +6,6 @@ pub mod UseCases
 pub mod Storing
 pub mod Fills
 pub mod Adding
+pub mod ListWalk
 pub mod LiveLaws
 pub mod LiveTotal

@@ -1,5 +1,5 @@
 -- The use table in its four lent columns
-use Prim.Native.Nat.{ℕ, zero, suc, _+_, _-_, _<_}
+use Prim.Native.Nat.{ℕ, zero, suc, _+_, _-_, _≤_, _<_}
 use mathlib.Core.Bool.{Bool, false, cond}
 use lib.Dec.{ltb, eqb}
 use mathlib.Core.List.{List, map}
@@ -7,6 +7,11 @@ use lib.Ieee.{Float, binary32, mul, eq}
 use lib.ListN.{length, getD, set}
 use Rattle.numbers.specs.Weight.{zeroWeight, frequencyLimit, valueOf}
 use Rattle.links.specs.First.{firstBelow}
+use Rattle.numbers.specs.Cost.{reloadCost, moveCost, spillCost, scaled}
+use Rattle.numbers.specs.declared.costs.RematScales.{RematScales}
+use Rattle.links.specs.Blocks.{Ends}
+use Rattle.jobs.specs.Rows.{noUse}
+use Rattle.jobs.specs.declared.rows.Use.{Use}
 use Rattle.jobs.specs.declared.rows.Segment.{Segment}
 use Rattle.links.specs.Table.{table, filled}
 use Rattle.walks.specs.declared.uses.Part.{Part}
@@ -83,3 +88,20 @@ weightAt freqs ends cost p = mul binary32 cost (valueOf frequencyLimit (getD fre
 -- a use of a segment, at an instruction, added unless it costs nothing
 unfoldable pub counted : List ℕ → List ℕ → Segment → ℕ → Float → Collecting → Collecting
 counted freqs ends s p cost c = cond (eq cost zeroWeight) c (added c p (partOf s p) (weightAt freqs ends cost p))
+
+-- the first n uses of a segment's list added in order
+unfoldable pub countedList : List Use → List ℕ → List ℕ → Segment → ℕ → RematScales → ℕ → Collecting → Collecting
+countedList uses freqs ends s code scales zero c = c
+countedList uses freqs ends s code scales (suc n) c =
+    let u = getD uses (s .«first_use» + n) noUse in
+    counted freqs ends s (u .position) (scaled code scales (spillCost reloadCost moveCost (u .kind) (u .cost))) (countedList uses freqs ends s code scales n c)
+
+-- room for n rows more, and one
+abbrev pub Room : ℕ → Collecting → Type 0
+Room n c = Inside (c .rows + n) (c .cols)
+
+-- what the collection of a list relies on: it lies inside the uses, and each of them in a block
+pub record Listing (uses : List Use) (ends : List ℕ) (blocks : ℕ) (s : Segment) : Type 0 where
+  pub forward : s .«first_use» ≤ s .«end_use»
+  pub inside : s .«end_use» ≤ length uses
+  pub blocked : (u : ℕ) → u < length uses → Ends ends blocks (getD uses u noUse .position)

@@ -1,12 +1,16 @@
 // The rows of the use table, and the best use.
 use jobs::rows::Segment;
+use jobs::rows::use_at as job_use;
 use links::blocks::block_of;
 use numbers::Inst;
+use numbers::costs::RematScales;
+use numbers::costs::use_spill_cost;
 use numbers::weights::frequency_of;
 ghost use mathlib.Core.Path.{_≡_};
-ghost use Prim.Native.Nat.{_≤_};
+ghost use Prim.Native.Nat.{_-_, _≤_};
 ghost use Rattle.walks.specs.Uses.{AllWeights, bestUse, partOf, noWeights, addedTo};
-ghost use Rattle.walks.specs.UseColumns.{columns, Inside, withUse, useIn, collecting, isStored, addedBefore, added, weightAt, counted};
+ghost use Rattle.walks.specs.UseColumns.{columns, Inside, withUse, useIn, collecting, isStored, addedBefore, added, weightAt, counted, Listing, Room, countedList};
+ghost use Rattle.jobs.specs.Rows.{usesOf};
 ghost use Rattle.links.specs.Blocks.{Ends};
 ghost use lib.ListN.{length};
 
@@ -235,6 +239,49 @@ fn count_use(
     let w = use_weight(freq, end, cost, p);
     let part = part_of(s, p);
     add_use(inst, weight, left_weight, right_weight, done, p, part, w)
+}
+
+// Collects the uses of one segment's list, whose value has a code.
+fn collect_list(
+    position: &[u32],
+    kind: &[u32],
+    cost: &[u32],
+    freq: &[u32],
+    end: &[u32],
+    s: Segment,
+    code: u32,
+    scales: RematScales,
+    inst: &mut [u32],
+    weight: &mut [f32],
+    left_weight: &mut [f32],
+    right_weight: &mut [f32],
+    done: Collected,
+) -> Collected
+    requires { ⌜ Listing (usesOf (now position) (now kind) (now cost)) (now end) (length (now freq)) s ⌝ }
+    requires { ⌜ Room (s .«end_use» - s .«first_use») (collecting (columns (now inst) (now weight) (now «left_weight») (now «right_weight»)) done) ⌝ }
+    ensures { λ r. ⌜ collecting (columns (now (inst .exit)) (now (weight .exit)) (now («left_weight» .exit)) (now («right_weight» .exit))) r ≡ countedList (usesOf (now (position .entry)) (now (kind .entry)) (now (cost .entry))) (now (freq .entry)) (now (end .entry)) s code scales (s .«end_use» - s .«first_use») (collecting (columns (now (inst .entry)) (now (weight .entry)) (now («left_weight» .entry)) (now («right_weight» .entry))) done) ⌝ }
+{
+    let mut done = done;
+    let mut i = s.first_use as usize;
+    let n = s.end_use as usize;
+    while i < n {
+        let u = job_use(position, kind, cost, i);
+        let c = use_spill_cost(u.kind, u.cost, code, scales);
+        done = count_use(
+            freq,
+            end,
+            s,
+            Inst(u.position),
+            c,
+            inst,
+            weight,
+            left_weight,
+            right_weight,
+            done,
+        );
+        i += 1;
+    }
+    done
 }
 
 // The best use of a table with these main weights. A table of one row has none: nothing could be cut off.
