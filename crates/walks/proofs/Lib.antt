@@ -1,4 +1,5 @@
 -- What the walks share
+pub mod GapRows
 pub mod Largest
 pub mod LiveLaws
 pub mod LiveTotal
