@@ -1,5 +1,6 @@
 -- What the walks share
 pub mod GapRows
+pub mod GapCount
 pub mod Largest
 pub mod LiveLaws
 pub mod LiveTotal
