@@ -1,4 +1,5 @@
 -- What the walks share
+pub mod CheckedSegments
 pub mod GapRows
 pub mod GapCount
 pub mod Largest
