@@ -1,14 +1,14 @@
 -- Segments that line 5 has passed are as the walks rely on: their columns, cut to as many rows as there are segments
 use mathlib.Core.Path.{_≡_, refl, sym, ap, _∙_}
 use mathlib.Core.Bool.{false}
-use Prim.Native.Nat.{ℕ, zero, suc, _+_, _*_, _≤_, _<_}
-use native.Mathlib.Nat.{le-refl, le-trans, le-of-eq, lt-of-lt-of-le}
+use Prim.Native.Nat.{ℕ, zero, suc, _*_, _≤_, _<_}
+use native.Mathlib.Nat.{le-trans, le-of-eq, lt-of-lt-of-le}
 use native.Mathlib.Omega.{arith}
 use mathlib.Core.List.{List, [], _∷_}
 use lib.ListN.{length, getD, take}
 use lib.Seq.{getD-take, length-take-le}
 use Rattle.links.specs.Blocks.{endLimit}
-use Rattle.links.specs.Table.{table, shortest}
+use Rattle.links.specs.Table.{shortest}
 use Rattle.links.proofs.Tables.{table-length, table-at, shortest-at-most}
 use Rattle.jobs.specs.declared.rows.Segment.{Segment}
 use Rattle.jobs.specs.declared.rows.Limits.{Limits}

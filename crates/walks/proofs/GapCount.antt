@@ -5,7 +5,7 @@ use mathlib.Core.Logic.{_⊎_, inl, inr}
 use Prim.Native.Nat.{ℕ, zero, suc, _+_, _-_, _*_, _≤_, _<_, zero-le, min, max}
 use native.Mathlib.Nat.{le-refl, le-trans, le-of-eq, not-suc-le-zero}
 use native.Mathlib.Omega.{arith}
-use mathlib.Core.List.{List, [], _∷_, _++_}
+use mathlib.Core.List.{List, [], _∷_}
 use borrow.Author.Count.{below-more}
 use lib.Dec.{ltb}
 use lib.ListN.{length, getD, length-append}
@@ -13,7 +13,7 @@ use Rattle.links.proofs.Firsts.{split}
 use Rattle.jobs.specs.Lines.{rowBefore}
 use Rattle.jobs.proofs.Walk.{before-next}
 use Rattle.walks.specs.Live.{Gaps, Segments}
-use Rattle.walks.specs.GapSegments.{GapSegment, joined, nonempty, overlapWith, overlapsOf, gapSegments, Valued, Behind}
+use Rattle.walks.specs.GapSegments.{GapSegment, nonempty, overlapWith, overlapsOf, gapSegments, Behind}
 use Rattle.walks.proofs.GapRows.{joined-next, fromOn, fromOn-all, fromOn-end, overlaps-from, overlaps-end, behind-later}
 
 at-most-one : (b : Bool) (r : GapSegment) → length (cond b (r ∷ []) []) ≤ 1

@@ -1,17 +1,16 @@
 -- Gap segments: what is left to put into the columns as they are gives what all gives on the columns as they were lent
-use mathlib.Core.Path.{_≡_, refl, sym, ap, ap₂, _∙_, subst}
-use Prim.Native.Nat.{ℕ, zero, suc, _+_, _-_, _*_, _≤_, _<_, zero-le, min, max}
-use native.Mathlib.Nat.{le-refl, le-trans, le-of-eq, lt-of-lt-of-le, not-suc-le-zero}
+use mathlib.Core.Path.{_≡_, refl, sym, ap, _∙_, subst}
+use Prim.Native.Nat.{ℕ, zero, suc, _+_, _-_, _*_, _≤_, _<_, min, max}
+use native.Mathlib.Nat.{le-trans}
 use native.Mathlib.Omega.{arith}
 use mathlib.Core.List.{List, [], _∷_, _++_, map}
 use lib.ListN.{length, getD, set, drop, length-set, length-append, length-map}
 use lib.Seq.{sets, sets-eq}
 use borrow.Author.Tests.{lt-ltb, le-ltb}
 use Rattle.numbers.proofs.Tests.{cond-true, cond-false}
-use Rattle.links.specs.Blocks.{endLimit}
 use Rattle.links.specs.Table.{filled}
 use Rattle.walks.specs.Live.{Gaps}
-use Rattle.walks.specs.GapSegments.{GapSegment, joined, nonempty, overlapWith, overlapsOf, gapSegments, Behind, Columns, putOne, put, Room, Filled}
+use Rattle.walks.specs.GapSegments.{GapSegment, joined, nonempty, overlapWith, overlapsOf, Behind, Columns, putOne, put, Room, Filled}
 use Rattle.walks.proofs.LiveLaws.{gap-order}
 
 -- lists joined: all empty, the empty ones in front, the next one

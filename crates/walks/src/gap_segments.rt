@@ -2,8 +2,8 @@
 use crate::live::least;
 use crate::live::most;
 ghost use mathlib.Core.Path.{_≡_};
-ghost use Prim.Native.Nat.{_+_, _*_, _<_, _≤_, min, max};
-ghost use lib.ListN.{length, getD};
+ghost use Prim.Native.Nat.{_+_, _*_, _<_};
+ghost use lib.ListN.{length};
 ghost use Rattle.walks.specs.Live.{Gaps};
 ghost use Rattle.walks.specs.GapSegments.{nonempty, overlapsOf, gapSegments, Valued, Behind, columns, put, Room, Filled};
 

@@ -2,7 +2,7 @@
 use numbers::Point;
 ghost use mathlib.Core.Path.{_≡_};
 ghost use Prim.Native.Nat.{_+_, _-_, _<_, _≤_, min, max};
-ghost use lib.ListN.{length, getD};
+ghost use lib.ListN.{length};
 ghost use Rattle.numbers.specs.Point.{instOf, roundUp};
 ghost use Rattle.links.specs.Blocks.{endLimit};
 ghost use Rattle.links.specs.Table.{filled};

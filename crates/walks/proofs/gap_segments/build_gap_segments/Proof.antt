@@ -1,10 +1,9 @@
 -- `build_gap_segments` goes through the segments: what the segments from i on give is left to put, and the gaps before `gap` end by the end of the segment before
-use mathlib.Core.Path.{_≡_, refl, sym, ap, _∙_, subst}
-use Prim.Native.Nat.{ℕ, _+_, _-_, _*_, _≤_, _<_, zero-le}
-use native.Mathlib.Nat.{le-trans, le-of-eq, not-suc-le-zero}
+use mathlib.Core.Path.{refl, sym, subst}
+use Prim.Native.Nat.{ℕ, _+_, _-_, _≤_, zero-le}
+use native.Mathlib.Nat.{le-of-eq, not-suc-le-zero}
 use native.Mathlib.Omega.{arith}
 use mathlib.Core.List.{List}
-use borrow.Author.Needs.{needs}
 use lib.ListN.{length, getD}
 use Rattle.jobs.specs.Lines.{rowBefore}
 use Rattle.jobs.proofs.Walk.{before-next}

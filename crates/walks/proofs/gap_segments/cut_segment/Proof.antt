@@ -1,12 +1,11 @@
 -- `cut_segment` goes through the gaps: what the gaps from g on give is left to put, and the gaps before g end by the segment's end
-use mathlib.Core.Path.{_≡_, refl, sym, ap, ap₂, _∙_, subst}
-use Prim.Native.Nat.{ℕ, _+_, _-_, _*_, _≤_, _<_}
-use native.Mathlib.Nat.{lt-of-lt-of-le, le-of-eq}
+use mathlib.Core.Path.{_≡_, sym, ap, ap₂, _∙_, subst}
+use Prim.Native.Nat.{ℕ, _+_, _-_}
 use native.Mathlib.Omega.{arith}
 use mathlib.Core.List.{List}
 use borrow.Author.Count.{below-more}
 use borrow.Author.Needs.{needs}
-use lib.ListN.{length, getD}
+use lib.ListN.{length}
 use Rattle.walks.specs.GapSegments.{GapSegment, nonempty, overlapWith, overlapsOf, Behind, Columns, columns, put, Room}
 use Rattle.walks.proofs.GapRows.{Left, left-all, left-none, fromOn, fromOn-end, next-room, next-left, overlaps-from, overlaps-end, gap-number, behind-later}
 use Rattle.walks.proofs.gap_segments.cut_segment.Statement.{statement}
