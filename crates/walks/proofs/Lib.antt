@@ -1,4 +1,7 @@
 -- What the walks share
+pub mod CheckedSegments
+pub mod GapRows
+pub mod GapCount
 pub mod Largest
 pub mod UseRows
 pub mod Pending

@@ -1,10 +1,10 @@
 -- Live instructions: how many there can be, and what the next segment adds
 use mathlib.Core.Path.{_≡_, refl, sym, ap, ap₂, _∙_, subst}
-use Prim.Native.Nat.{ℕ, zero, suc, _+_, _-_, _*_, _/_, _≤_, _<_, zero-le, min, max}
+use Prim.Native.Nat.{ℕ, zero, suc, _+_, _-_, _≤_, _<_, zero-le, max}
 use native.Mathlib.Nat.{le-refl, le-trans, le-of-eq, lt-of-lt-of-le, not-suc-le-zero}
 use native.Mathlib.Numerals.{add-one}
 use native.Mathlib.Omega.{arith}
-use mathlib.Core.List.{List, [], _∷_, _++_}
+use mathlib.Core.List.{List, _++_}
 use mathlib.Core.Logic.{_⊎_, inl, inr, ⊎-elim}
 use lib.ListN.{length, getD, set, take, drop, length-set, length-append, length-drop, List·getD-append, List·getD-eq-default}
 use lib.Seq.{getD-set-same, getD-set-other, getD-take, getD-drop, getD-append-add, length-take-le, take-all}
@@ -16,7 +16,7 @@ use Rattle.links.proofs.Firsts.{split}
 use Rattle.links.proofs.Tables.{filled-is}
 use Rattle.jobs.specs.Lines.{rowBefore}
 use Rattle.jobs.proofs.Walk.{before-next}
-use Rattle.walks.specs.Live.{sumBelow, liveFrom, liveTo, liveOf, liveInsts, Segments, overlap, liveAdded, liveInGap, liveColumn, Gaps, Uncounted, CountedBefore, Counted}
+use Rattle.walks.specs.Live.{sumBelow, liveFrom, liveTo, liveOf, Segments, overlap, liveAdded, liveInGap, liveColumn, Gaps, Uncounted, CountedBefore, Counted}
 
 -- a sum of one more
 pub sum-next : (f : ℕ → ℕ) (n : ℕ) → sumBelow f (n + 1) ≡ sumBelow f n + f n

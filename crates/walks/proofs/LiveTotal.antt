@@ -1,13 +1,13 @@
 -- Live instructions over all gaps sum to those of the segments alone
-use mathlib.Core.Path.{_≡_, refl, sym, ap, ap₂, _∙_, subst}
+use mathlib.Core.Path.{_≡_, refl, sym, ap, ap₂, _∙_}
 use Prim.Native.Nat.{ℕ, zero, suc, _+_, _-_, _≤_, _<_, min, max}
-use native.Mathlib.Nat.{le-refl, le-of-eq, lt-of-lt-of-le, not-suc-le-zero}
+use native.Mathlib.Nat.{le-refl, le-of-eq}
 use native.Mathlib.Numerals.{add-one}
 use native.Mathlib.Omega.{arith}
 use mathlib.Core.List.{List}
 use mathlib.Core.Logic.{⊎-elim}
 use lib.ListN.{length, getD}
-use Rattle.walks.specs.Live.{sumBelow, liveFrom, liveTo, liveOf, liveInsts, overlap, liveAdded, liveInGap, Gaps}
+use Rattle.walks.specs.Live.{sumBelow, liveFrom, liveTo, liveOf, liveInsts, overlap, liveAdded, liveInGap, Gaps, Reach}
 use Rattle.walks.proofs.LiveLaws.{sum-none, gap-order, none-before, none-past}
 use Rattle.links.proofs.Firsts.{split}
 
@@ -85,12 +85,6 @@ module _ (froms tos : List ℕ) (given : Gaps froms tos) where
       let one : suc (length froms - 1) ≡ length froms = omega (arith, some) in
       ap (sumBelow (λ (g : ℕ). overlap a e (getD froms g 0) (getD tos g 0))) (sym one) ∙ run a e (length froms - 1) (le-of-eq one)
       ∙ all-held a e (getD froms 0 0) (getD tos (length froms - 1) 0) low high
-
--- the gaps reach from the first live instruction to the last
-pub record Reach (starts ends froms tos : List ℕ) : Type 0 where
-  pub some : 0 < length froms
-  pub first : (i : ℕ) → i < length starts → getD froms 0 0 ≤ liveFrom starts ends i
-  pub last : (i : ℕ) → i < length starts → liveTo ends i ≤ getD tos (length froms - 1) 0
 
 pub live-total : (starts ends froms tos : List ℕ) → Gaps froms tos → Reach starts ends froms tos → sumBelow (λ (g : ℕ). liveInGap starts ends (getD froms g 0) (getD tos g 0)) (length froms) ≡ liveInsts starts ends
 live-total starts ends froms tos given reach =

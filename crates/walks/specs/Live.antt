@@ -59,6 +59,12 @@ pub record Gaps (froms tos : List ℕ) : Type 0 where
   pub follows : (g : ℕ) → g + 1 < length froms → getD froms (g + 1) 0 ≡ getD tos g 0
   pub inside : (g : ℕ) → g < length froms → getD tos g 0 ≤ endLimit
 
+-- the gaps reach from the first live instruction to the last
+pub record Reach (starts ends froms tos : List ℕ) : Type 0 where
+  pub some : 0 < length froms
+  pub first : (i : ℕ) → i < length starts → getD froms 0 0 ≤ liveFrom starts ends i
+  pub last : (i : ℕ) → i < length starts → liveTo ends i ≤ getD tos (length froms - 1) 0
+
 -- a column in which nothing is counted yet of n gaps
 pub record Uncounted (n : ℕ) (live : List ℕ) : Type 0 where
   pub room : n ≤ length live

@@ -1,3 +1,5 @@
-// Walks: from a checked job to its gaps. So far a use added to the use table, the best use, and live instructions.
+// Walks: from a checked job to its gap segments. So far the uses of one list in the use table, the best use, live instructions of
+// segments and gaps, and gap segments.
+pub mod gap_segments;
 pub mod live;
 pub mod uses;

@@ -2,19 +2,19 @@
 use numbers::Point;
 ghost use mathlib.Core.Path.{_≡_};
 ghost use Prim.Native.Nat.{_+_, _-_, _<_, _≤_, min, max};
-ghost use lib.ListN.{length, getD};
+ghost use lib.ListN.{length};
 ghost use Rattle.numbers.specs.Point.{instOf, roundUp};
 ghost use Rattle.links.specs.Blocks.{endLimit};
 ghost use Rattle.links.specs.Table.{filled};
 ghost use Rattle.walks.specs.Live.{Segments, liveInsts, overlap, liveColumn, Gaps, Uncounted, CountedBefore, Counted};
 
-fn most(a: u32, b: u32) -> u32
+pub fn most(a: u32, b: u32) -> u32
     ensures { λ r. ⌜ r ≡ max a b ⌝ }
 {
     if a < b { b } else { a }
 }
 
-fn least(a: u32, b: u32) -> u32
+pub fn least(a: u32, b: u32) -> u32
     ensures { λ r. ⌜ r ≡ min a b ⌝ }
 {
     if b < a { b } else { a }

@@ -1,14 +1,12 @@
 -- `count_live_insts` goes through the segments: each gap's row holds what the segments so far added, and the gaps before `at` end by where the last one ended
-use mathlib.Core.Path.{_≡_, refl, sym, ap, ap₂, _∙_}
-use Prim.Native.Nat.{ℕ, _+_, _-_, _≤_, _<_, zero-le, max}
-use native.Mathlib.Nat.{le-antisymm, le-refl, le-trans, le-of-eq, lt-of-lt-of-le, not-suc-le-zero}
+use mathlib.Core.Path.{_≡_, refl, sym, ap, _∙_}
+use Prim.Native.Nat.{ℕ, _+_, _-_, _≤_, zero-le, max}
+use native.Mathlib.Nat.{le-antisymm, le-trans, le-of-eq}
 use native.Mathlib.Omega.{arith}
 use borrow.Author.Needs.{needs}
-use mathlib.Core.List.{List, _++_}
-use lib.ListN.{length, getD, take, drop}
+use lib.ListN.{length, getD}
 use Rattle.numbers.specs.Point.{instOf}
-use Rattle.links.specs.Blocks.{endLimit}
-use Rattle.walks.specs.Live.{sumBelow, liveFrom, liveTo, liveAdded}
+use Rattle.walks.specs.Live.{liveFrom, liveTo}
 use Rattle.walks.proofs.LiveLaws.{Sofar, sofar-none, sofar-room, sofar-next, sofar-all, rest-gaps, rest-counted, back, lastOf, last-next, live-order, live-inside}
 use Rattle.walks.proofs.live.count_live_insts.Statement.{statement}
 use Rattle.walks.proofs.live.count_live_insts.Tie as tie

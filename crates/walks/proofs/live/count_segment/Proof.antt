@@ -1,5 +1,4 @@
 -- `count_segment` goes through the gaps: to those before i the overlap is added, the others are as they were lent
-use mathlib.Core.Path.{_≡_, refl, sym, ap, ap₂, _∙_}
 use Prim.Native.Nat.{ℕ, _+_, _-_, _≤_, _<_, zero-le}
 use native.Mathlib.Nat.{le-refl, le-trans, lt-of-lt-of-le, not-suc-le-zero}
 use native.Mathlib.Omega.{arith}

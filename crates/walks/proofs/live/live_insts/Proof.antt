@@ -1,6 +1,6 @@
 -- `live_insts` goes through the segments with where the one before ended and the sum so far, which lies before that
 use mathlib.Core.Path.{_≡_, refl, sym, ap, ap₂, _∙_}
-use Prim.Native.Nat.{ℕ, _+_, _-_, _≤_, _<_, zero-le, max}
+use Prim.Native.Nat.{ℕ, _+_, _-_, _≤_, zero-le, max}
 use native.Mathlib.Nat.{le-antisymm, le-trans, le-of-eq}
 use native.Mathlib.Omega.{arith}
 use borrow.Author.Needs.{needs}
