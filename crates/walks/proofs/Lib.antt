@@ -10,5 +10,6 @@ pub mod Storing
 pub mod Fills
 pub mod Adding
 pub mod ListWalk
+pub mod LiveCases
 pub mod LiveLaws
 pub mod LiveTotal

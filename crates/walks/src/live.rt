@@ -65,8 +65,8 @@ fn overlap(a: u32, e: u32, from: u32, to: u32) -> u32
     0
 }
 
-// Counts one segment's live instructions, from a to before e, in the gaps that hold them. Answers the gap that holds e, before which
-// no later segment has any.
+// Counts one segment's live instructions, from a to before e, in the gaps that hold them. Answers the first gap that reaches e: no
+// gap before it holds a later segment's.
 fn count_segment(from: &[u32], to: &[u32], live: &mut [u32], a: u32, e: u32) -> usize
     requires { ⌜ Gaps (now from) (now to) ⌝ }
     requires { ⌜ CountedBefore (length (now from)) a (now live) ⌝ }
