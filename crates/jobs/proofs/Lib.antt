@@ -2,3 +2,4 @@
 pub mod Walk
 pub mod UseLists
 pub mod Sound
+pub mod SoundUses
