@@ -10,6 +10,7 @@ pub mod Storing
 pub mod Fills
 pub mod Adding
 pub mod ListWalk
+pub mod UseOrder
 pub mod LiveCases
 pub mod LiveLaws
 pub mod LiveTotal
