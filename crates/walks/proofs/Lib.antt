@@ -11,6 +11,7 @@ pub mod Fills
 pub mod Adding
 pub mod ListWalk
 pub mod UseOrder
+pub mod OneList
 pub mod LiveCases
 pub mod LiveLaws
 pub mod LiveTotal
