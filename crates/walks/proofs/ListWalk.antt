@@ -1,8 +1,9 @@
 -- The uses of one list added one by one: each takes at most one row, and no column changes its length
 use mathlib.Core.Path.{_≡_, refl, sym, ap, _∙_, subst}
 use mathlib.Core.List.{List}
-use Prim.Native.Nat.{ℕ, zero, suc, _+_, _-_, _≤_, _<_}
+use Prim.Native.Nat.{ℕ, zero, suc, _+_, _-_, _≤_, _<_, zero-le}
 use native.Mathlib.Omega.{arith}
+use native.Mathlib.Numerals.{add-one}
 use lib.Dec.{ltb, eqb}
 use lib.Ieee.{Float, eq}
 use lib.ListN.{length, getD, length-set}
@@ -10,13 +11,16 @@ use Rattle.numbers.specs.Weight.{zeroWeight}
 use Rattle.numbers.specs.Cost.{reloadCost, moveCost, spillCost, scaled}
 use Rattle.numbers.specs.declared.costs.RematScales.{RematScales}
 use Rattle.numbers.proofs.Tests.{cond-both}
-use Rattle.jobs.specs.Rows.{noUse}
+use Rattle.jobs.specs.Rows.{noUse, noSegment}
+use Rattle.jobs.specs.Lines.{rowBefore, Lists}
 use Rattle.jobs.specs.declared.rows.Use.{Use}
+use Rattle.jobs.proofs.Walk.{before-next}
+use Rattle.walks.proofs.Adding.{inside-less}
 use Rattle.jobs.specs.declared.rows.Segment.{Segment}
 use Rattle.walks.specs.declared.uses.Part.{Part}
 use Rattle.walks.specs.declared.uses.SplitUse.{SplitUse}
 use Rattle.walks.specs.Uses.{noWeights, addedTo, partOf}
-use Rattle.walks.specs.UseColumns.{UseColumns, Inside, withUse, useIn, Collecting, isStored, addedBefore, added, weightAt, counted, countedList, Room}
+use Rattle.walks.specs.UseColumns.{UseColumns, Inside, withUse, useIn, Collecting, isStored, addedBefore, added, weightAt, counted, countedList, countedLists, Room}
 
 -- the same lengths
 pub record Long (a b : UseColumns) : Type 0 where
@@ -110,6 +114,73 @@ module _ (uses : List Use) (freqs ends : List ℕ) (s : Segment) (code : ℕ) (s
             main = let a = known .room .main in let l = g .long .mains in omega (arith, a, l, r, h);
             left = let a = known .room .left in let l = g .long .lefts in omega (arith, a, l, r, h);
             right = let a = known .room .right in let l = g .long .rights in omega (arith, a, l, r, h);
+          }
+
+      longer : {x : UseColumns} → Long (c .cols) x → Long (lent .cols) x
+      longer {x} l = record { insts = l .insts ∙ known .long .insts; mains = l .mains ∙ known .long .mains; lefts = l .lefts ∙ known .long .lefts; rights = l .rights ∙ known .long .rights }
+
+-- what a list of k uses takes
+grown-list : (uses : List Use) (freqs ends : List ℕ) (s : Segment) (code : ℕ) (scales : RematScales) (k : ℕ) (c : Collecting) → Long (c .cols) (countedList uses freqs ends s code scales k c .cols) × (countedList uses freqs ends s code scales k c .rows ≤ c .rows + k)
+unfolding countedList
+grown-list uses freqs ends s code scales zero c = (long-same (c .cols), omega arith)
+grown-list uses freqs ends s code scales (suc k) c =
+    let before = grown-list uses freqs ends s code scales k c in
+    let one = grown-counted freqs ends s (getD uses (s .«first_use» + k) noUse .position) (scaled code scales (spillCost reloadCost moveCost (getD uses (s .«first_use» + k) noUse .kind) (getD uses (s .«first_use» + k) noUse .cost))) (countedList uses freqs ends s code scales k c) in
+    let r = before .1 in
+    let m = one .rows in (
+      record { insts = one .long .insts ∙ before .0 .insts; mains = one .long .mains ∙ before .0 .mains; lefts = one .long .lefts ∙ before .0 .lefts; rights = one .long .rights ∙ before .0 .rights },
+      omega (arith, r, m),
+    )
+
+-- ---- after the lists of i segments
+module _ (uses : List Use) (freqs ends : List ℕ) (segments : List Segment) (codes : List ℕ) (scales : RematScales) where
+  pub record AlongAll (lent : Collecting) (i : ℕ) (c : Collecting) : Type 0 where
+    pub to : i ≤ length segments
+    pub sofar : c ≡ countedLists uses freqs ends segments codes scales i lent
+    pub room : Room (length uses - rowBefore segments noSegment i .«end_use») c
+    pub long : Long (lent .cols) (c .cols)
+
+  pub along-all-first : (lent : Collecting) → Room (length uses) lent → AlongAll lent 0 lent
+  unfolding countedLists
+  along-all-first lent room = record { to = zero-le; sofar = refl; room = subst (λ (n : ℕ). Room n lent) (all (length uses)) room; long = long-same (lent .cols) }
+    where
+      all : (x : ℕ) → x ≡ x - 0
+      all x = omega arith
+
+-- of lists that follow one another
+module _ (uses : List Use) (freqs ends : List ℕ) (segments : List Segment) (codes : List ℕ) (scales : RematScales) (lists : Lists (length uses) segments) where
+  abbrev seg : ℕ → Segment
+  seg i = getD segments i noSegment
+
+  -- a list begins where the one before ended, and has room
+  pub list-room : (lent : Collecting) (i : ℕ) (c : Collecting) → i < length segments → AlongAll uses freqs ends segments codes scales lent i c → Room (seg i .«end_use» - seg i .«first_use») c
+  list-room lent i c h known =
+      inside-less _ _ (c .cols) (let f = lists .follows i h in let g = lists .inside i h in let o = lists .forward i h in omega (arith, f, g, o)) (known .room)
+
+  pub along-all-next : (lent : Collecting) (i : ℕ) (c d : Collecting) → i < length segments → AlongAll uses freqs ends segments codes scales lent i c → d ≡ countedList uses freqs ends (seg i) (getD codes (seg i .value) 0) scales (seg i .«end_use» - seg i .«first_use») c → AlongAll uses freqs ends segments codes scales lent (i + 1) d
+  unfolding countedLists
+  along-all-next lent i c d h known e =
+      record {
+        to = omega (arith, h);
+        sofar =
+            e
+            ∙ ap (countedList uses freqs ends (seg i) (getD codes (seg i .value) 0) scales (seg i .«end_use» - seg i .«first_use»)) (known .sofar)
+            ∙ ap (λ (n : ℕ). countedLists uses freqs ends segments codes scales n lent) (sym (add-one i));
+        room = subst (λ (x : Segment). Room (length uses - x .«end_use») d) (before-next segments noSegment i) (subst (Room (length uses - seg i .«end_use»)) (sym e) (less (countedList uses freqs ends (seg i) (getD codes (seg i .value) 0) scales (seg i .«end_use» - seg i .«first_use») c) (grown-list uses freqs ends (seg i) (getD codes (seg i .value) 0) scales (seg i .«end_use» - seg i .«first_use») c)));
+        long = subst (λ (x : Collecting). Long (lent .cols) (x .cols)) (sym e) (longer (grown-list uses freqs ends (seg i) (getD codes (seg i .value) 0) scales (seg i .«end_use» - seg i .«first_use») c .0));
+      }
+    where
+      less : (x : Collecting) → Long (c .cols) (x .cols) × (x .rows ≤ c .rows + (seg i .«end_use» - seg i .«first_use»)) → Room (length uses - seg i .«end_use») x
+      less x g =
+          let r = g .1 in
+          let f = lists .follows i h in
+          let n = lists .inside i h in
+          let o = lists .forward i h in
+          record {
+            inst = let a = known .room .inst in let l = g .0 .insts in omega (arith, a, l, r, f, n, o);
+            main = let a = known .room .main in let l = g .0 .mains in omega (arith, a, l, r, f, n, o);
+            left = let a = known .room .left in let l = g .0 .lefts in omega (arith, a, l, r, f, n, o);
+            right = let a = known .room .right in let l = g .0 .rights in omega (arith, a, l, r, f, n, o);
           }
 
       longer : {x : UseColumns} → Long (c .cols) x → Long (lent .cols) x

@@ -10,7 +10,8 @@ use Rattle.links.specs.First.{firstBelow}
 use Rattle.numbers.specs.Cost.{reloadCost, moveCost, spillCost, scaled}
 use Rattle.numbers.specs.declared.costs.RematScales.{RematScales}
 use Rattle.links.specs.Blocks.{Ends}
-use Rattle.jobs.specs.Rows.{noUse}
+use Rattle.jobs.specs.Rows.{noUse, noSegment}
+use Rattle.jobs.specs.Lines.{Lists}
 use Rattle.jobs.specs.declared.rows.Use.{Use}
 use Rattle.jobs.specs.declared.rows.Segment.{Segment}
 use Rattle.links.specs.Table.{table, filled}
@@ -105,3 +106,16 @@ pub record Listing (uses : List Use) (ends : List ℕ) (blocks : ℕ) (s : Segme
   pub forward : s .«first_use» ≤ s .«end_use»
   pub inside : s .«end_use» ≤ length uses
   pub blocked : (u : ℕ) → u < length uses → Ends ends blocks (getD uses u noUse .position)
+
+-- the lists of the first n segments added in order
+unfoldable pub countedLists : List Use → List ℕ → List ℕ → List Segment → List ℕ → RematScales → ℕ → Collecting → Collecting
+countedLists uses freqs ends segments codes scales zero c = c
+countedLists uses freqs ends segments codes scales (suc n) c =
+    let s = getD segments n noSegment in
+    countedList uses freqs ends s (getD codes (s .value) 0) scales (s .«end_use» - s .«first_use») (countedLists uses freqs ends segments codes scales n c)
+
+-- what the collection of all lists relies on: they follow one another, each use lies in a block, and each segment's value is known
+pub record Listings (uses : List Use) (ends : List ℕ) (blocks values : ℕ) (segments : List Segment) : Type 0 where
+  pub lists : Lists (length uses) segments
+  pub blocked : (u : ℕ) → u < length uses → Ends ends blocks (getD uses u noUse .position)
+  pub known : (i : ℕ) → i < length segments → getD segments i noSegment .value < values

@@ -1,5 +1,8 @@
 // The rows of the use table, and the best use.
 use jobs::rows::Segment;
+use jobs::rows::cell;
+use jobs::rows::segment_at;
+use jobs::rows::segment_count;
 use jobs::rows::use_at as job_use;
 use links::blocks::block_of;
 use numbers::Inst;
@@ -9,8 +12,8 @@ use numbers::weights::frequency_of;
 ghost use mathlib.Core.Path.{_≡_};
 ghost use Prim.Native.Nat.{_-_, _≤_};
 ghost use Rattle.walks.specs.Uses.{AllWeights, bestUse, partOf, noWeights, addedTo};
-ghost use Rattle.walks.specs.UseColumns.{columns, Inside, withUse, useIn, collecting, isStored, addedBefore, added, weightAt, counted, Listing, Room, countedList};
-ghost use Rattle.jobs.specs.Rows.{usesOf};
+ghost use Rattle.walks.specs.UseColumns.{columns, Inside, withUse, useIn, collecting, isStored, addedBefore, added, weightAt, counted, Listing, Listings, Room, countedList, countedLists};
+ghost use Rattle.jobs.specs.Rows.{usesOf, segmentsOf};
 ghost use Rattle.links.specs.Blocks.{Ends};
 ghost use lib.ListN.{length};
 
@@ -273,6 +276,57 @@ fn collect_list(
             s,
             Inst(u.position),
             c,
+            inst,
+            weight,
+            left_weight,
+            right_weight,
+            done,
+        );
+        i += 1;
+    }
+    done
+}
+
+// Collects the uses of all segments, list by list.
+fn collect_lists(
+    start: &[u32],
+    end: &[u32],
+    value: &[u32],
+    first_use: &[u32],
+    end_use: &[u32],
+    flags: &[u32],
+    code: &[u32],
+    position: &[u32],
+    kind: &[u32],
+    cost: &[u32],
+    freq: &[u32],
+    block_end: &[u32],
+    scales: RematScales,
+    inst: &mut [u32],
+    weight: &mut [f32],
+    left_weight: &mut [f32],
+    right_weight: &mut [f32],
+    done: Collected,
+) -> Collected
+    requires { ⌜ Listings (usesOf (now position) (now kind) (now cost)) (now «block_end») (length (now freq)) (length (now code)) (segmentsOf (now start) (now end) (now value) (now «first_use») (now «end_use») (now flags)) ⌝ }
+    requires { ⌜ Room (length (usesOf (now position) (now kind) (now cost))) (collecting (columns (now inst) (now weight) (now «left_weight») (now «right_weight»)) done) ⌝ }
+    ensures { λ r. ⌜ collecting (columns (now (inst .exit)) (now (weight .exit)) (now («left_weight» .exit)) (now («right_weight» .exit))) r ≡ countedLists (usesOf (now (position .entry)) (now (kind .entry)) (now (cost .entry))) (now (freq .entry)) (now («block_end» .entry)) (segmentsOf (now (start .entry)) (now (end .entry)) (now (value .entry)) (now («first_use» .entry)) (now («end_use» .entry)) (now (flags .entry))) (now (code .entry)) scales (length (segmentsOf (now (start .entry)) (now (end .entry)) (now (value .entry)) (now («first_use» .entry)) (now («end_use» .entry)) (now (flags .entry)))) (collecting (columns (now (inst .entry)) (now (weight .entry)) (now («left_weight» .entry)) (now («right_weight» .entry))) done) ⌝ }
+{
+    let n = segment_count(start, end, value, first_use, end_use, flags);
+    let mut done = done;
+    let mut i: usize = 0;
+    while i < n {
+        let s = segment_at(start, end, value, first_use, end_use, flags, i);
+        let c = cell(code, s.value as usize);
+        done = collect_list(
+            position,
+            kind,
+            cost,
+            freq,
+            block_end,
+            s,
+            c,
+            scales,
             inst,
             weight,
             left_weight,
