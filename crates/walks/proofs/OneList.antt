@@ -1,4 +1,4 @@
--- One list of uses, from the columns to the table: what `countedList` leaves is the table of all uses up to there
+-- The lists of uses, from the columns to the table: what `countedLists` leaves is the table of all uses, all but its latest row
 use mathlib.Core.Path.{_≡_, refl, sym, ap, ap₂, _∙_, subst}
 use mathlib.Core.Bool.{Bool, true, false, not, _&&_, _||_, cond, true≢false}
 use mathlib.Core.Logic.{_⊎_, inl, inr, ⊎-elim}
@@ -26,7 +26,7 @@ use Rattle.jobs.proofs.Sound.{Bounded}
 use Rattle.jobs.proofs.SoundUses.{Defined, Fitting}
 use Rattle.jobs.proofs.UseLists.{list-of}
 use Rattle.walks.specs.Uses.{Seen, countsAt, carries, hasRow, frequencyAt, Source, segmentOf, costOf, seenOf, firstInst}
-use Rattle.walks.specs.UseColumns.{UseColumns, Inside, Collecting, added, weightAt, counted, countedList}
+use Rattle.walks.specs.UseColumns.{UseColumns, Inside, Collecting, added, weightAt, counted, countedList, countedLists}
 use Rattle.walks.proofs.Adding.{Stored, stored-skipped, stored-added, inside-less}
 use Rattle.walks.proofs.UseOrder.{use-near, use-inside}
 
@@ -119,3 +119,20 @@ module _ (limits : Limits) (job : Source) (lists : Lists (length (job .uses)) (j
       let e = add-suc (seg i .«first_use») k in
       subst (λ (n : ℕ). Stored (seenOf job) (firstInst (job .segments)) n lent (countedList (job .uses) fs es (seg i) (codeOf (seg i)) (job .scales) (suc k) c)) (sym e)
       (use-stored i (seg i .«first_use» + k) h (omega arith) (omega (arith, e, l)) (countedList (job .uses) fs es (seg i) (codeOf (seg i)) (job .scales) k c) (list-stored i k h (omega (arith, e, l)) c known))
+
+  -- the lists of the first n segments
+  pub lists-stored : (n : ℕ) → n ≤ length (job .segments) → (c : Collecting) → Stored (seenOf job) (firstInst (job .segments)) 0 lent c → Stored (seenOf job) (firstInst (job .segments)) (rowBefore (job .segments) noSegment n .«end_use») lent (countedLists (job .uses) fs es (job .segments) (job .codes) (job .scales) n c)
+  unfolding countedLists
+  lists-stored zero h c known = known
+  lists-stored (suc i) h c known =
+      let f = lists .follows i h in
+      let o = lists .forward i h in
+      let whole : seg i .«first_use» + (seg i .«end_use» - seg i .«first_use») ≡ seg i .«end_use» = omega (arith, o) in
+      let before = countedLists (job .uses) fs es (job .segments) (job .codes) (job .scales) i c in
+      subst (λ (n : ℕ). Stored (seenOf job) (firstInst (job .segments)) n lent (countedList (job .uses) fs es (seg i) (codeOf (seg i)) (job .scales) (seg i .«end_use» - seg i .«first_use») before)) whole
+      (list-stored i (seg i .«end_use» - seg i .«first_use») h (omega (arith, o)) before
+      (subst (λ (n : ℕ). Stored (seenOf job) (firstInst (job .segments)) n lent before) (sym f) (lists-stored i (omega (arith, h)) c known)))
+
+  -- all of them
+  pub all-stored : (c : Collecting) → Stored (seenOf job) (firstInst (job .segments)) 0 lent c → Stored (seenOf job) (firstInst (job .segments)) (length (job .uses)) lent (countedLists (job .uses) fs es (job .segments) (job .codes) (job .scales) (length (job .segments)) c)
+  all-stored c known = subst (λ (n : ℕ). Stored (seenOf job) (firstInst (job .segments)) n lent (countedLists (job .uses) fs es (job .segments) (job .codes) (job .scales) (length (job .segments)) c)) (lists .all) (lists-stored (length (job .segments)) (le-refl (length (job .segments))) c known)
