@@ -3,7 +3,7 @@ use mathlib.Core.Path.{_≡_, refl, sym, ap, _∙_, subst}
 use mathlib.Core.Bool.{Bool, true, false, _&&_, cond, true≢false}
 use mathlib.Core.Logic.{_⊎_, inl, inr, ⊎-elim}
 use mathlib.Core.List.{List}
-use Prim.Native.Nat.{ℕ, zero, suc, _+_, _-_, _*_, _/_, _≤_, _<_}
+use Prim.Native.Nat.{ℕ, zero, suc, _+_, _-_, _*_, _/_, _%_, _≤_, _<_}
 use native.Mathlib.Nat.{not-suc-le-zero, le-refl, le-of-eq}
 use native.Mathlib.Omega.{arith}
 use lib.Dec.{eqb}
@@ -16,7 +16,7 @@ use Rattle.jobs.specs.declared.rows.Limits.{Limits}
 use Rattle.jobs.specs.Rows.{noSegment, noUse, fixedDef}
 use Rattle.jobs.specs.Lines.{rowBefore, Lists}
 use Rattle.jobs.proofs.Sound.{Bounded}
-use Rattle.jobs.proofs.SoundUses.{Defined, Fitting}
+use Rattle.jobs.proofs.SoundUses.{Defined, Fitting, LivesOut, Ended}
 use Rattle.walks.specs.Uses.{firstInst}
 
 module _ (limits : Limits) (uses : List Use) (segments : List Segment) (lists : Lists (length uses) segments)
@@ -124,3 +124,81 @@ module _ (limits : Limits) (uses : List Use) (segments : List Segment) (lists : 
           let d = defined 0 h f in
           let there : at u ≡ seg 0 .start / 4 - 1 = ap at (eqb-true u (seg 0 .«first_use») e) ∙ d .before in
           subst (λ (b : Bool). seg 0 .start / 4 - cond b 1 0 ≤ at u) (sym f) (le-of-eq (sym there))
+
+  -- a segment starts no later than the last one ends
+  starts-before : (i k : ℕ) → i + k < length segments → seg i .start < seg (i + k) .end
+  starts-before i zero h = subst (λ (x : ℕ). seg i .start < seg x .end) (same i) (bounded i (subst (λ (x : ℕ). x < length segments) (sym (same i)) h) .nonempty)
+    where
+      same : (x : ℕ) → x ≡ x + 0
+      same x = omega arith
+  starts-before i (suc k) h =
+      let e : suc (i + k) ≡ i + suc k = omega arith in
+      let next : suc (i + k) < length segments = omega (arith, h) in
+      let before = starts-before i k (omega (arith, h)) in
+      let a = bounded (suc (i + k)) next .after in
+      let n = bounded (suc (i + k)) next .nonempty in
+      subst (λ (x : ℕ). seg i .start < seg x .end) e (omega (arith, a, before, n))
+
+  -- the last segment z: no use, and not the first instruction, is after the last instruction
+  module _ (z : ℕ) (last : suc z ≡ length segments) where
+    z-inside : z < length segments
+    z-inside = le-of-eq last
+
+    listed-before : (u : ℕ) → u < seg z .«first_use» → 4 * at u ≤ seg z .start
+    listed-before u l =
+        let e = ended z u (let i = z-inside in omega (arith, i)) (subst (λ (x : ℕ). u < x) (lists .follows z z-inside) l) in
+        let a = bounded z z-inside .after in
+        omega (arith, a, e)
+
+    -- a use of its list is no later than the list's last
+    listed-last : (u : ℕ) → seg z .«first_use» ≤ u → u < seg z .«end_use» → at u ≤ at (seg z .«end_use» - 1)
+    listed-last u p q =
+        let k : u + (seg z .«end_use» - 1 - u) ≡ seg z .«end_use» - 1 = omega (arith, q) in
+        subst (λ (x : ℕ). at u ≤ at x) k (rising z u (seg z .«end_use» - 1 - u) z-inside p (omega (arith, q)))
+
+    all-listed : (u : ℕ) → u < length uses → u < seg z .«end_use»
+    all-listed u h = subst (λ (x : ℕ). u < x) (sym (lists .all) ∙ ap (λ (n : ℕ). rowBefore segments noSegment n .«end_use») (sym last)) h
+
+    -- live-out: all are before its end
+    pub last-out : LivesOut uses (seg z) → (u : ℕ) → u < length uses → at u ≤ seg z .end / 4 - 1
+    last-out out u h = ⊎-elim early own (split u (seg z .«first_use»))
+      where
+        early : u < seg z .«first_use» → at u ≤ seg z .end / 4 - 1
+        early l = let a = listed-before u l in let n = bounded z z-inside .nonempty in let b = out .boundary in omega (arith, a, n, b)
+
+        below : (x y e : ℕ) → x ≤ y → 4 * y ≤ e → e % 4 ≡ 0 → (y ≡ e / 4 → ⊥) → x ≤ e / 4 - 1
+        below x y e a b c f = ⊎-elim (λ l. omega (arith, a, l)) (λ l. absurd (f (omega (arith, b, c, l)))) (split y (e / 4))
+
+        own : seg z .«first_use» ≤ u → at u ≤ seg z .end / 4 - 1
+        own p =
+            let q = all-listed u h in
+            let some : seg z .«first_use» < seg z .«end_use» = omega (arith, p, q) in
+            let r = listed-last u p q in
+            let w = placed z (seg z .«end_use» - 1) z-inside (omega (arith, some)) (omega (arith, some)) .high in
+            let b = out .boundary in
+            below (at u) (at (seg z .«end_use» - 1)) (seg z .end) r w b (out .apart some)
+
+    -- not live-out: the last use is the last instruction
+    pub last-use : Ended uses (seg z) → (u : ℕ) → u < length uses → at u ≤ at (seg z .«end_use» - 1)
+    last-use end u h = ⊎-elim early (λ p. listed-last u p (all-listed u h)) (split u (seg z .«first_use»))
+      where
+        early : u < seg z .«first_use» → at u ≤ at (seg z .«end_use» - 1)
+        early l = let a = listed-before u l in let n = bounded z z-inside .nonempty in let r = end .near in omega (arith, a, n, r)
+
+    -- nor is the first instruction
+    pub first-out : LivesOut uses (seg z) → firstInst segments ≤ seg z .end / 4 - 1
+    unfolding firstInst
+    first-out out = by (fixedDef (seg 0 .flags)) (starts-before 0 z (let i = z-inside in omega (arith, i)))
+      where
+        none : (x : ℕ) → 0 + x ≡ x
+        none x = omega arith
+
+        either : (b : Bool) → seg 0 .start < seg z .end → seg z .end % 4 ≡ 0 → seg 0 .start / 4 - cond b 1 0 ≤ seg z .end / 4 - 1
+        either true m c = omega (arith, m, c)
+        either false m c = omega (arith, m, c)
+
+        by : (b : Bool) → seg 0 .start < seg (0 + z) .end → seg 0 .start / 4 - cond b 1 0 ≤ seg z .end / 4 - 1
+        by b l = either b (subst (λ (x : ℕ). seg 0 .start < seg x .end) (none z) l) (out .boundary)
+
+    pub first-use-last : Ended uses (seg z) → firstInst segments ≤ at (seg z .«end_use» - 1)
+    first-use-last end = let s = end .some in use-inside z (seg z .«end_use» - 1) z-inside (omega (arith, s)) (omega (arith, s))

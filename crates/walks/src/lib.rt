@@ -1,4 +1,4 @@
-// Walks: from a checked job to its gap segments. So far the uses of one list in the use table, the best use, live instructions of
+// Walks: from a checked job to its gap segments. So far the uses of all lists in the use table, the best use, live instructions of
 // segments and gaps, and gap segments.
 pub mod gap_segments;
 pub mod live;
