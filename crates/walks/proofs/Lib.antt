@@ -12,6 +12,7 @@ pub mod Adding
 pub mod ListWalk
 pub mod UseOrder
 pub mod OneList
+pub mod WholeTable
 pub mod LiveCases
 pub mod LiveLaws
 pub mod LiveTotal
