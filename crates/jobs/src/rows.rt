@@ -1,6 +1,7 @@
 // The rows of a job's tables. A table is lent as one slice a column, and has as many rows as its shortest column.
+use links::blocks::shorter;
 ghost use mathlib.Core.Path.{_≡_};
-ghost use Prim.Native.Nat.{_<_, min};
+ghost use Prim.Native.Nat.{_<_};
 ghost use lib.ListN.{length, getD};
 ghost use Rattle.jobs.specs.Lines.{rowBefore};
 ghost use Rattle.jobs.specs.Rows.{segmentsOf, segmentRow, usesOf, useRow, noSegment, noUse, noReservation, noFixedUse, reservationsOf, reservationRow, fixedUsesOf, fixedUseRow, liveOut, fixedDef};
@@ -49,14 +50,8 @@ pub struct Limits {
     pub end: u32,
 }
 
-pub fn shorter(a: usize, b: usize) -> usize
-    ensures { λ r. ⌜ r ≡ min a b ⌝ }
-{
-    if a < b { a } else { b }
-}
-
 // No segment, as it stands before the first.
-pub fn no_segment() -> Segment
+pub(crate) fn no_segment() -> Segment
     ensures { λ r. ⌜ r ≡ noSegment ⌝ }
 {
     Segment {
@@ -70,7 +65,7 @@ pub fn no_segment() -> Segment
 }
 
 // No fixed use, as it stands before the first.
-pub fn no_fixed_use() -> FixedUse
+pub(crate) fn no_fixed_use() -> FixedUse
     ensures { λ r. ⌜ r ≡ noFixedUse ⌝ }
 {
     FixedUse {
@@ -150,7 +145,7 @@ pub fn use_at(position: &[u32], kind: &[u32], cost: &[u32], i: usize) -> Use
 }
 
 // Use i, or no use past the last.
-pub fn use_or_none(position: &[u32], kind: &[u32], cost: &[u32], i: usize) -> Use
+pub(crate) fn use_or_none(position: &[u32], kind: &[u32], cost: &[u32], i: usize) -> Use
     ensures { λ r. ⌜ r ≡ getD (usesOf (now (position .entry)) (now (kind .entry)) (now (cost .entry))) i noUse ⌝ }
 {
     let n = use_count(position, kind, cost);
@@ -161,7 +156,7 @@ pub fn use_or_none(position: &[u32], kind: &[u32], cost: &[u32], i: usize) -> Us
 }
 
 // The use before use i, or no use before the first.
-pub fn use_before(position: &[u32], kind: &[u32], cost: &[u32], i: usize) -> Use
+pub(crate) fn use_before(position: &[u32], kind: &[u32], cost: &[u32], i: usize) -> Use
     ensures { λ r. ⌜ r ≡ rowBefore (usesOf (now (position .entry)) (now (kind .entry)) (now (cost .entry))) noUse i ⌝ }
 {
     if i == 0 {
@@ -191,7 +186,7 @@ pub fn fixed_use_at(unit: &[u32], point: &[u32], value: &[u32], i: usize) -> Fix
 }
 
 // No reservation, as it stands before the first.
-pub fn no_reservation() -> Reservation
+pub(crate) fn no_reservation() -> Reservation
     ensures { λ r. ⌜ r ≡ noReservation ⌝ }
 {
     Reservation {
@@ -246,7 +241,7 @@ pub fn reservation_at(
 }
 
 // No use, as it stands before the first.
-pub fn no_use() -> Use
+pub(crate) fn no_use() -> Use
     ensures { λ r. ⌜ r ≡ noUse ⌝ }
 {
     Use {

@@ -48,6 +48,13 @@ linkColumn side freqs = table (lowerLink side freqs) (length freqs)
 abbrev pub linkAnswer : ℕ → MaybeBlock
 linkAnswer link = cond (eqb link absent) Absent (At (record { 0 = link }))
 
+-- what linking relies on, of a block list that the checks have passed and a lent column with room for it
+pub record Frequencies (freqs : List ℕ) (room : ℕ) : Type 0 where
+  pub few : length freqs ≤ itemLimit
+  pub long : length freqs ≤ room
+  pub sound : (k : ℕ) → k < length freqs → getD freqs k 0 ≤ frequencyLimit
+
+-- ---- for contracts of private functions
 -- block k lies on a side of block b
 abbrev pub Beyond : Side → ℕ → ℕ → Type 0
 Beyond Previous b k = k < b
@@ -58,13 +65,7 @@ abbrev pub nth : Side → ℕ → ℕ → ℕ
 nth Previous n t = t
 nth Next n t = n - (t + 1)
 
--- what linking relies on, of a block list that the checks have passed and a lent column with room for it
-pub record Frequencies (freqs : List ℕ) (room : ℕ) : Type 0 where
-  pub few : length freqs ≤ itemLimit
-  pub long : length freqs ≤ room
-  pub sound : (k : ℕ) → k < length freqs → getD freqs k 0 ≤ frequencyLimit
-
--- and each block beyond block b on a side has its link
+-- linking relies on that, and each block beyond block b on a side has its link
 pub record LinkedBeyond (side : Side) (freqs links : List ℕ) (b : ℕ) : Type 0 where
   pub inside : b < length freqs
   pub given : Frequencies freqs (length links)

@@ -83,6 +83,7 @@ answerOf blocks after before early =
     (cond (leb before after || ltb (startOf blocks (length blocks)) before) (SplitPoint·is.Refused (record { number = 13; place = 0 }))
     (SplitPoint·is.At (record { 0 = splitPoint (sideOf early) blocks after before })))
 
+-- ---- for contracts of private functions
 -- what a sweep over the blocks relies on, of a block list that the checks have passed: `edges` are their ends or their starts
 pub record Swept (freqs edges : List ℕ) (b : ℕ) : Type 0 where
   pub inside : b < length freqs

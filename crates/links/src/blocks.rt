@@ -22,12 +22,14 @@ pub struct Refusal {
     pub place: u32,
 }
 
+// A table without fault, or its refusal.
 pub enum Checked {
     Sound,
     Refused(Refusal),
 }
 
-fn shorter(a: usize, b: usize) -> usize
+// The shorter of two lengths.
+pub fn shorter(a: usize, b: usize) -> usize
     ensures { λ r. ⌜ r ≡ min a b ⌝ }
 {
     if a < b { a } else { b }

@@ -17,7 +17,7 @@ pub enum Side {
 pub const ABSENT: u32 = 4294967295;
 
 // How many of n blocks lie on a side of block b.
-pub fn beside(side: Side, n: usize, b: usize) -> usize
+pub(crate) fn beside(side: Side, n: usize, b: usize) -> usize
     requires { ⌜ b < n ⌝ }
     ensures { λ r. ⌜ r ≡ beside side n b ⌝ }
 {
@@ -28,7 +28,7 @@ pub fn beside(side: Side, n: usize, b: usize) -> usize
 }
 
 // The block on a side of block b with t blocks between.
-pub fn beyond(side: Side, n: usize, b: usize, t: usize) -> usize
+pub(crate) fn beyond(side: Side, n: usize, b: usize, t: usize) -> usize
     requires { ⌜ (b < n) × (t < beside side n b) ⌝ }
     ensures { λ r. ⌜ r ≡ beyond side b t ⌝ }
 {

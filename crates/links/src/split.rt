@@ -9,6 +9,7 @@ use crate::lower;
 use crate::lower::Side;
 use numbers::Inst;
 
+// The instruction before which the split stands, or the refusal of the call.
 pub enum SplitPoint {
     At(Inst),
     Refused(Refusal),

@@ -36,6 +36,10 @@ cellCount = 14 * few + 9 * many + 5
 unfoldable pub place : ℕ → ℕ → ℕ
 place k c = base k + c * limit k
 
+-- where column c of kind k starts, or the end of the cells for a column that a kind does not have
+unfoldable pub columnOf : ℕ → ℕ → ℕ
+columnOf k c = pick (ltb c (fields k)) (place k c) cellCount
+
 -- column c of some rows
 unfoldable pub column : ℕ → List (List ℕ) → List ℕ
 column c rows = map (λ (row : List ℕ). getD row c 0) rows

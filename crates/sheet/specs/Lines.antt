@@ -1,4 +1,4 @@
--- Lines of one kind at the front of a text, as they are read after the check.
+-- Lines of one kind at the front of a text, as they are read after the check. For contracts of private functions.
 -- Assumes nothing.
 use Prim.Native.Nat.{ℕ, zero, suc, _+_, _≤_, _<_, _^_}
 use mathlib.Core.Path.{_≡_}

@@ -1,4 +1,4 @@
--- What the check looks at: the line that stands at a place of the text.
+-- What the check looks at: the line that stands at a place of the text. For contracts of private functions.
 -- Assumes nothing.
 use Prim.Native.Nat.{ℕ, _+_}
 use mathlib.Core.List.{List}

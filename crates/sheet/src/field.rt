@@ -19,7 +19,7 @@ fn digit(c: u8) -> u64
 }
 
 // The number that a field's columns make.
-pub fn value_of(s: &[u8]) -> u64
+pub(crate) fn value_of(s: &[u8]) -> u64
     requires { ⌜ length (now s) ≤ 11 ⌝ }
     ensures { λ r. ⌜ r ≡ value (now (s .entry)) ⌝ }
 {
@@ -43,7 +43,7 @@ fn digit_or_blank(n: u32) -> u8
 }
 
 // Writes a number into the 11 columns from `at` on.
-pub fn put_number(out: &mut [u8], at: usize, n: u32)
+pub(crate) fn put_number(out: &mut [u8], at: usize, n: u32)
     requires { ⌜ at + 11 ≤ length (now out) ⌝ }
     ensures { λ _. ⌜ now (out .exit) ≡ sets (now (out .entry)) at (field n) ⌝ }
 {
@@ -75,7 +75,7 @@ fn same(a: &[u8], b: &[u8]) -> bool
 }
 
 // Whether a text is a field: it is held against the text of the number that it makes.
-pub fn is_field(s: &[u8]) -> bool
+pub(crate) fn is_field(s: &[u8]) -> bool
     ensures { λ r. ⌜ r ≡ isField (now (s .entry)) ⌝ }
 {
     if s.len() != COLUMNS {

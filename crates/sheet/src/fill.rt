@@ -11,7 +11,7 @@ ghost use lib.Seq.{sets};
 ghost use Rattle.sheet.specs.Kinds.{kinds, fields, limit};
 ghost use Rattle.sheet.specs.Refusal.{verdict, sheetOf};
 ghost use Rattle.sheet.specs.Lines.{AreLines, rowsOf, Readable, fieldsAt};
-ghost use Rattle.sheet.specs.Cells.{base, cellCount, place, storedColumns, stored, Read};
+ghost use Rattle.sheet.specs.Cells.{base, cellCount, columnOf, storedColumns, stored, Read};
 ghost use Rattle.sheet.specs.declared.check.Verdict.the-variants.{Sound};
 
 // The cells of B to F one kind behind the other, each with its fields times its limit, and then the five of P.
@@ -46,7 +46,7 @@ fn base_of(k: usize) -> usize
 
 // Where column c of kind k starts among the cells; their end for a column that does not exist.
 pub fn column_of(k: usize, c: usize) -> usize
-    ensures { λ r. ⌜ (k < kinds → c < fields k → r ≡ place k c) × (r ≤ cellCount) ⌝ }
+    ensures { λ r. ⌜ (r ≡ columnOf k c) × (r ≤ cellCount) ⌝ }
 {
     if k >= kinds::KINDS {
         return CELLS;

@@ -17,7 +17,7 @@ const FIELDS: [usize; 8] = [5, 3, 1, 6, 3, 1, 6, 3];
 const LIMITS: [usize; 8] = [1, FEW, FEW, FEW, MANY, FEW, MANY, FEW];
 
 // The letter of a kind; of what is no kind, 0, and so below.
-pub fn letter_of(k: usize) -> u8
+pub(crate) fn letter_of(k: usize) -> u8
     ensures { λ r. ⌜ r ≡ letter k ⌝ }
 {
     if k >= KINDS {
@@ -27,7 +27,7 @@ pub fn letter_of(k: usize) -> u8
 }
 
 // How many fields a line of a kind has.
-pub fn fields_of(k: usize) -> usize
+pub(crate) fn fields_of(k: usize) -> usize
     ensures { λ r. ⌜ (r ≡ fields k) × (r ≤ 6) ⌝ }
 {
     if k >= KINDS {
@@ -37,14 +37,14 @@ pub fn fields_of(k: usize) -> usize
 }
 
 // How many bytes a line of a kind has.
-pub fn width_of(k: usize) -> usize
+pub(crate) fn width_of(k: usize) -> usize
     ensures { λ r. ⌜ (r ≡ width k) × (2 ≤ r) × (r ≤ 68) ⌝ }
 {
     2 + 11 * fields_of(k)
 }
 
 // How many lines of a kind a sheet may have.
-pub fn limit_of(k: usize) -> usize
+pub(crate) fn limit_of(k: usize) -> usize
     ensures { λ r. ⌜ (r ≡ limit k) × (r ≤ 256) ⌝ }
 {
     if k >= KINDS {
@@ -54,7 +54,7 @@ pub fn limit_of(k: usize) -> usize
 }
 
 // The kind that a letter names, or KINDS.
-pub fn kind_of(c: u8) -> usize
+pub(crate) fn kind_of(c: u8) -> usize
     ensures { λ r. ⌜ r ≡ kindOf c ⌝ }
 {
     let mut k: usize = 0;

@@ -13,7 +13,8 @@ use Rattle.numbers.proofs.Tests.{cond-true, cond-false}
 use Rattle.links.proofs.Firsts.{split}
 use Rattle.walks.specs.declared.uses.SplitUse.{SplitUse}
 use Rattle.walks.specs.Uses.{noWeights, addedTo, Seen, splitUse, hasRow, rowsFrom}
-use Rattle.walks.specs.UseColumns.{UseColumns, Inside, withUse, useIn, filledWith, Collecting, isStored, addedBefore, added}
+use Rattle.walks.specs.UseColumns.{UseColumns, Inside, withUse, useIn, filledWith}
+use Rattle.walks.specs.Collecting.{Collecting, isStored, addedBefore, added}
 use Rattle.walks.proofs.UseRows.{rows-none}
 use Rattle.walks.proofs.Pending.{Pending, pending-first, pending-skipped, pending-same, pending-later, pending-before, pending-own, written-own, written-front, row-inst}
 use Rattle.walks.proofs.Fills.{fill-more, fill-changed, fill-inst, fill-read}
@@ -27,7 +28,7 @@ pub record Stored (seen : Seen) (first n : ℕ) (lent : UseColumns) (c : Collect
   pub few : length written ≤ n
   pub pending : Pending seen first n at written (c .latest)
 
-one-more : (rows : List SplitUse) (u : SplitUse) → length (rows ++ (u ∷ [])) ≡ length rows + 1
+pub one-more : (rows : List SplitUse) (u : SplitUse) → length (rows ++ (u ∷ [])) ≡ length rows + 1
 one-more rows u = length-append rows (u ∷ [])
 
 -- what fits more rows fits fewer
@@ -64,8 +65,11 @@ module _ (seen : Seen) (first : ℕ) (lent : UseColumns) where
           ap (λ (r : List SplitUse). isStored (filledWith r lent .insts) (length r) q) (append-nil rows)
           ∙ before (subst (λ (r : List SplitUse). Inside (length r) lent) (append-nil rows) i)
 
-  -- a use that does not count
   module _ (n : ℕ) (c : Collecting) (known : Stored seen first n lent c) where
+    pub latest-at : c .latest .inst .0 ≡ known .at
+    latest-at = ap (λ (u : SplitUse). u .inst .0) (known .pending .row) ∙ row-inst seen n (known .at)
+
+    -- a use that does not count
     pub stored-skipped : seen .counts n ≡ false → Stored seen first (suc n) lent c
     stored-skipped e =
         record {
@@ -81,9 +85,6 @@ module _ (seen : Seen) (first : ℕ) (lent : UseColumns) where
     module _ (counted : seen .counts n ≡ true) (inside : first ≤ seen .inst n) (near : (p : ℕ) → hasRow seen n first first p ≡ true → p ≤ seen .inst n + 1) (room : Inside n lent) where
       fits : Inside (length (known .written)) lent
       fits = inside-less (length (known .written)) n lent (known .few) room
-
-      latest-at : c .latest .inst .0 ≡ known .at
-      latest-at = ap (λ (u : SplitUse). u .inst .0) (known .pending .row) ∙ row-inst seen n (known .at)
 
       -- a row more in the columns
       stored-row : (u : SplitUse) → withUse (c .cols) (c .rows) u ≡ filledWith (known .written ++ (u ∷ [])) lent

@@ -20,7 +20,8 @@ use Rattle.jobs.specs.declared.rows.Segment.{Segment}
 use Rattle.walks.specs.declared.uses.Part.{Part}
 use Rattle.walks.specs.declared.uses.SplitUse.{SplitUse}
 use Rattle.walks.specs.Uses.{noWeights, addedTo, partOf}
-use Rattle.walks.specs.UseColumns.{UseColumns, Inside, withUse, useIn, Collecting, isStored, addedBefore, added, weightAt, counted, countedList, countedLists, Room}
+use Rattle.walks.specs.UseColumns.{UseColumns, Inside, withUse, useIn}
+use Rattle.walks.specs.Collecting.{Collecting, isStored, addedBefore, added, weightAt, counted, countedList, countedLists, Room}
 
 -- the same lengths
 pub record Long (a b : UseColumns) : Type 0 where

@@ -26,7 +26,8 @@ use Rattle.jobs.proofs.Sound.{Bounded}
 use Rattle.jobs.proofs.SoundUses.{Defined, Fitting}
 use Rattle.jobs.proofs.UseLists.{list-of}
 use Rattle.walks.specs.Uses.{Seen, countsAt, carries, hasRow, frequencyAt, Source, segmentOf, costOf, seenOf, firstInst}
-use Rattle.walks.specs.UseColumns.{UseColumns, Inside, Collecting, added, weightAt, counted, countedList, countedLists}
+use Rattle.walks.specs.UseColumns.{UseColumns, Inside}
+use Rattle.walks.specs.Collecting.{Collecting, added, weightAt, counted, countedList, countedLists}
 use Rattle.walks.proofs.Adding.{Stored, stored-skipped, stored-added, inside-less}
 use Rattle.walks.proofs.UseOrder.{use-near, use-inside}
 

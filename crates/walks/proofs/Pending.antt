@@ -13,7 +13,8 @@ use Rattle.walks.specs.declared.uses.Part.{Part}
 use Rattle.walks.specs.declared.uses.Part.the-variants as Part·is
 use Rattle.walks.specs.declared.uses.SplitUse.{SplitUse}
 use Rattle.walks.specs.Uses.{noWeights, addedTo, Seen, countsAt, carries, splitUse, hasRow, rowsFrom, useTable}
-use Rattle.walks.proofs.UseRows.{skipped-carries, skipped-row, other-carries, other-row, own-carries, own-row, row-none, rows-split, rows-none, rows-one, rows-same, or-all, or-last}
+use Rattle.jobs.proofs.Sound.{or-parts}
+use Rattle.walks.proofs.UseRows.{skipped-carries, skipped-row, other-carries, other-row, own-carries, own-row, row-none, rows-split, rows-none, rows-one, rows-same, or-all}
 
 -- n uses are seen: the rows before instruction p are written, `latest` is the row of p, and none is after it
 pub record Pending (seen : Seen) (first n p : ℕ) (written : List SplitUse) (latest : SplitUse) : Type 0 where
@@ -95,7 +96,7 @@ module _ (seen : Seen) (first : ℕ) where
           record {
             from = let f = known .from in omega (arith, f, h);
             rows = all;
-            row = ap (λ (u : SplitUse). addedTo u (seen .part n) (seen .weight n)) (sym (row-none seen n (seen .inst n) (or-last (eqb (seen .inst n) first || eqb (seen .inst n) first) (carries seen n (seen .inst n)) (known .none (seen .inst n) h)))) ∙ sym (own-row seen n counted);
+            row = ap (λ (u : SplitUse). addedTo u (seen .part n) (seen .weight n)) (sym (row-none seen n (seen .inst n) (or-parts (eqb (seen .inst n) first || eqb (seen .inst n) first) (carries seen n (seen .inst n)) (known .none (seen .inst n) h) .1))) ∙ sym (own-row seen n counted);
             has = own-has;
             none = λ q l. other-has q (λ f. omega (arith, f, l)) ∙ known .none q (omega (arith, h, l));
           }
@@ -155,7 +156,7 @@ module _ (seen : Seen) (first : ℕ) where
         pending-before e =
             step _
             (ap₂ (λ (a b : List SplitUse). a ++ b) (written-front e)
-            (ap (λ (u : SplitUse). addedTo u (seen .part n) (seen .weight n) ∷ []) (sym (row-none seen n (seen .inst n) (or-last (eqb (seen .inst n) first || eqb (seen .inst n) first) (carries seen n (seen .inst n)) e)))))
+            (ap (λ (u : SplitUse). addedTo u (seen .part n) (seen .weight n) ∷ []) (sym (row-none seen n (seen .inst n) (or-parts (eqb (seen .inst n) first || eqb (seen .inst n) first) (carries seen n (seen .inst n)) e .1)))))
 
         -- it had one: that is the last one written, and it changes
         pub written-own : hasRow seen n first first (seen .inst n) ≡ true → written ≡ front n ++ (splitUse seen n (seen .inst n) ∷ [])
@@ -203,7 +204,7 @@ module _ (seen : Seen) (first : ℕ) where
           let here : first + (p - first) ≡ p = omega (arith, f) in
           let there : (p + 1) + (last - p - 1) ≡ last = omega (arith, h) in
           let count : (p - first) + (1 + ((last - p - 1) + 1)) ≡ last + 1 - first = omega (arith, f, h) in
-          let absent : carries seen n last ≡ false = or-last (eqb last first || eqb last first) (carries seen n last) (known .none last h) in
+          let absent : carries seen n last ≡ false = or-parts (eqb last first || eqb last first) (carries seen n last) (known .none last h) .1 in
           let between : rowsFrom seen n first last (p + 1) (last - p - 1) ≡ [] = rows-none seen n first last (p + 1) (last - p - 1) (λ q a b. sym (ends-has q (λ g. omega (arith, a, b, g, h))) ∙ known .none q (omega (arith, a))) in
           let end : noWeights last ∷ [] ≡ rowsFrom seen n first last (p + 1) ((last - p - 1) + 1) =
           ap (λ (u : SplitUse). u ∷ []) (sym (row-none seen n last absent))

@@ -10,7 +10,7 @@ use lib.ListN.{getD}
 use Rattle.links.specs.First.{firstBelow}
 use Rattle.links.specs.Blocks.{Ends}
 use Rattle.links.proofs.Firsts.{first-at-most}
-use Rattle.walks.specs.UseColumns.{isStored}
+use Rattle.walks.specs.Collecting.{isStored}
 
 pub stored-none : (insts : List ℕ) (rows p : ℕ) → rows ≡ 0 → false ≡ isStored insts rows p
 unfolding isStored

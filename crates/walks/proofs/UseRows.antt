@@ -8,53 +8,39 @@ use native.Mathlib.Omega.{arith}
 use lib.Dec.{eqb}
 use borrow.Author.Tests.{eq-eqb, ne-eqb, eqb-true, eqb-false}
 use Rattle.numbers.proofs.Tests.{cond-true, cond-false}
+use Rattle.jobs.proofs.Walk.{and-first, and-both}
+use Rattle.jobs.proofs.Sound.{or-parts}
 use Rattle.walks.specs.declared.uses.SplitUse.{SplitUse}
 use Rattle.walks.specs.Uses.{noWeights, addedTo, Seen, countsAt, carries, splitUse, hasRow, rowsFrom}
 
--- "and" and "or", by what their first part is
-and-none : (a b : Bool) → a ≡ false → (a && b) ≡ false
-and-none true b e = absurd (true≢false e)
-and-none false b e = refl
-
+-- "and" and "or", by what their second part is
 and-second : (a b : Bool) → b ≡ false → (a && b) ≡ false
 and-second true b e = e
 and-second false b e = refl
 
-and-all : (a b : Bool) → a ≡ true → b ≡ true → (a && b) ≡ true
-and-all true b e f = f
-and-all false b e f = absurd (true≢false (sym e))
-
-or-none : (a b : Bool) → b ≡ false → (a || b) ≡ a
-or-none true b e = refl
-or-none false b e = e
+or-left : (a b : Bool) → b ≡ false → (a || b) ≡ a
+or-left true b e = refl
+or-left false b e = e
 
 pub or-all : (a b : Bool) → b ≡ true → (a || b) ≡ true
 or-all true b e = refl
 or-all false b e = e
-
-or-first : (a b : Bool) → a ≡ true → (a || b) ≡ true
-or-first true b e = refl
-or-first false b e = absurd (true≢false (sym e))
-
-pub or-last : (a b : Bool) → (a || b) ≡ false → b ≡ false
-or-last true b e = absurd (true≢false e)
-or-last false b e = e
 
 -- ---- use n
 module _ (seen : Seen) (n : ℕ) where
   -- a use that does not count leaves every row
   pub skipped-carries : seen .counts n ≡ false → (p : ℕ) → carries seen (suc n) p ≡ carries seen n p
   unfolding carries
-  skipped-carries e p = or-none (carries seen n p) (countsAt seen p n) (and-none (seen .counts n) (eqb (seen .inst n) p) e)
+  skipped-carries e p = or-left (carries seen n p) (countsAt seen p n) (and-first (seen .counts n) (eqb (seen .inst n) p) e)
 
   pub skipped-row : seen .counts n ≡ false → (p : ℕ) → splitUse seen (suc n) p ≡ splitUse seen n p
   unfolding splitUse
-  skipped-row e p = cond-false _ _ (and-none (seen .counts n) (eqb (seen .inst n) p) e)
+  skipped-row e p = cond-false _ _ (and-first (seen .counts n) (eqb (seen .inst n) p) e)
 
   -- one that counts leaves the rows of other instructions
   pub other-carries : (p : ℕ) → (seen .inst n ≡ p → ⊥) → carries seen (suc n) p ≡ carries seen n p
   unfolding carries
-  other-carries p e = or-none (carries seen n p) (countsAt seen p n) (and-second (seen .counts n) (eqb (seen .inst n) p) (ne-eqb (seen .inst n) p e))
+  other-carries p e = or-left (carries seen n p) (countsAt seen p n) (and-second (seen .counts n) (eqb (seen .inst n) p) (ne-eqb (seen .inst n) p e))
 
   pub other-row : (p : ℕ) → (seen .inst n ≡ p → ⊥) → splitUse seen (suc n) p ≡ splitUse seen n p
   unfolding splitUse
@@ -63,7 +49,7 @@ module _ (seen : Seen) (n : ℕ) where
   -- and adds its weight to its own
   module _ (counted : seen .counts n ≡ true) where
     own-test : countsAt seen (seen .inst n) n ≡ true
-    own-test = and-all (seen .counts n) (eqb (seen .inst n) (seen .inst n)) counted (eq-eqb (seen .inst n) (seen .inst n) refl)
+    own-test = and-both (seen .counts n) (eqb (seen .inst n) (seen .inst n)) true counted (eq-eqb (seen .inst n) (seen .inst n) refl)
 
     pub own-carries : carries seen (suc n) (seen .inst n) ≡ true
     unfolding carries
@@ -78,11 +64,8 @@ pub row-none : (seen : Seen) (n p : ℕ) → carries seen n p ≡ false → spli
 unfolding carries splitUse
 row-none seen zero p e = refl
 row-none seen (suc n) p e =
-    cond-false _ _ (or-last (carries seen n p) (countsAt seen p n) e) ∙ row-none seen n p (fails (carries seen n p) (countsAt seen p n) e)
-  where
-    fails : (a b : Bool) → (a || b) ≡ false → a ≡ false
-    fails true b f = absurd (true≢false f)
-    fails false b f = refl
+    let parts = or-parts (carries seen n p) (countsAt seen p n) e in
+    cond-false _ _ (parts .1) ∙ row-none seen n p (parts .0)
 
 -- ---- the rows of k instructions from p on
 module _ (seen : Seen) (n first last : ℕ) where

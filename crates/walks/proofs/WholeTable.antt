@@ -8,18 +8,16 @@ use mathlib.Core.Logic.{_⊎_, inl, inr}
 use lib.ListN.{length, length-append}
 use Rattle.walks.specs.declared.uses.SplitUse.{SplitUse}
 use Rattle.walks.specs.Uses.{Seen, noWeights, useTable}
-use Rattle.walks.specs.UseColumns.{UseColumns, Inside, withUse, filledWith, Collecting}
-use Rattle.walks.proofs.Pending.{pending-end, pending-end-later, row-inst}
+use Rattle.walks.specs.UseColumns.{UseColumns, Inside, withUse, filledWith}
+use Rattle.walks.specs.Collecting.{Collecting}
+use Rattle.walks.proofs.Pending.{pending-end, pending-end-later}
 use Rattle.walks.proofs.Fills.{fill-more}
-use Rattle.walks.proofs.Adding.{Stored, inside-less}
+use Rattle.walks.proofs.Adding.{Stored, one-more, inside-less, latest-at}
 use Rattle.links.proofs.Firsts.{split}
 
 module _ (seen : Seen) (first last n : ℕ) (lent : UseColumns) (c : Collecting) (known : Stored seen first n lent c) (room : Inside (n + 1) lent) (within : known .at ≤ last) where
-  latest-at : c .latest .inst .0 ≡ known .at
-  latest-at = ap (λ (u : SplitUse). u .inst .0) (known .pending .row) ∙ row-inst seen n (known .at)
-
-  one-more : (rows : List SplitUse) (u : SplitUse) → length (rows ++ (u ∷ [])) ≡ length rows + 1
-  one-more rows u = length-append rows (u ∷ [])
+  abbrev latest-is : c .latest .inst .0 ≡ known .at
+  latest-is = latest-at seen first lent n c known
 
   -- the latest row stored
   latest-stored : withUse (c .cols) (c .rows) (c .latest) ≡ filledWith (known .written ++ (c .latest ∷ [])) lent
@@ -29,13 +27,13 @@ module _ (seen : Seen) (first last n : ℕ) (lent : UseColumns) (c : Collecting)
 
   -- it is the last instruction's
   pub whole-same : c .latest .inst .0 ≡ last → withUse (c .cols) (c .rows) (c .latest) ≡ filledWith (useTable seen n first last) lent
-  whole-same e = latest-stored ∙ ap (λ (r : List SplitUse). filledWith r lent) (pending-end seen first n (known .at) (known .written) (c .latest) (known .pending) last (sym latest-at ∙ e))
+  whole-same e = latest-stored ∙ ap (λ (r : List SplitUse). filledWith r lent) (pending-end seen first n (known .at) (known .written) (c .latest) (known .pending) last (sym latest-is ∙ e))
 
   pub count-same : c .latest .inst .0 ≡ last → c .rows + 1 ≡ length (useTable seen n first last)
   count-same e =
       let k = known .count in
       let m = one-more (known .written) (c .latest) in
-      let whole = ap length (pending-end seen first n (known .at) (known .written) (c .latest) (known .pending) last (sym latest-at ∙ e)) in
+      let whole = ap length (pending-end seen first n (known .at) (known .written) (c .latest) (known .pending) last (sym latest-is ∙ e)) in
       omega (arith, k, m, whole)
 
   -- it isn't: that one is stored behind it
@@ -44,7 +42,7 @@ module _ (seen : Seen) (first last n : ℕ) (lent : UseColumns) (c : Collecting)
     where
       by : (known .at < last) ⊎ (last ≤ known .at) → known .at < last
       by (inl h) = h
-      by (inr h) = absurd (e (latest-at ∙ le-antisymm within h))
+      by (inr h) = absurd (e (latest-is ∙ le-antisymm within h))
 
   pub whole-later : (c .latest .inst .0 ≡ last → ⊥) → withUse (withUse (c .cols) (c .rows) (c .latest)) (c .rows + 1) (noWeights last) ≡ filledWith (useTable seen n first last) lent
   whole-later e =

@@ -42,11 +42,6 @@ pub record Valued (starts ends values : List ℕ) : Type 0 where
   pub bounds : Segments starts ends
   pub long : length values ≡ length starts
 
--- the gaps before gap g end by a point
-pub record Behind (froms tos : List ℕ) (point g : ℕ) : Type 0 where
-  pub inside : g ≤ length froms
-  pub ended : (k : ℕ) → k < g → 4 * getD tos k 0 ≤ point
-
 -- the lent columns, and how many of their rows are used
 pub record Columns : Type 0 where
   pub from : List ℕ
@@ -57,21 +52,6 @@ pub record Columns : Type 0 where
 
 abbrev pub columns : List ℕ → List ℕ → List ℕ → List ℕ → ℕ → Columns
 columns from to value gap used = record { from = from; to = to; value = value; gap = gap; used = used }
-
--- a row is stored behind those used, and then the others
-abbrev pub putOne : GapSegment → Columns → Columns
-putOne r c =
-    record {
-      from = set (c .from) (c .used) (r .from);
-      to = set (c .to) (c .used) (r .to);
-      value = set (c .value) (c .used) (r .value);
-      gap = set (c .gap) (c .used) (r .gap);
-      used = c .used + 1;
-    }
-
-unfoldable pub put : List GapSegment → Columns → Columns
-put [] c = c
-put (r ∷ rs) c = put rs (putOne r c)
 
 -- there is room for n more rows
 pub record Room (n : ℕ) (c : Columns) : Type 0 where
@@ -87,3 +67,24 @@ pub record Filled (rows : List GapSegment) (lent now : Columns) : Type 0 where
   pub to : now .to ≡ filled (map (λ (r : GapSegment). r .to) rows) (lent .to)
   pub value : now .value ≡ filled (map (λ (r : GapSegment). r .value) rows) (lent .value)
   pub gap : now .gap ≡ filled (map (λ (r : GapSegment). r .gap) rows) (lent .gap)
+
+-- ---- for contracts of private functions
+-- the gaps before gap g end by a point
+pub record Behind (froms tos : List ℕ) (point g : ℕ) : Type 0 where
+  pub inside : g ≤ length froms
+  pub ended : (k : ℕ) → k < g → 4 * getD tos k 0 ≤ point
+
+-- a row is stored behind those used, and then the others
+abbrev pub putOne : GapSegment → Columns → Columns
+putOne r c =
+    record {
+      from = set (c .from) (c .used) (r .from);
+      to = set (c .to) (c .used) (r .to);
+      value = set (c .value) (c .used) (r .value);
+      gap = set (c .gap) (c .used) (r .gap);
+      used = c .used + 1;
+    }
+
+unfoldable pub put : List GapSegment → Columns → Columns
+put [] c = c
+put (r ∷ rs) c = put rs (putOne r c)

@@ -70,6 +70,7 @@ pub record Uncounted (n : ℕ) (live : List ℕ) : Type 0 where
   pub room : n ≤ length live
   pub none : (g : ℕ) → g < n → getD live g 0 ≡ 0
 
+-- ---- for contracts of private functions
 -- a column in which instructions before a are counted of n gaps
 pub record CountedBefore (n a : ℕ) (live : List ℕ) : Type 0 where
   pub room : n ≤ length live

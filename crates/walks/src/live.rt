@@ -8,13 +8,14 @@ ghost use Rattle.links.specs.Blocks.{endLimit};
 ghost use Rattle.links.specs.Table.{filled};
 ghost use Rattle.walks.specs.Live.{Segments, liveInsts, overlap, liveColumn, Gaps, Uncounted, CountedBefore, Counted};
 
-pub fn most(a: u32, b: u32) -> u32
+// The larger of two numbers, and the smaller.
+pub(crate) fn most(a: u32, b: u32) -> u32
     ensures { λ r. ⌜ r ≡ max a b ⌝ }
 {
     if a < b { b } else { a }
 }
 
-pub fn least(a: u32, b: u32) -> u32
+pub(crate) fn least(a: u32, b: u32) -> u32
     ensures { λ r. ⌜ r ≡ min a b ⌝ }
 {
     if b < a { b } else { a }

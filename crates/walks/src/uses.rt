@@ -12,7 +12,8 @@ use numbers::weights::frequency_of;
 ghost use mathlib.Core.Path.{_≡_};
 ghost use Prim.Native.Nat.{_-_, _≤_};
 ghost use Rattle.walks.specs.Uses.{AllWeights, bestUse, partOf, noWeights, addedTo};
-ghost use Rattle.walks.specs.UseColumns.{columns, Inside, withUse, useIn, collecting, isStored, addedBefore, added, weightAt, counted, Listing, Listings, Room, countedList, countedLists};
+ghost use Rattle.walks.specs.UseColumns.{columns, Inside, withUse, useIn};
+ghost use Rattle.walks.specs.Collecting.{collecting, isStored, addedBefore, added, weightAt, counted, Listing, Listings, Room, countedList, countedLists};
 ghost use Rattle.jobs.specs.Rows.{usesOf, segmentsOf};
 ghost use Rattle.links.specs.Blocks.{Ends};
 ghost use lib.ListN.{length};
@@ -39,7 +40,7 @@ pub enum BestUse {
 }
 
 // The weight to which a use at an instruction adds. A use outside its segment's live range counts only on the side where that lies.
-pub fn part_of(s: Segment, inst: Inst) -> Part
+fn part_of(s: Segment, inst: Inst) -> Part
     ensures { λ r. ⌜ r ≡ partOf s (inst .0) ⌝ }
 {
     let p = inst.0 as u64;
@@ -53,7 +54,7 @@ pub fn part_of(s: Segment, inst: Inst) -> Part
 }
 
 // The row of an instruction at which nothing counts yet.
-pub fn no_weights(inst: Inst) -> SplitUse
+fn no_weights(inst: Inst) -> SplitUse
     ensures { λ r. ⌜ r ≡ noWeights (inst .0) ⌝ }
 {
     SplitUse {
@@ -65,7 +66,7 @@ pub fn no_weights(inst: Inst) -> SplitUse
 }
 
 // The row with a use's weight added to one of its three.
-pub fn added_to(u: SplitUse, part: Part, weight: f32) -> SplitUse
+fn added_to(u: SplitUse, part: Part, weight: f32) -> SplitUse
     ensures { λ r. ⌜ r ≡ addedTo u part weight ⌝ }
 {
     let inst = u.inst;

@@ -5,7 +5,8 @@ use native.Mathlib.Omega.{arith}
 use Rattle.numbers.proofs.Tests.{cond-true, cond-false}
 use Rattle.walks.specs.declared.uses.SplitUse.{SplitUse}
 use Rattle.walks.specs.Uses.{addedTo}
-use Rattle.walks.specs.UseColumns.{UseColumns, columns, withUse, Collecting, addedBefore}
+use Rattle.walks.specs.UseColumns.{UseColumns, columns, withUse}
+use Rattle.walks.specs.Collecting.{Collecting, addedBefore}
 use Rattle.walks.proofs.Storing.{stored-some}
 use borrow.Author.Needs.{needs}
 use Rattle.walks.proofs.uses.add_before.Statement.{statement}

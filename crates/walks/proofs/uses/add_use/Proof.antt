@@ -6,7 +6,8 @@ use borrow.Author.Tests.{lt-ltb, le-ltb, eq-eqb, ne-eqb}
 use Rattle.numbers.proofs.Tests.{cond-true, cond-false}
 use Rattle.walks.specs.declared.uses.SplitUse.{SplitUse}
 use Rattle.walks.specs.Uses.{addedTo}
-use Rattle.walks.specs.UseColumns.{UseColumns, columns, withUse, Collecting, added}
+use Rattle.walks.specs.UseColumns.{UseColumns, columns, withUse}
+use Rattle.walks.specs.Collecting.{Collecting, added}
 use borrow.Author.Needs.{needs}
 use Rattle.walks.proofs.uses.add_use.Statement.{statement}
 use Rattle.walks.proofs.uses.add_use.Tie as tie

@@ -13,7 +13,8 @@ use Rattle.links.specs.Blocks.{Ends}
 use Rattle.jobs.specs.Rows.{useRow, usesOf, noUse}
 use Rattle.jobs.specs.declared.rows.Use.{Use}
 use Rattle.jobs.proofs.Walk.{own-row}
-use Rattle.walks.specs.UseColumns.{columns, collecting, Collecting, counted, countedList}
+use Rattle.walks.specs.UseColumns.{columns}
+use Rattle.walks.specs.Collecting.{collecting, Collecting, counted, countedList}
 use Rattle.walks.proofs.Adding.{inside-less}
 use Rattle.walks.proofs.ListWalk.{Along, along-first, along-next}
 use Rattle.walks.proofs.uses.collect_list.Statement.{statement}

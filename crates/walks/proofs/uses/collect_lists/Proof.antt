@@ -11,7 +11,8 @@ use Rattle.jobs.specs.Rows.{segmentRow, segmentsOf, usesOf, noSegment}
 use Rattle.jobs.specs.declared.rows.Segment.{Segment}
 use Rattle.jobs.specs.declared.rows.Use.{Use}
 use Rattle.jobs.proofs.Walk.{own-row}
-use Rattle.walks.specs.UseColumns.{columns, collecting, Collecting, Listing, Room, countedList, countedLists}
+use Rattle.walks.specs.UseColumns.{columns}
+use Rattle.walks.specs.Collecting.{collecting, Collecting, Listing, Room, countedList, countedLists}
 use Rattle.walks.proofs.ListWalk.{AlongAll, along-all-first, along-all-next, list-room}
 use Rattle.walks.proofs.uses.collect_lists.Statement.{statement}
 use Rattle.walks.proofs.uses.collect_lists.Tie as tie

@@ -3,7 +3,8 @@ use mathlib.Core.Path.{_≡_, sym, ap₂, _∙_}
 use lib.Ieee.{Float, ofBits}
 use Rattle.numbers.proofs.Tests.{cond-true, cond-false}
 use Rattle.walks.specs.declared.uses.Part.{Part}
-use Rattle.walks.specs.UseColumns.{columns, collecting, added, counted}
+use Rattle.walks.specs.UseColumns.{columns}
+use Rattle.walks.specs.Collecting.{collecting, added, counted}
 use borrow.Author.Needs.{needs}
 use Rattle.walks.proofs.uses.count_use.Statement.{statement}
 use Rattle.walks.proofs.uses.count_use.Tie as tie

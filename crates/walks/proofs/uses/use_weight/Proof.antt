@@ -5,7 +5,7 @@ use native.Mathlib.Nat.{lt-of-le-of-lt, le-of-eq}
 use lib.Ieee.{Float, binary32, mul}
 use lib.ListN.{length, getD}
 use Rattle.numbers.specs.Weight.{frequencyLimit, valueOf}
-use Rattle.walks.specs.UseColumns.{weightAt}
+use Rattle.walks.specs.Collecting.{weightAt}
 use Rattle.walks.proofs.Storing.{ends-inside}
 use borrow.Author.Needs.{needs}
 use Rattle.walks.proofs.uses.use_weight.Statement.{statement}
