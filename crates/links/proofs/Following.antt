@@ -39,6 +39,19 @@ follow-goes-on side f within fuel b c e l h =
     ap (λ (t : Bool). cond t (d ∷ follow side f within fuel d) []) (and-both (ltb d (length f)) (within d) (subst (λ (x : ℕ). ltb x (length f) ≡ true) e (lt-ltb c (length f) l)) (subst (λ (x : ℕ). within x ≡ true) e h))
     ∙ ap (λ (x : ℕ). x ∷ follow side f within fuel x) (sym e)
 
+-- steps that suffice for all blocks on a side of one suffice, but for one, on that side of a block there
+pub fuel-left : (side : Side) (n a c fuel : ℕ) → a < n → c < n → Beyond side a c → beside side n a ≤ fuel → (k : ℕ) × (fuel ≡ suc k) × (beside side n c ≤ k)
+fuel-left side n a c zero an cn p q = absurd (none side an cn p q)
+  where
+    none : (side : Side) → a < n → c < n → Beyond side a c → beside side n a ≤ 0 → ⊥
+    none Previous an cn p q = omega arith
+    none Next an cn p q = omega arith
+fuel-left side n a c (suc k) an cn p q = (k, refl, less side an cn p q)
+  where
+    less : (side : Side) → a < n → c < n → Beyond side a c → beside side n a ≤ suc k → beside side n c ≤ k
+    less Previous an cn p q = omega arith
+    less Next an cn p q = omega arith
+
 -- ---- a sweep from block b, after t blocks on a side: block c was reached last
 module _ (side : Side) (f edges : List ℕ) (limit start b : ℕ) where
   abbrev place : ℕ → ℕ
@@ -102,19 +115,6 @@ module _ (side : Side) (f edges : List ℕ) (limit start b : ℕ) where
             found = λ _. (s .ahead t (le-refl t) inside, e);
             gone = λ g. absurd (not-le-of-lt (beyond-inside side (length f) b t h inside) g);
           }
-
-      -- the chain from the last one reached goes on with the next block
-      fuel-left : (side : Side) (n a c fuel : ℕ) → a < n → c < n → Beyond side a c → beside side n a ≤ fuel → (k : ℕ) × (fuel ≡ suc k) × (beside side n c ≤ k)
-      fuel-left side n a c zero an cn p q = absurd (none side an cn p q)
-        where
-          none : (side : Side) → a < n → c < n → Beyond side a c → beside side n a ≤ 0 → ⊥
-          none Previous an cn p q = omega arith
-          none Next an cn p q = omega arith
-      fuel-left side n a c (suc k) an cn p q = (k, refl, less side an cn p q)
-        where
-          less : (side : Side) → a < n → c < n → Beyond side a c → beside side n a ≤ suc k → beside side n c ≤ k
-          less Previous an cn p q = omega arith
-          less Next an cn p q = omega arith
 
       pub sweep-lower : isLower f (s .last) i ≡ true → within i ≡ true → Sweep (t + 1) (place i) (getD f i 0)
       sweep-lower e w =

@@ -16,7 +16,7 @@ pub enum SplitPoint {
 }
 
 // A place that does not pass the limit.
-fn reaches(side: Side, limit: u32, place: u32) -> bool
+pub fn reaches(side: Side, limit: u32, place: u32) -> bool
     ensures { λ r. ⌜ r ≡ reaches side limit place ⌝ }
 {
     match side {

@@ -111,7 +111,7 @@ fn put_use(
 }
 
 // A row of the use table, from its columns.
-fn use_at(
+pub fn use_at(
     inst: &[u32],
     weight: &[f32],
     left_weight: &[f32],

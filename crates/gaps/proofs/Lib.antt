@@ -1,0 +1,5 @@
+-- Why the gaps are right
+pub mod Cuts
+pub mod StoredGaps
+pub mod Spaces
+pub mod Sides

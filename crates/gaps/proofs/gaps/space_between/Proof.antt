@@ -1,0 +1,81 @@
+-- `space_between` finds the blocks of both ends
+use mathlib.Core.Path.{_≡_, refl, sym, ap, ap₂, _∙_}
+use mathlib.Core.List.{List}
+use Prim.Native.Nat.{ℕ, _+_, _-_}
+use borrow.Author.Needs.{needs}
+use Rattle.links.specs.declared.lower.Side.{Side}
+use Rattle.links.specs.declared.lower.Side.the-variants.{Previous, Next}
+use Rattle.walks.specs.declared.uses.SplitUse.{SplitUse}
+use Rattle.gaps.specs.Cutting.{blockIn, spaceOf}
+use Rattle.gaps.specs.declared.gaps.Space.{Space}
+use Rattle.gaps.proofs.gaps.space_between.Statement.{statement}
+use Rattle.gaps.proofs.gaps.space_between.Tie as tie
+
+space-left : (ends : List ℕ) (n : ℕ) (u v : SplitUse) {x y : ℕ} → x ≡ blockIn ends n (v .inst .0 - 1) → y ≡ blockIn ends n (u .inst .0)
+    → _≡_ {A = Space} (record { edge = v .inst .0; end = u .inst .0; near = v .«left_weight»; far = u .«right_weight»; main = u .weight; block = record { 0 = x }; last = record { 0 = y } }) (spaceOf Previous ends n u v)
+space-left ends n u v p q =
+    ap₂ (λ (x y : ℕ). record { edge = v .inst .0; end = u .inst .0; near = v .«left_weight»; far = u .«right_weight»; main = u .weight; block = record { 0 = x }; last = record { 0 = y } }) p q
+
+space-right : (ends : List ℕ) (n : ℕ) (u v : SplitUse) {x y : ℕ} → x ≡ blockIn ends n (u .inst .0 + 1) → y ≡ blockIn ends n (v .inst .0)
+    → _≡_ {A = Space} (record { edge = u .inst .0 + 1; end = v .inst .0 + 1; near = u .«right_weight»; far = v .«left_weight»; main = v .weight; block = record { 0 = x }; last = record { 0 = y } }) (spaceOf Next ends n u v)
+space-right ends n u v p q =
+    ap₂ (λ (x y : ℕ). record { edge = u .inst .0 + 1; end = v .inst .0 + 1; near = u .«right_weight»; far = v .«left_weight»; main = v .weight; block = record { 0 = x }; last = record { 0 = y } }) p q
+
+enum-told : tie.Need-enum-told
+enum-told c = search needs
+
+sub-t9 : tie.Need-sub-t9
+sub-t9 c = search needs
+
+block-of-requires : tie.Need-block-of-requires
+block-of-requires c κs = search needs
+
+block-of-requires-2 : tie.Need-block-of-requires-2
+block-of-requires-2 c κs = search needs
+
+returns : tie.Need-returns
+returns c =
+    let a = c .before .before .before .before .before .args in
+    space-left (a .end .now) (a .n) (a .u) (a .v) (c .before .block-of .ensures) (c .block-of2 .ensures)
+    ∙ ap (λ (s : Side). spaceOf s (a .end .now) (a .n) (a .u) (a .v)) (sym (c .before .before .enum-told .given .1))
+
+enum-told-2 : tie.Need-enum-told-2
+enum-told-2 c = search needs
+
+add-t13 : tie.Need-add-t13
+add-t13 c = search needs
+
+add-t14 : tie.Need-add-t14
+add-t14 c = search needs
+
+add-t16 : tie.Need-add-t16
+add-t16 c = search needs
+
+block-of-requires-3 : tie.Need-block-of-requires-3
+block-of-requires-3 c κs = search needs
+
+block-of-requires-4 : tie.Need-block-of-requires-4
+block-of-requires-4 c κs = search needs
+
+returns-2 : tie.Need-returns-2
+returns-2 c =
+    let a = c .before .before .before .before .before .args in
+    space-right (a .end .now) (a .n) (a .u) (a .v) (c .before .block-of3 .ensures) (c .block-of4 .ensures)
+    ∙ ap (λ (s : Side). spaceOf s (a .end .now) (a .n) (a .u) (a .v)) (sym (c .before .before .enum-told2 .given .1))
+
+pub space-between-spec : {M : Type 1} → statement M
+space-between-spec =
+    tie.close
+    (tie.spec
+    enum-told
+    sub-t9
+    block-of-requires
+    block-of-requires-2
+    returns
+    enum-told-2
+    add-t13
+    add-t14
+    add-t16
+    block-of-requires-3
+    block-of-requires-4
+    returns-2)

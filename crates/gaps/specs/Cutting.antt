@@ -1,0 +1,89 @@
+-- For contracts of private functions: the space between two uses as the code sees it, in columns
+use mathlib.Core.Path.{_≡_}
+use mathlib.Core.Logic.{_⊎_}
+use Prim.Native.Nat.{ℕ, zero, suc, _+_, _-_, _≤_, _<_}
+use mathlib.Core.Bool.{_&&_, cond}
+use mathlib.Core.List.{List, [], _∷_}
+use lib.Dec.{ltb}
+use lib.Ieee.{Float}
+use lib.ListN.{length, getD}
+use Rattle.numbers.specs.Weight.{frequencyLimit, valueOf}
+use Rattle.numbers.specs.declared.MaybeBlock.{MaybeBlock}
+use Rattle.numbers.specs.declared.MaybeBlock.the-variants.{At, Absent}
+use Rattle.links.specs.First.{firstBelow}
+use Rattle.links.specs.Blocks.{itemLimit, Ends}
+use Rattle.links.specs.Links.{absent, Beyond}
+use Rattle.links.specs.Split.{preferred, home, reaches}
+use Rattle.links.specs.declared.lower.Side.{Side}
+use Rattle.walks.specs.UseColumns.{UseColumns, Inside, useIn}
+use Rattle.walks.specs.GapSegments.{joined}
+use Rattle.walks.specs.declared.uses.SplitUse.{SplitUse}
+use Rattle.gaps.specs.Gaps.{Gap, onSide, near, far, nearWeight, farEnd, cutGaps}
+use Rattle.gaps.specs.declared.gaps.Space.{Space}
+
+-- the first of n blocks that ends after an instruction
+abbrev pub blockIn : List ℕ → ℕ → ℕ → ℕ
+blockIn ends n p = firstBelow (λ (i : ℕ). ltb p (getD ends i 0)) n
+
+-- the space between two uses
+abbrev pub spaceOf : Side → List ℕ → ℕ → SplitUse → SplitUse → Space
+spaceOf side ends n u v =
+    record {
+      edge = preferred side (u .inst .0) (v .inst .0);
+      end = farEnd side (u .inst .0) (v .inst .0);
+      near = nearWeight side (near side u v);
+      far = onSide side (far side u v .«right_weight») (far side u v .«left_weight»);
+      main = far side u v .weight;
+      block = record { 0 = blockIn ends n (home side (u .inst .0) (v .inst .0)) };
+      last = record { 0 = blockIn ends n (onSide side (u .inst .0) (v .inst .0)) };
+    }
+
+-- stored links lead to blocks farther on their side, or are absent
+pub record Leads (side : Side) (links : List ℕ) : Type 0 where
+  pub few : length links ≤ itemLimit
+  pub each : (b : ℕ) → b < length links → (getD links b 0 ≡ absent) ⊎ ((getD links b 0 < length links) × Beyond side b (getD links b 0))
+
+-- the block at whose edge the next cut stands
+unfoldable pub nextCut : Side → List ℕ → ℕ → ℕ → MaybeBlock
+nextCut side links last b =
+    let c = getD links b 0 in
+    cond (ltb c (length links) && reaches side last c) (At (record { 0 = c })) Absent
+
+-- the blocks at whose edges cuts stand, by stored links
+unfoldable pub followed : Side → List ℕ → ℕ → ℕ → ℕ → List ℕ
+followed side links last zero b = []
+followed side links last (suc n) b =
+    let c = getD links b 0 in
+    let rest = c ∷ followed side links last n c in
+    cond (ltb c (length links) && reaches side last c) rest []
+
+abbrev pub cutsIn : Side → List ℕ → ℕ → ℕ → List ℕ
+cutsIn side links last b = followed side links last (length links) b
+
+-- the frequency of a block
+abbrev pub freqIn : List ℕ → ℕ → Float
+freqIn freqs b = valueOf frequencyLimit (getD freqs b 0)
+
+-- the gaps of a space
+abbrev pub spaceGaps : Side → List ℕ → List ℕ → List ℕ → Space → List Gap
+spaceGaps side freqs edges links s =
+    cutGaps side (freqIn freqs) (λ (c : ℕ). getD edges c 0) (s .end) (s .far ∷ s .main ∷ []) (s .edge) (s .near) (s .block .0) (cutsIn side links (s .last .0) (s .block .0))
+
+-- the gaps between n neighbouring uses from the i-th on
+abbrev pub sideGaps : Side → List ℕ → List ℕ → List ℕ → List ℕ → UseColumns → ℕ → ℕ → List Gap
+sideGaps side freqs ends edges links uses i n =
+    joined (λ (k : ℕ). spaceGaps side freqs edges links (spaceOf side ends (length freqs) (useIn uses k) (useIn uses (k + 1)))) i n
+
+-- columns of a block list, each as long as the others
+pub record Alike (freqs edges links : List ℕ) : Type 0 where
+  pub edges-long : length edges ≡ length freqs
+  pub links-long : length links ≡ length freqs
+
+-- two uses in order, the later one in a block
+abbrev pub Ordered : List ℕ → ℕ → SplitUse → SplitUse → Type 0
+Ordered ends n u v = (u .inst .0 < v .inst .0) × Ends ends n (v .inst .0)
+
+-- uses in order from the i-th to the last
+pub record InOrder (ends : List ℕ) (n : ℕ) (uses : UseColumns) (i last : ℕ) : Type 0 where
+  pub inside : Inside last uses
+  pub each : (k : ℕ) → i ≤ k → k < last → Ordered ends n (useIn uses k) (useIn uses (k + 1))

@@ -1,0 +1,38 @@
+-- The gaps in their lent columns
+use mathlib.Core.Path.{_≡_}
+use Prim.Native.Nat.{ℕ, zero, suc, _+_, _≤_}
+use mathlib.Core.List.{List, [], _∷_, map}
+use lib.Ieee.{Float}
+use lib.ListN.{length, set}
+use Rattle.links.specs.Table.{filled}
+use Rattle.gaps.specs.Gaps.{Gap, weightOf}
+
+-- instructions from and to, weights, frequencies
+pub record GapColumns : Type 0 where
+  pub froms : List ℕ
+  pub tos : List ℕ
+  pub weights : List Float
+  pub freqs : List Float
+
+abbrev pub columns : List ℕ → List ℕ → List Float → List Float → GapColumns
+columns froms tos weights freqs = record { froms = froms; tos = tos; weights = weights; freqs = freqs }
+
+-- the columns with a row stored
+abbrev pub withRow : GapColumns → ℕ → ℕ → ℕ → Float → Float → GapColumns
+withRow cols at from to weight freq = columns (set (cols .froms) at from) (set (cols .tos) at to) (set (cols .weights) at weight) (set (cols .freqs) at freq)
+
+-- the columns with a gap stored
+abbrev pub withGap : GapColumns → ℕ → Gap → GapColumns
+withGap cols at g = withRow cols at (g .from) (g .to) (weightOf g) (g .freq)
+
+-- gaps stored from a row on
+unfoldable pub stored : ℕ → List Gap → GapColumns → GapColumns
+stored at [] cols = cols
+stored at (g ∷ gs) cols = stored (suc at) gs (withGap cols at g)
+
+-- the columns have n rows
+pub record Rows (n : ℕ) (cols : GapColumns) : Type 0 where
+  pub from : n ≤ length (cols .froms)
+  pub to : n ≤ length (cols .tos)
+  pub weight : n ≤ length (cols .weights)
+  pub freq : n ≤ length (cols .freqs)

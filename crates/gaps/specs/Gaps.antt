@@ -1,0 +1,109 @@
+-- Gaps: the instructions from the first use to the last, cut between neighbouring uses where the frequency falls
+use Prim.Native.Nat.{ℕ, zero, suc, _+_, _-_}
+use mathlib.Core.List.{List, [], _∷_, _++_, map}
+use lib.Ieee.{Float, binary32, add}
+use lib.ListN.{length, getD}
+use Rattle.numbers.specs.Weight.{zeroWeight, frequencyLimit, valueOf}
+use Rattle.links.specs.Blocks.{BlockRow, blockAt, blockOf}
+use Rattle.links.specs.Split.{follow, edge, preferred, home, reaches}
+use Rattle.links.specs.declared.lower.Side.{Side}
+use Rattle.links.specs.declared.lower.Side.the-variants.{Previous, Next}
+use Rattle.walks.specs.Uses.{noWeights, frequencyAt}
+use Rattle.walks.specs.GapSegments.{joined}
+use Rattle.walks.specs.declared.uses.SplitUse.{SplitUse}
+
+-- a gap: the instructions from one to before another, the weights placed in it in the order of their addition, and its frequency
+pub record Gap : Type 0 where
+  pub from : ℕ
+  pub to : ℕ
+  pub weights : List Float
+  pub freq : Float
+
+-- weights added to a weight, one after the other
+unfoldable pub plus : Float → List Float → Float
+plus w [] = w
+plus w (v ∷ vs) = plus (add binary32 w v) vs
+
+-- weights added in their order
+abbrev pub total : List Float → Float
+total [] = zeroWeight
+total (w ∷ ws) = plus w ws
+
+-- a gap's weight
+abbrev pub weightOf : Gap → Float
+weightOf g = total (g .weights)
+
+-- gaps left of the best use lie on its side Previous, gaps right of it on its side Next: what holds there and here
+abbrev pub onSide : {A : Type 0} → Side → A → A → A
+onSide Previous left right = left
+onSide Next left right = right
+
+-- of two neighbouring uses the one nearer to the best use, and the one farther from it
+abbrev pub near : Side → SplitUse → SplitUse → SplitUse
+near side earlier later = onSide side later earlier
+
+abbrev pub far : Side → SplitUse → SplitUse → SplitUse
+far side earlier later = onSide side earlier later
+
+-- what the nearer use counts only if a region extends from it: its left weight, or its right one
+abbrev pub nearWeight : Side → SplitUse → Float
+nearWeight side u = onSide side (u .«left_weight») (u .«right_weight»)
+
+-- what the farther use counts only if a region extends to it, and then its main weight
+abbrev pub farWeights : Side → SplitUse → List Float
+farWeights side u = onSide side (u .«right_weight») (u .«left_weight») ∷ u .weight ∷ []
+
+-- where the farthest gap between two uses ends: with the farther use
+abbrev pub farEnd : Side → ℕ → ℕ → ℕ
+farEnd side earlier later = onSide side earlier (later + 1)
+
+-- the gap from an edge to another one, farther from the best use
+abbrev pub spanned : Side → ℕ → ℕ → List Float → Float → Gap
+spanned side edge farther weights freq = record { from = onSide side farther edge; to = onSide side edge farther; weights = weights; freq = freq }
+
+-- a gap and those farther from the best use, in the order of instructions
+abbrev pub inOrder : Side → Gap → List Gap → List Gap
+inOrder Previous g gs = gs ++ (g ∷ [])
+inOrder Next g gs = g ∷ gs
+
+-- the gaps from an edge and a block on, with cuts at the edges of other blocks: each has the frequency of its block nearest to the best use; the nearest has the near weight, the farthest the far weights
+unfoldable pub cutGaps : Side → (ℕ → Float) → (ℕ → ℕ) → ℕ → List Float → ℕ → Float → ℕ → List ℕ → List Gap
+cutGaps side freqOf edgeOf end ws e w b [] = spanned side e end (w ∷ ws) (freqOf b) ∷ []
+cutGaps side freqOf edgeOf end ws e w b (c ∷ cs) =
+    inOrder side (spanned side e (edgeOf c) (w ∷ []) (freqOf b)) (cutGaps side freqOf edgeOf end ws (edgeOf c) zeroWeight c cs)
+
+-- the frequency of a block
+abbrev pub frequencyOf : List BlockRow → ℕ → Float
+frequencyOf blocks b = valueOf frequencyLimit (blockAt blocks b .frequency)
+
+-- the blocks at whose edges cuts stand between two uses: those reached by following links from the instruction beside the nearer one, not beyond the farther one's block
+unfoldable pub cuts : Side → List BlockRow → ℕ → ℕ → List ℕ
+cuts side blocks earlier later =
+    follow side (map (λ (b : BlockRow). b .frequency) blocks) (reaches side (blockOf blocks (onSide side earlier later))) (length blocks) (blockOf blocks (home side earlier later))
+
+-- the gaps between two neighbouring uses on a side of the best one
+unfoldable pub gapsBetween : Side → List BlockRow → SplitUse → SplitUse → List Gap
+gapsBetween side blocks u v =
+    cutGaps side (frequencyOf blocks) (λ (c : ℕ). edge side (blockAt blocks c)) (farEnd side (u .inst .0) (v .inst .0)) (farWeights side (far side u v))
+    (preferred side (u .inst .0) (v .inst .0)) (nearWeight side (near side u v)) (blockOf blocks (home side (u .inst .0) (v .inst .0))) (cuts side blocks (u .inst .0) (v .inst .0))
+
+-- the best use's own gap: one instruction
+abbrev pub ownGap : List BlockRow → SplitUse → Gap
+ownGap blocks u = record { from = u .inst .0; to = u .inst .0 + 1; weights = u .weight ∷ []; freq = frequencyAt blocks (u .inst .0) }
+
+-- a use of the table
+abbrev pub useOf : List SplitUse → ℕ → SplitUse
+useOf uses i = getD uses i (noWeights 0)
+
+-- the gaps on a side, between n neighbouring uses from the i-th on
+abbrev pub gapsOn : Side → List BlockRow → List SplitUse → ℕ → ℕ → List Gap
+gapsOn side blocks uses i n = joined (λ (k : ℕ). gapsBetween side blocks (useOf uses k) (useOf uses (k + 1))) i n
+
+-- the gaps of a use table and its best use
+unfoldable pub gapsOf : List BlockRow → List SplitUse → ℕ → List Gap
+gapsOf blocks uses best =
+    gapsOn Previous blocks uses 0 best ++ (ownGap blocks (useOf uses best) ∷ gapsOn Next blocks uses best (length uses - 1 - best))
+
+-- which of them is the best use's own
+abbrev pub initialGap : List BlockRow → List SplitUse → ℕ → ℕ
+initialGap blocks uses best = length (gapsOn Previous blocks uses 0 best)

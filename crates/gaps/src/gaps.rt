@@ -1,0 +1,253 @@
+// The gaps between uses, cut where the frequency falls.
+use links::blocks::block_of;
+use links::lower::Side;
+use links::lower::link_at;
+use links::split::reaches;
+use numbers::Block;
+use numbers::Inst;
+use numbers::MaybeBlock;
+use numbers::weights::frequency_of;
+use walks::uses::SplitUse;
+use walks::uses::use_at;
+ghost use mathlib.Core.Path.{_≡_};
+ghost use mathlib.Core.List.{_∷_, []};
+ghost use Prim.Native.Nat.{ℕ, _+_, _-_, _≤_, _<_, max};
+ghost use lib.ListN.{length, getD};
+ghost use Rattle.walks.specs.UseColumns.{columns as useColumns, useIn};
+ghost use Rattle.links.specs.Blocks.{Ends};
+ghost use Rattle.gaps.specs.Gaps.{Gap, onSide};
+ghost use Rattle.gaps.specs.GapColumns.{columns, withRow, stored, Rows};
+ghost use Rattle.gaps.specs.Cutting.{Ordered, spaceOf, Leads, nextCut, cutsIn, freqIn, Alike, spaceGaps, sideGaps, InOrder};
+
+// What stands left of the best use, or right of it.
+fn on_side(side: Side, left: u32, right: u32) -> u32
+    ensures { λ r. ⌜ r ≡ onSide side left right ⌝ }
+{
+    match side {
+        Side::Previous => left,
+        Side::Next => right,
+    }
+}
+
+// Two neighbouring uses and the space between them, from the use nearer to the best one to the farther one: where it begins and
+// ends, the weights placed in it, the block in which cutting begins, and the farther use's block.
+pub struct Space {
+    pub edge: u32,
+    pub end: u32,
+    pub near: f32,
+    pub far: f32,
+    pub main: f32,
+    pub block: Block,
+    pub last: Block,
+}
+
+// The space between two uses.
+fn space_between(side: Side, end: &[u32], n: usize, u: SplitUse, v: SplitUse) -> Space
+    requires { ⌜ Ordered (now end) n u v ⌝ }
+    ensures { λ r. ⌜ r ≡ spaceOf side (now (end .entry)) n u v ⌝ }
+{
+    let p = u.inst.0;
+    let q = v.inst.0;
+    if let Side::Previous = side {
+        return Space {
+            edge: q,
+            end: p,
+            near: v.left_weight,
+            far: u.right_weight,
+            main: u.weight,
+            block: block_of(end, n, Inst(q - 1)),
+            last: block_of(end, n, Inst(p)),
+        };
+    }
+    Space {
+        edge: p + 1,
+        end: q + 1,
+        near: u.right_weight,
+        far: v.left_weight,
+        main: v.weight,
+        block: block_of(end, n, Inst(p + 1)),
+        last: block_of(end, n, Inst(q)),
+    }
+}
+
+// The block at whose edge the next cut stands: the lower link, if it does not lead beyond the farther use's block.
+fn next_cut(side: Side, links: &[u32], b: Block, last: Block) -> MaybeBlock
+    requires { ⌜ Leads side (now links) × (b .0 < length (now links)) ⌝ }
+    ensures { λ r. ⌜ r ≡ nextCut side (now (links .entry)) (last .0) (b .0) ⌝ }
+{
+    let MaybeBlock::At(lower) = link_at(links, b) else {
+        return MaybeBlock::Absent;
+    };
+    if reaches(side, last.0, lower.0) {
+        return MaybeBlock::At(lower);
+    }
+    MaybeBlock::Absent
+}
+
+// How many cuts there are.
+fn count_cuts(side: Side, links: &[u32], b: Block, last: Block) -> usize
+    requires { ⌜ Leads side (now links) × (b .0 < length (now links)) ⌝ }
+    ensures { λ r. ⌜ r ≡ length (cutsIn side (now (links .entry)) (last .0) (b .0)) ⌝ }
+{
+    let mut b = b;
+    let mut n: usize = 0;
+    loop {
+        let MaybeBlock::At(lower) = next_cut(side, links, b, last) else {
+            break;
+        };
+        b = lower;
+        n += 1;
+    }
+    n
+}
+
+// How many rows stand before that of the nearest gap: on the left one for each cut.
+fn rows_before(side: Side, links: &[u32], b: Block, last: Block) -> usize
+    requires { ⌜ Leads side (now links) × (b .0 < length (now links)) ⌝ }
+    ensures { λ r. ⌜ r ≡ onSide side (length (cutsIn side (now (links .entry)) (last .0) (b .0))) 0 ⌝ }
+{
+    if let Side::Next = side {
+        return 0;
+    }
+    count_cuts(side, links, b, last)
+}
+
+// The row of the next gap away from the best use.
+fn next_row(side: Side, at: usize) -> usize
+    requires { ⌜ (onSide side 1 0 ≤ at) × (at < 18446744073709551615) ⌝ }
+    ensures { λ r. ⌜ r ≡ onSide side (at - 1) (at + 1) ⌝ }
+{
+    match side {
+        Side::Previous => at - 1,
+        Side::Next => at + 1,
+    }
+}
+
+// The later of two rows.
+fn later(a: usize, b: usize) -> usize
+    ensures { λ r. ⌜ r ≡ max a b ⌝ }
+{
+    if a < b { b } else { a }
+}
+
+// Stores the gap from an edge to a farther one.
+fn put_gap(
+    from: &mut [u32],
+    to: &mut [u32],
+    weight: &mut [f32],
+    freq: &mut [f32],
+    at: usize,
+    side: Side,
+    edge: u32,
+    farther: u32,
+    w: f32,
+    f: f32,
+)
+    requires { ⌜ Rows (at + 1) (columns (now from) (now to) (now weight) (now freq)) ⌝ }
+    ensures { λ _. ⌜ columns (now (from .exit)) (now (to .exit)) (now (weight .exit)) (now (freq .exit)) ≡ withRow (columns (now (from .entry)) (now (to .entry)) (now (weight .entry)) (now (freq .entry))) at (onSide side farther edge) (onSide side edge farther) w f ⌝ }
+{
+    from[at] = on_side(side, farther, edge);
+    to[at] = on_side(side, edge, farther);
+    weight[at] = w;
+    freq[at] = f;
+}
+
+// The frequency of a block.
+fn block_frequency(freq: &[u32], b: Block) -> f32
+    requires { ⌜ b .0 < length (now freq) ⌝ }
+    ensures { λ r. ⌜ r ≡ freqIn (now (freq .entry)) (b .0) ⌝ }
+{
+    let i = b.0 as usize;
+    frequency_of(freq[i])
+}
+
+// Stores the gaps of the space between two uses from row n on, the nearest first. Answers how many rows are used then.
+fn cut_space(
+    side: Side,
+    freq: &[u32],
+    edges: &[u32],
+    links: &[u32],
+    from: &mut [u32],
+    to: &mut [u32],
+    weight: &mut [f32],
+    min_freq: &mut [f32],
+    n: usize,
+    s: Space,
+) -> usize
+    requires { ⌜ Leads side (now links) × Alike (now freq) (now edges) (now links) × (s .block .0 < length (now links)) ⌝ }
+    requires { ⌜ Rows (n + length (spaceGaps side (now freq) (now edges) (now links) s)) (columns (now from) (now to) (now weight) (now «min_freq»)) ⌝ }
+    ensures { λ r. ⌜ (r ≡ n + length (spaceGaps side (now (freq .entry)) (now (edges .entry)) (now (links .entry)) s)) × (columns (now (from .exit)) (now (to .exit)) (now (weight .exit)) (now («min_freq» .exit)) ≡ stored n (spaceGaps side (now (freq .entry)) (now (edges .entry)) (now (links .entry)) s) (columns (now (from .entry)) (now (to .entry)) (now (weight .entry)) (now («min_freq» .entry)))) ⌝ }
+{
+    let last = s.last;
+    let mut b = s.block;
+    let first = n + rows_before(side, links, b, last);
+    let mut at = first;
+    let mut edge = s.edge;
+    let mut w = s.near;
+    loop {
+        let MaybeBlock::At(lower) = next_cut(side, links, b, last) else {
+            break;
+        };
+        let i = lower.0 as usize;
+        let e = edges[i];
+        let f = block_frequency(freq, b);
+        put_gap(from, to, weight, min_freq, at, side, edge, e, w, f);
+        at = next_row(side, at);
+        edge = e;
+        w = 0.0;
+        b = lower;
+    }
+    let f = block_frequency(freq, b);
+    put_gap(
+        from,
+        to,
+        weight,
+        min_freq,
+        at,
+        side,
+        edge,
+        s.end,
+        w + s.far + s.main,
+        f,
+    );
+    later(first, at) + 1
+}
+
+// Stores the gaps between the uses from the i-th to the last, all on one side of the best use. Answers how many rows are used then.
+fn cut_side(
+    side: Side,
+    inst: &[u32],
+    weight: &[f32],
+    left_weight: &[f32],
+    right_weight: &[f32],
+    freq: &[u32],
+    end: &[u32],
+    edges: &[u32],
+    links: &[u32],
+    from: &mut [u32],
+    to: &mut [u32],
+    out_weight: &mut [f32],
+    min_freq: &mut [f32],
+    i: usize,
+    last: usize,
+    n: usize,
+) -> usize
+    requires { ⌜ Leads side (now links) × Alike (now freq) (now edges) (now links) ⌝ }
+    requires { ⌜ InOrder (now end) (length (now freq)) (useColumns (now inst) (now weight) (now «left_weight») (now «right_weight»)) i last ⌝ }
+    requires { ⌜ Rows (n + length (sideGaps side (now freq) (now end) (now edges) (now links) (useColumns (now inst) (now weight) (now «left_weight») (now «right_weight»)) i (last - i))) (columns (now from) (now to) (now «out_weight») (now «min_freq»)) ⌝ }
+    ensures { λ r. ⌜ (r ≡ n + length (sideGaps side (now (freq .entry)) (now (end .entry)) (now (edges .entry)) (now (links .entry)) (useColumns (now (inst .entry)) (now (weight .entry)) (now («left_weight» .entry)) (now («right_weight» .entry))) i (last - i))) × (columns (now (from .exit)) (now (to .exit)) (now («out_weight» .exit)) (now («min_freq» .exit)) ≡ stored n (sideGaps side (now (freq .entry)) (now (end .entry)) (now (edges .entry)) (now (links .entry)) (useColumns (now (inst .entry)) (now (weight .entry)) (now («left_weight» .entry)) (now («right_weight» .entry))) i (last - i)) (columns (now (from .entry)) (now (to .entry)) (now («out_weight» .entry)) (now («min_freq» .entry)))) ⌝ }
+{
+    let mut i = i;
+    let mut n = n;
+    while i < last {
+        let u = use_at(inst, weight, left_weight, right_weight, i);
+        let v = use_at(inst, weight, left_weight, right_weight, i + 1);
+        let s = space_between(side, end, freq.len(), u, v);
+        n = cut_space(
+            side, freq, edges, links, from, to, out_weight, min_freq, n, s,
+        );
+        i += 1;
+    }
+    n
+}
+
