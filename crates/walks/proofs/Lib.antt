@@ -13,6 +13,8 @@ pub mod ListWalk
 pub mod UseOrder
 pub mod OneList
 pub mod WholeTable
+pub mod CheckedJob
+pub mod Held
 pub mod LiveCases
 pub mod LiveLaws
 pub mod LiveTotal

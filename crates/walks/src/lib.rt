@@ -5,6 +5,7 @@
 // collected is the table of specs/Uses, all but its latest row (proofs/OneList).
 // A caller should know: these functions serve the layer above. Each `requires` is a named predicate of specs/ that the checks of `jobs`,
 // or the gaps, establish.
+pub mod collect;
 pub mod gap_segments;
 pub mod live;
 pub mod uses;
