@@ -15,6 +15,7 @@ pub mod OneList
 pub mod WholeTable
 pub mod CheckedJob
 pub mod Held
+pub mod UseTable
 pub mod LiveCases
 pub mod LiveLaws
 pub mod LiveTotal
