@@ -16,6 +16,7 @@ pub mod WholeTable
 pub mod CheckedJob
 pub mod Held
 pub mod UseTable
+pub mod CheckedCases
 pub mod LiveCases
 pub mod LiveLaws
 pub mod LiveTotal
