@@ -14,7 +14,7 @@ use Rattle.numbers.specs.Weight.{frequencyLimit}
 use Rattle.numbers.proofs.Tests.{cond-true, cond-false}
 use Rattle.links.specs.First.{firstBelow, Searchable}
 use Rattle.links.specs.Table.{table}
-use Rattle.links.specs.Blocks.{BlockRow, noBlock, blocksOf, blockAt, startOf, itemLimit, endLimit, SoundBlocks, blockOf, Ends}
+use Rattle.links.specs.Blocks.{BlockRow, noBlock, blocksOf, blockAt, startOf, itemLimit, endLimit, SoundBlocks, SoundColumns, blockOf, Ends}
 use Rattle.links.specs.Links.{Frequencies}
 use Rattle.links.specs.Split.{follow, lastOr, edge, preferred, home, farthest, reaches, splitPoint, Swept, lastReached, Between}
 use Rattle.links.specs.declared.lower.Side.{Side}
@@ -73,6 +73,64 @@ last-end blocks h = go (length blocks) h
         less : (n : ℕ) → n ≡ suc n - 1
         less n = omega arith
 
+-- ---- a sound list's columns
+module _ (fs ss es : List ℕ) (w : SoundColumns fs ss es) where
+  abbrev listed : List BlockRow
+  listed = blocksOf fs ss es
+
+  n-is : length listed ≡ length fs
+  n-is = list-long fs ss es (w .firsts-long) (w .ends-long)
+
+  end-at : (c : ℕ) → blockAt listed c .end ≡ getD es c 0
+  end-at c = ap (λ (b : BlockRow). b .end) (row-at fs ss es (w .firsts-long) (w .ends-long) c)
+
+  first-at : (c : ℕ) → blockAt listed c .first ≡ getD ss c 0
+  first-at c = ap (λ (b : BlockRow). b .first) (row-at fs ss es (w .firsts-long) (w .ends-long) c)
+
+  some : 0 < length fs
+  some = lt-of-lt-of-le (w .sound .some) (le-of-eq n-is)
+
+  inside-list : {k : ℕ} → k < length fs → k < length listed
+  inside-list h = lt-of-lt-of-le h (le-of-eq (sym n-is))
+
+  ends-order : (i k : ℕ) → i ≤ k → k < length fs → getD es i 0 ≤ getD es k 0
+  ends-order i k h l = le-trans (le-of-eq (sym (end-at i))) (le-trans (ends-rise listed (w .sound) i k h (inside-list l)) (le-of-eq (end-at k)))
+
+  firsts-order : (i k : ℕ) → i ≤ k → k < length fs → getD ss i 0 ≤ getD ss k 0
+  firsts-order i k h l = le-trans (le-of-eq (sym (first-at i))) (le-trans (firsts-rise listed (w .sound) i k h (inside-list l)) (le-of-eq (first-at k)))
+
+  pub last-of-sound : startOf listed (length listed) ≡ getD es (length fs - 1) 0
+  last-of-sound = last-end listed (w .sound .some) ∙ end-at (length listed - 1) ∙ ap (λ (x : ℕ). getD es (x - 1) 0) n-is
+
+  last-inside : length fs - 1 < length fs
+  last-inside = less (length fs) some
+    where
+      less : (n : ℕ) → 0 < n → n - 1 < n
+      less n h = omega arith
+
+  last-limited : getD es (length fs - 1) 0 ≤ endLimit
+  last-limited = le-trans (le-of-eq (sym (end-at (length fs - 1)))) (row-good listed (w .sound) (length fs - 1) (inside-list last-inside) .limited)
+
+  -- its frequencies serve the links
+  pub frequencies-of-sound : (room : ℕ) → length fs ≤ room → Frequencies fs room
+  frequencies-of-sound room h =
+      record {
+        few = le-trans (le-of-eq (sym n-is)) (w .sound .few);
+        long = h;
+        sound = λ k l. le-trans (le-of-eq (sym (ap (λ (b : BlockRow). b .frequency) (row-at fs ss es (w .firsts-long) (w .ends-long) k)))) (row-good listed (w .sound) k (inside-list l) .weighted);
+      }
+
+  -- and its ends the search for the block of an instruction before the last end
+  pub ends-of-sound : (inst : ℕ) → inst < getD es (length fs - 1) 0 → Ends es (length fs) inst
+  ends-of-sound inst h =
+      record {
+        some = some;
+        few = le-trans (le-of-eq (sym n-is)) (w .sound .few);
+        searchable = record { order = zero-le; inside = le-of-eq (sym (w .ends-long)); rising = λ i k _ l m. ends-order i k l m };
+        before = h;
+        limited = lt-of-lt-of-le h last-limited;
+      }
+
 -- ---- what the search relies on
 -- the edges that a side's search takes
 abbrev pub edgesOf : Side → List ℕ → List ℕ → List ℕ
@@ -83,80 +141,38 @@ module _ (fs ss es : List ℕ) (after before : ℕ) (w : Between fs ss es after 
   abbrev blocks : List BlockRow
   blocks = blocksOf fs ss es
 
-  n-is : length blocks ≡ length fs
-  n-is = list-long fs ss es (w .firsts-long) (w .ends-long)
-
-  end-at : (c : ℕ) → blockAt blocks c .end ≡ getD es c 0
-  end-at c = ap (λ (b : BlockRow). b .end) (row-at fs ss es (w .firsts-long) (w .ends-long) c)
-
-  first-at : (c : ℕ) → blockAt blocks c .first ≡ getD ss c 0
-  first-at c = ap (λ (b : BlockRow). b .first) (row-at fs ss es (w .firsts-long) (w .ends-long) c)
-
-  some : 0 < length fs
-  some = lt-of-lt-of-le (w .sound .some) (le-of-eq n-is)
-
-  inside-list : {k : ℕ} → k < length fs → k < length blocks
-  inside-list h = lt-of-lt-of-le h (le-of-eq (sym n-is))
-
-  ends-order : (i k : ℕ) → i ≤ k → k < length fs → getD es i 0 ≤ getD es k 0
-  ends-order i k h l = le-trans (le-of-eq (sym (end-at i))) (le-trans (ends-rise blocks (w .sound) i k h (inside-list l)) (le-of-eq (end-at k)))
-
-  firsts-order : (i k : ℕ) → i ≤ k → k < length fs → getD ss i 0 ≤ getD ss k 0
-  firsts-order i k h l = le-trans (le-of-eq (sym (first-at i))) (le-trans (firsts-rise blocks (w .sound) i k h (inside-list l)) (le-of-eq (first-at k)))
-
-  last-is : startOf blocks (length blocks) ≡ getD es (length fs - 1) 0
-  last-is = last-end blocks (w .sound .some) ∙ end-at (length blocks - 1) ∙ ap (λ (x : ℕ). getD es (x - 1) 0) n-is
-
-  last-inside : length fs - 1 < length fs
-  last-inside = less (length fs) some
-    where
-      less : (n : ℕ) → 0 < n → n - 1 < n
-      less n h = omega arith
-
-  last-limited : getD es (length fs - 1) 0 ≤ endLimit
-  last-limited = le-trans (le-of-eq (sym (end-at (length fs - 1)))) (row-good blocks (w .sound) (length fs - 1) (inside-list last-inside) .limited)
+  abbrev whole : SoundColumns fs ss es
+  whole = record { firsts-long = w .firsts-long; ends-long = w .ends-long; sound = w .sound }
 
   before-last : before ≤ getD es (length fs - 1) 0
-  before-last = le-trans (w .inside) (le-of-eq last-is)
+  before-last = le-trans (w .inside) (le-of-eq (last-of-sound fs ss es whole))
 
   pub frequencies : (room : ℕ) → length fs ≤ room → Frequencies fs room
-  frequencies room h =
-      record {
-        few = le-trans (le-of-eq (sym n-is)) (w .sound .few);
-        long = h;
-        sound = λ k l. le-trans (le-of-eq (sym (ap (λ (b : BlockRow). b .frequency) (row-at fs ss es (w .firsts-long) (w .ends-long) k)))) (row-good blocks (w .sound) k (inside-list l) .weighted);
-      }
+  frequencies = frequencies-of-sound fs ss es whole
 
   -- the block of an instruction below `before`
   pub searched : (inst : ℕ) → inst < before → Ends es (length fs) inst
-  searched inst h =
-      record {
-        some = some;
-        few = le-trans (le-of-eq (sym n-is)) (w .sound .few);
-        searchable = record { order = zero-le; inside = le-of-eq (sym (w .ends-long)); rising = λ i k _ l m. ends-order i k l m };
-        before = lt-of-lt-of-le h before-last;
-        limited = lt-of-lt-of-le h (le-trans before-last last-limited);
-      }
+  searched inst h = ends-of-sound fs ss es whole inst (lt-of-lt-of-le h before-last)
 
   pub block-inside : (inst b : ℕ) → inst < before → b ≡ firstBelow (λ (i : ℕ). ltb inst (getD es i 0)) (length fs) → b < length fs
   block-inside inst b h e =
-      lt-of-le-of-lt (le-trans (le-of-eq e) (first-at-most (λ (i : ℕ). ltb inst (getD es i 0)) (length fs) (length fs - 1) (lt-ltb inst (getD es (length fs - 1) 0) (lt-of-lt-of-le h before-last)))) last-inside
+      lt-of-le-of-lt (le-trans (le-of-eq e) (first-at-most (λ (i : ℕ). ltb inst (getD es i 0)) (length fs) (length fs - 1) (lt-ltb inst (getD es (length fs - 1) 0) (lt-of-lt-of-le h before-last)))) (last-inside fs ss es whole)
 
   pub block-found : (inst b : ℕ) → b ≡ firstBelow (λ (i : ℕ). ltb inst (getD es i 0)) (length fs) → b ≡ blockOf blocks inst
   block-found inst b e =
-      e ∙ first-same (λ (i : ℕ). ltb inst (getD es i 0)) (λ (i : ℕ). ltb inst (blockAt blocks i .end)) (length fs) (λ k _. ap (ltb inst) (sym (end-at k)))
-      ∙ ap (firstBelow (λ (i : ℕ). ltb inst (blockAt blocks i .end))) (sym n-is) ∙ block-of-holds blocks (w .sound) inst
+      e ∙ first-same (λ (i : ℕ). ltb inst (getD es i 0)) (λ (i : ℕ). ltb inst (blockAt blocks i .end)) (length fs) (λ k _. ap (ltb inst) (sym (end-at fs ss es whole k)))
+      ∙ ap (firstBelow (λ (i : ℕ). ltb inst (blockAt blocks i .end))) (sym (n-is fs ss es whole)) ∙ block-of-holds blocks (w .sound) inst
 
   pub swept-ends : (b : ℕ) → b < length fs → Swept fs es b
-  swept-ends b h = record { inside = h; given = frequencies (length es) (le-of-eq (sym (w .ends-long))); rising = ends-order }
+  swept-ends b h = record { inside = h; given = frequencies (length es) (le-of-eq (sym (w .ends-long))); rising = ends-order fs ss es whole }
 
   pub swept-firsts : (b : ℕ) → b < length fs → Swept fs ss b
-  swept-firsts b h = record { inside = h; given = frequencies (length ss) (le-of-eq (sym (w .firsts-long))); rising = firsts-order }
+  swept-firsts b h = record { inside = h; given = frequencies (length ss) (le-of-eq (sym (w .firsts-long))); rising = firsts-order fs ss es whole }
 
   -- the split point, of the columns
   edge-at : (side : Side) → _≡_ {A = ℕ → ℕ} (λ c. edge side (blockAt blocks c)) (λ c. getD (edgesOf side ss es) c 0)
-  edge-at Previous = fun-ext end-at
-  edge-at Next = fun-ext first-at
+  edge-at Previous = fun-ext (end-at fs ss es whole)
+  edge-at Next = fun-ext (first-at fs ss es whole)
 
   pub split-columns : (side : Side) → (after + 1 ≡ before → ⊥) → (b : ℕ) → b ≡ blockOf blocks (home side after before)
       → lastReached side fs (edgesOf side ss es) (farthest side after before) (preferred side after before) b ≡ splitPoint side blocks after before
@@ -165,7 +181,7 @@ module _ (fs ss es : List ℕ) (after before : ℕ) (w : Between fs ss es after 
       sym (cond-false before _ (ne-eqb (after + 1) before apart)
       ∙ ap (λ (place : ℕ → ℕ). lastOr (preferred side after before) (map place (follow side (map (λ (x : BlockRow). x .frequency) blocks) (λ (c : ℕ). reaches side (farthest side after before) (place c)) (length blocks) (blockOf blocks (home side after before))))) (edge-at side)
       ∙ ap (λ (freqs : List ℕ). lastOr (preferred side after before) (map (λ (c : ℕ). getD (edgesOf side ss es) c 0) (follow side freqs (λ (c : ℕ). reaches side (farthest side after before) (getD (edgesOf side ss es) c 0)) (length blocks) (blockOf blocks (home side after before))))) (frequency-column fs ss es (w .firsts-long) (w .ends-long))
-      ∙ ap (λ (n : ℕ). lastOr (preferred side after before) (map (λ (c : ℕ). getD (edgesOf side ss es) c 0) (follow side fs (λ (c : ℕ). reaches side (farthest side after before) (getD (edgesOf side ss es) c 0)) n (blockOf blocks (home side after before))))) n-is
+      ∙ ap (λ (n : ℕ). lastOr (preferred side after before) (map (λ (c : ℕ). getD (edgesOf side ss es) c 0) (follow side fs (λ (c : ℕ). reaches side (farthest side after before) (getD (edgesOf side ss es) c 0)) n (blockOf blocks (home side after before))))) (n-is fs ss es whole)
       ∙ ap (λ (x : ℕ). lastReached side fs (edgesOf side ss es) (farthest side after before) (preferred side after before) x) (sym e))
 
 -- between neighbours there is one point

@@ -69,6 +69,12 @@ pub record SoundBlocks (blocks : List BlockRow) : Type 0 where
   pub few : length blocks ≤ itemLimit
   pub each : (i : ℕ) → i < length blocks → badBlock blocks i ≡ false
 
+-- the columns of a sound block list, all of one length
+pub record SoundColumns (freqs firsts ends : List ℕ) : Type 0 where
+  pub firsts-long : length firsts ≡ length freqs
+  pub ends-long : length ends ≡ length freqs
+  pub sound : SoundBlocks (blocksOf freqs firsts ends)
+
 -- block i's range holds an instruction
 abbrev pub holds : List BlockRow → ℕ → ℕ → Bool
 holds blocks inst i = leb (blockAt blocks i .first) inst && ltb inst (blockAt blocks i .end)

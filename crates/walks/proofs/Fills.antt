@@ -1,8 +1,8 @@
 -- Columns that a table fills row by row: one row more, the last row changed, the last row read
-use mathlib.Core.Path.{_≡_, refl, sym, ap, ap₂, _∙_}
+use mathlib.Core.Path.{_≡_, refl, sym, ap, ap₂, _∙_, subst}
 use mathlib.Core.List.{List, [], _∷_, _++_, map}
 use Prim.Native.Nat.{ℕ, zero, suc, _+_, _≤_, _<_}
-use native.Mathlib.Nat.{not-suc-le-zero}
+use native.Mathlib.Nat.{not-suc-le-zero, le-of-lt}
 use native.Mathlib.Omega.{arith}
 use lib.Ieee.{Float}
 use lib.ListN.{length, getD, set, drop}
@@ -63,3 +63,13 @@ module _ (lent : UseColumns) (rows : List SplitUse) (room : Inside (length rows)
       made {i} {j} {a} {a'} {b} {b'} {c} {c'} e f g h =
           ap₂ (λ (x : ℕ) (y : Float). record { inst = record { 0 = x }; weight = y; «left_weight» = b; «right_weight» = c }) e f
           ∙ ap₂ (λ (x y : Float). record { inst = record { 0 = j }; weight = a'; «left_weight» = x; «right_weight» = y }) g h
+
+  -- the columns keep their lengths
+  pub fill-inside : (k : ℕ) → Inside k lent → Inside k (filledWith rows lent)
+  fill-inside k i =
+      record {
+        inst = subst (λ (n : ℕ). k < n) (sym (long (λ (w : SplitUse). w .inst .0) rows (lent .insts) (le-of-lt (room .inst)))) (i .inst);
+        main = subst (λ (n : ℕ). k < n) (sym (long (λ (w : SplitUse). w .weight) rows (lent .mains) (le-of-lt (room .main)))) (i .main);
+        left = subst (λ (n : ℕ). k < n) (sym (long (λ (w : SplitUse). w .«left_weight») rows (lent .lefts) (le-of-lt (room .left)))) (i .left);
+        right = subst (λ (n : ℕ). k < n) (sym (long (λ (w : SplitUse). w .«right_weight») rows (lent .rights) (le-of-lt (room .right)))) (i .right);
+      }

@@ -13,6 +13,10 @@ pub mod ListWalk
 pub mod UseOrder
 pub mod OneList
 pub mod WholeTable
+pub mod CheckedJob
+pub mod Held
+pub mod UseTable
+pub mod CheckedCases
 pub mod LiveCases
 pub mod LiveLaws
 pub mod LiveTotal

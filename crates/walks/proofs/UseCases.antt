@@ -36,7 +36,7 @@ unfolding tableOf shown caseA
 caseA-table = refl
 
 -- a fixed def goes before the row of a use at the end of the segment before; left and right weights
-between : Source
+unfoldable pub between : Source
 unfolding valueOf ofBits
 between =
     record {

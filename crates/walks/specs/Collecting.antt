@@ -1,7 +1,8 @@
 -- What private functions do to the columns while the use table is collected. It follows the code, for their contracts alone: the table is
 -- that of Uses, and proofs/OneList leads from here to there.
 use Prim.Native.Nat.{ℕ, zero, suc, _+_, _-_, _≤_, _<_}
-use mathlib.Core.Bool.{Bool, false, cond}
+use mathlib.Core.Path.{_≡_}
+use mathlib.Core.Bool.{Bool, true, false, cond}
 use mathlib.Core.List.{List}
 use lib.Dec.{ltb, eqb}
 use lib.Ieee.{Float, binary32, mul, eq}
@@ -11,13 +12,13 @@ use Rattle.numbers.specs.Cost.{reloadCost, moveCost, spillCost, scaled}
 use Rattle.numbers.specs.declared.costs.RematScales.{RematScales}
 use Rattle.links.specs.First.{firstBelow}
 use Rattle.links.specs.Blocks.{Ends}
-use Rattle.jobs.specs.Rows.{noUse, noSegment}
+use Rattle.jobs.specs.Rows.{noUse, noSegment, liveOut, fixedDef}
 use Rattle.jobs.specs.Lines.{Lists}
 use Rattle.jobs.specs.declared.rows.Use.{Use}
 use Rattle.jobs.specs.declared.rows.Segment.{Segment}
 use Rattle.walks.specs.declared.uses.Part.{Part}
 use Rattle.walks.specs.declared.uses.SplitUse.{SplitUse}
-use Rattle.walks.specs.declared.uses.Collected.{Collected}
+use Rattle.walks.specs.declared.collect.Collected.{Collected}
 use Rattle.walks.specs.Uses.{noWeights, addedTo, partOf}
 use Rattle.walks.specs.UseColumns.{UseColumns, Inside, withUse, useIn}
 
@@ -80,6 +81,30 @@ countedLists uses freqs ends segments codes scales zero c = c
 countedLists uses freqs ends segments codes scales (suc n) c =
     let s = getD segments n noSegment in
     countedList uses freqs ends s (getD codes (s .value) 0) scales (s .«end_use» - s .«first_use») (countedLists uses freqs ends segments codes scales n c)
+
+-- what the first instruction of a segment relies on: one with a fixed def starts at instruction 1 or later
+abbrev pub Starting : Segment → Type 0
+Starting s = fixedDef (s .flags) ≡ true → 4 ≤ s .start
+
+-- what the last instruction of a segment relies on: one that is live-out ends at instruction 1 or later, another has a use
+pub record Ending (uses : List Use) (s : Segment) : Type 0 where
+  pub out : liveOut (s .flags) ≡ true → 4 ≤ s .end
+  pub used : liveOut (s .flags) ≡ false → 1 ≤ s .«end_use»
+  pub inside : s .«end_use» ≤ length uses
+
+-- the columns, and the number of rows stored
+pub record Held : Type 0 where
+  pub cols : UseColumns
+  pub rows : ℕ
+
+abbrev pub held : UseColumns → ℕ → Held
+held cols rows = record { cols = cols; rows = rows }
+
+-- the latest row stored, and behind it that of the last instruction where that is another
+unfoldable pub withLast : Collecting → ℕ → Held
+withLast c last =
+    cond (eqb (c .latest .inst .0) last) (held (withUse (c .cols) (c .rows) (c .latest)) (c .rows + 1))
+    (held (withUse (withUse (c .cols) (c .rows) (c .latest)) (c .rows + 1) (noWeights last)) (c .rows + 2))
 
 -- what the collection of all lists relies on: they follow one another, each use lies in a block, and each segment's value is known
 pub record Listings (uses : List Use) (ends : List ℕ) (blocks values : ℕ) (segments : List Segment) : Type 0 where

@@ -1,4 +1,5 @@
 -- The use table in its four lent columns
+use mathlib.Core.Path.{_≡_}
 use Prim.Native.Nat.{ℕ, _<_}
 use mathlib.Core.List.{List, map}
 use lib.Ieee.{Float}
@@ -39,3 +40,8 @@ abbrev pub filledWith : List SplitUse → UseColumns → UseColumns
 filledWith rows cols =
     columns (filled (map (λ (u : SplitUse). u .inst .0) rows) (cols .insts)) (filled (map (λ (u : SplitUse). u .weight) rows) (cols .mains))
     (filled (map (λ (u : SplitUse). u .«left_weight») rows) (cols .lefts)) (filled (map (λ (u : SplitUse). u .«right_weight») rows) (cols .rights))
+
+-- the columns hold a table from their first row on, and past it what was there; so many of their rows are used
+pub record Holds (rows : List SplitUse) (lent now : UseColumns) (used : ℕ) : Type 0 where
+  pub cols : now ≡ filledWith rows lent
+  pub count : used ≡ length rows

@@ -77,6 +77,9 @@ pub record Source : Type 0 where
   pub scales : RematScales
   pub blocks : List BlockRow
 
+abbrev pub sourceOf : List Use → List Segment → List ℕ → RematScales → List BlockRow → Source
+sourceOf uses segments codes scales blocks = record { uses = uses; segments = segments; codes = codes; scales = scales; blocks = blocks }
+
 -- the segment of use u
 abbrev pub segmentOf : Source → ℕ → Segment
 segmentOf job u = getD (job .segments) (listOf (job .segments) u) noSegment
@@ -101,15 +104,21 @@ seenOf job =
       weight = λ (u : ℕ). mul binary32 (costOf job u) (frequencyAt (job .blocks) (getD (job .uses) u noUse .position));
     }
 
--- the first instruction: that of the first segment's start, or the one before it with a fixed def
-unfoldable pub firstInst : List Segment → ℕ
-firstInst segments = let s = getD segments 0 noSegment in s .start / 4 - cond (fixedDef (s .flags)) 1 0
+-- the first instruction of a segment: that of its start, or the one before it with a fixed def
+abbrev pub startInst : Segment → ℕ
+startInst s = s .start / 4 - cond (fixedDef (s .flags)) 1 0
 
--- the last instruction: the one before the last segment's end if that is live-out, else that of the last use in its list
+-- the last instruction of a segment: the one before its end if it is live-out, else that of the last use in its list
+abbrev pub endInst : List Use → Segment → ℕ
+endInst uses s = cond (liveOut (s .flags)) (s .end / 4 - 1) (getD uses (s .«end_use» - 1) noUse .position)
+
+-- the first instruction, that of the first segment
+unfoldable pub firstInst : List Segment → ℕ
+firstInst segments = startInst (getD segments 0 noSegment)
+
+-- the last instruction, that of the last segment
 unfoldable pub lastInst : List Use → List Segment → ℕ
-lastInst uses segments =
-    let s = getD segments (length segments - 1) noSegment in
-    cond (liveOut (s .flags)) (s .end / 4 - 1) (getD uses (s .«end_use» - 1) noUse .position)
+lastInst uses segments = endInst uses (getD segments (length segments - 1) noSegment)
 
 -- a job's use table
 abbrev pub useTableOf : Source → List SplitUse

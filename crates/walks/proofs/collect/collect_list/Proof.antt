@@ -17,8 +17,8 @@ use Rattle.walks.specs.UseColumns.{columns}
 use Rattle.walks.specs.Collecting.{collecting, Collecting, counted, countedList}
 use Rattle.walks.proofs.Adding.{inside-less}
 use Rattle.walks.proofs.ListWalk.{Along, along-first, along-next}
-use Rattle.walks.proofs.uses.collect_list.Statement.{statement}
-use Rattle.walks.proofs.uses.collect_list.Tie as tie
+use Rattle.walks.proofs.collect.collect_list.Statement.{statement}
+use Rattle.walks.proofs.collect.collect_list.Tie as tie
 
 abbrev Inv-loop : tie.InvT-loop
 Inv-loop position kind cost freq end s code scales inst₀ weight₀ left-weight₀ right-weight₀ done₀ i₀ n inst weight left-weight right-weight done i = Along (usesOf position kind cost) freq end s code scales (collecting (columns inst₀ weight₀ left-weight₀ right-weight₀) done₀) i (collecting (columns inst weight left-weight right-weight) done)

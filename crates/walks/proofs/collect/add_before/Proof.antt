@@ -9,8 +9,8 @@ use Rattle.walks.specs.UseColumns.{UseColumns, columns, withUse}
 use Rattle.walks.specs.Collecting.{Collecting, addedBefore}
 use Rattle.walks.proofs.Storing.{stored-some}
 use borrow.Author.Needs.{needs}
-use Rattle.walks.proofs.uses.add_before.Statement.{statement}
-use Rattle.walks.proofs.uses.add_before.Tie as tie
+use Rattle.walks.proofs.collect.add_before.Statement.{statement}
+use Rattle.walks.proofs.collect.add_before.Tie as tie
 
 is-stored-requires : tie.Need-is-stored-requires
 is-stored-requires c κs = search needs

@@ -14,8 +14,8 @@ use Rattle.jobs.proofs.Walk.{own-row}
 use Rattle.walks.specs.UseColumns.{columns}
 use Rattle.walks.specs.Collecting.{collecting, Collecting, Listing, Room, countedList, countedLists}
 use Rattle.walks.proofs.ListWalk.{AlongAll, along-all-first, along-all-next, list-room}
-use Rattle.walks.proofs.uses.collect_lists.Statement.{statement}
-use Rattle.walks.proofs.uses.collect_lists.Tie as tie
+use Rattle.walks.proofs.collect.collect_lists.Statement.{statement}
+use Rattle.walks.proofs.collect.collect_lists.Tie as tie
 
 abbrev Inv-loop : tie.InvT-loop
 Inv-loop start end value first-use end-use flags code position kind cost freq block-end scales inst₀ weight₀ left-weight₀ right-weight₀ n done₀ i₀ inst weight left-weight right-weight done i = (n ≡ length (segmentsOf start end value first-use end-use flags)) × AlongAll (usesOf position kind cost) freq block-end (segmentsOf start end value first-use end-use flags) code scales (collecting (columns inst₀ weight₀ left-weight₀ right-weight₀) done₀) i (collecting (columns inst weight left-weight right-weight) done)

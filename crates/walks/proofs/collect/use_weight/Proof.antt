@@ -8,8 +8,8 @@ use Rattle.numbers.specs.Weight.{frequencyLimit, valueOf}
 use Rattle.walks.specs.Collecting.{weightAt}
 use Rattle.walks.proofs.Storing.{ends-inside}
 use borrow.Author.Needs.{needs}
-use Rattle.walks.proofs.uses.use_weight.Statement.{statement}
-use Rattle.walks.proofs.uses.use_weight.Tie as tie
+use Rattle.walks.proofs.collect.use_weight.Statement.{statement}
+use Rattle.walks.proofs.collect.use_weight.Tie as tie
 
 block-of-requires : tie.Need-block-of-requires
 block-of-requires c κs = search needs

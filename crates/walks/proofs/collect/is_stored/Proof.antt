@@ -1,8 +1,8 @@
 -- `is_stored` looks at the row before the next
 use Rattle.walks.proofs.Storing.{stored-none, stored-last}
 use borrow.Author.Needs.{needs}
-use Rattle.walks.proofs.uses.is_stored.Statement.{statement}
-use Rattle.walks.proofs.uses.is_stored.Tie as tie
+use Rattle.walks.proofs.collect.is_stored.Statement.{statement}
+use Rattle.walks.proofs.collect.is_stored.Tie as tie
 
 returns : tie.Need-returns
 returns c = stored-none (c .before .args .inst .now) (c .before .args .rows) (c .before .args .p .0) (c .if1 .taken)

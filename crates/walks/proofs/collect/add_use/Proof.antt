@@ -9,8 +9,8 @@ use Rattle.walks.specs.Uses.{addedTo}
 use Rattle.walks.specs.UseColumns.{UseColumns, columns, withUse}
 use Rattle.walks.specs.Collecting.{Collecting, added}
 use borrow.Author.Needs.{needs}
-use Rattle.walks.proofs.uses.add_use.Statement.{statement}
-use Rattle.walks.proofs.uses.add_use.Tie as tie
+use Rattle.walks.proofs.collect.add_use.Statement.{statement}
+use Rattle.walks.proofs.collect.add_use.Tie as tie
 
 add-before-requires : tie.Need-add-before-requires
 add-before-requires c κs = search needs

@@ -6,8 +6,8 @@ use Rattle.walks.specs.declared.uses.Part.{Part}
 use Rattle.walks.specs.UseColumns.{columns}
 use Rattle.walks.specs.Collecting.{collecting, added, counted}
 use borrow.Author.Needs.{needs}
-use Rattle.walks.proofs.uses.count_use.Statement.{statement}
-use Rattle.walks.proofs.uses.count_use.Tie as tie
+use Rattle.walks.proofs.collect.count_use.Statement.{statement}
+use Rattle.walks.proofs.collect.count_use.Tie as tie
 
 returns : tie.Need-returns
 unfolding counted ofBits
