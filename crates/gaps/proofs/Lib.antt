@@ -3,3 +3,5 @@ pub mod Cuts
 pub mod StoredGaps
 pub mod Spaces
 pub mod Sides
+pub mod InColumns
+pub mod Collected

@@ -152,8 +152,7 @@ module _ (side : Side) (freqs edges links : List ℕ) (s : Space) (n : ℕ) (len
         let p : Place side n at (suc (length (followed side links (s .last .0) (m .fuel-after) c))) (length all) =
         subst (λ (x : ℕ). Place side n at x (length all)) more (k .place) in
         let t = place-next n side at (length (followed side links (s .last .0) (m .fuel-after) c)) (length all) p in
-        let long = cut-gaps-length side (freqIn freqs) edgeIn (s .end) (s .far ∷ s .main ∷ []) (edgeIn c) zeroWeight c (followed side links (s .last .0) (m .fuel-after) c) in
-        (
+        let long = cut-gaps-length side (freqIn freqs) edgeIn (s .end) (s .far ∷ s .main ∷ []) (edgeIn c) zeroWeight c (followed side links (s .last .0) (m .fuel-after) c) in (
           record {
             leads = k .leads;
             alike = k .alike;

@@ -4,10 +4,11 @@ use mathlib.Core.List.{List, [], _∷_, _++_, map}
 use Prim.Native.Nat.{ℕ, zero, suc, _+_, _-_, _≤_, _<_}
 use native.Mathlib.Omega.{arith}
 use lib.Ieee.{Float}
-use lib.ListN.{length, set, length-set, length-append}
-use lib.Seq.{set-comm}
+use lib.ListN.{length, set, drop, length-set, length-append, length-map}
+use lib.Seq.{sets, sets-eq, set-comm}
+use Rattle.links.specs.Table.{table, filled}
 use Rattle.gaps.specs.Gaps.{Gap, weightOf}
-use Rattle.gaps.specs.GapColumns.{GapColumns, columns, withRow, withGap, stored, Rows}
+use Rattle.gaps.specs.GapColumns.{GapColumns, columns, withRow, withGap, stored, Rows, GapsHeld}
 
 -- ---- how long the columns are
 pub rows-with : (n at from to : ℕ) (weight freq : Float) (cols : GapColumns) → Rows n cols → Rows n (withRow cols at from to weight freq)
@@ -52,3 +53,44 @@ stored-last at (x ∷ gs) g cols =
     let z : suc at + length gs ≡ at + suc (length gs) = omega arith in
     let e = with-either at (suc at + length gs) x g cols (λ q. absurd (omega (arith, q))) in
     stored-last (suc at) gs g (withGap cols at x) ∙ ap (stored (suc at) gs) (e ∙ ap (λ (n : ℕ). withGap (withGap cols n g) at x) z)
+
+-- ---- a column of stored gaps: filled with a field of the gaps
+module _ {B : Type 0} (column : GapColumns → List B) (field : Gap → B) (one : (at : ℕ) (g : Gap) (c : GapColumns) → column (withGap c at g) ≡ set (column c) at (field g)) where
+  stored-column : (gs : List Gap) (at : ℕ) (c : GapColumns) → column (stored at gs c) ≡ sets (column c) at (map field gs)
+  unfolding stored
+  stored-column [] at c = refl
+  stored-column (g ∷ gs) at c = stored-column gs (suc at) (withGap c at g) ∙ ap (λ (l : List B). sets l (suc at) (map field gs)) (one at g c)
+
+  stored-filled : (gs : List Gap) (c : GapColumns) → length gs ≤ length (column c) → column (stored 0 gs c) ≡ filled (map field gs) (column c)
+  stored-filled gs c h =
+      let e = length-map gs field in
+      let a : 0 + length (map field gs) ≡ length (map field gs) = omega arith in
+      stored-column gs 0 c ∙ sets-eq (map field gs) (column c) 0 (omega (arith, e, h)) ∙ ap (λ (n : ℕ). map field gs ++ drop n (column c)) a
+
+-- no row counts anything
+none-counted : (gs : List Gap) → table {A = ℕ} (λ (k : ℕ). 0) (length gs) ≡ map (λ (g : Gap). 0) gs
+unfolding table
+none-counted [] = refl
+none-counted (g ∷ gs) = ap (λ (l : List ℕ). 0 ∷ l) (none-counted gs)
+
+pub stored-held : (gs : List Gap) (lent now : GapColumns) (lentLive nowLive : List ℕ) (used : ℕ) → Rows (length gs) lent → used ≡ length gs → now ≡ stored 0 gs lent
+    → nowLive ≡ filled (table (λ (k : ℕ). 0) used) lentLive → GapsHeld gs lent now lentLive nowLive used
+stored-held gs lent now lentLive nowLive used r u e l =
+    record {
+      count = u;
+      from = ap (λ (c : GapColumns). c .froms) e ∙ stored-filled (λ c. c .froms) (λ g. g .from) (λ at g c. refl) gs lent (r .from);
+      to = ap (λ (c : GapColumns). c .tos) e ∙ stored-filled (λ c. c .tos) (λ g. g .to) (λ at g c. refl) gs lent (r .to);
+      weight = ap (λ (c : GapColumns). c .weights) e ∙ stored-filled (λ c. c .weights) weightOf (λ at g c. refl) gs lent (r .weight);
+      freq = ap (λ (c : GapColumns). c .freqs) e ∙ stored-filled (λ c. c .freqs) (λ g. g .freq) (λ at g c. refl) gs lent (r .freq);
+      live = l ∙ ap (λ (n : ℕ). filled (table (λ (k : ℕ). 0) n) lentLive) u ∙ ap (λ (rows : List ℕ). filled rows lentLive) (none-counted gs);
+    }
+
+-- the gaps on the left, the own one and those on the right, stored one after the other
+pub stored-three : (ls rs : List Gap) (own : Gap) (lent : GapColumns) → stored (length ls + 1) rs (withGap (stored 0 ls lent) (length ls) own) ≡ stored 0 (ls ++ (own ∷ rs)) lent
+unfolding stored
+stored-three ls rs own lent =
+    let a : 0 + length ls ≡ length ls = omega arith in
+    let b : length ls + 1 ≡ suc (length ls) = omega arith in
+    ap (λ (n : ℕ). stored n rs (withGap (stored 0 ls lent) (length ls) own)) b
+    ∙ ap (λ (n : ℕ). stored (suc n) rs (withGap (stored 0 ls lent) n own)) (sym a)
+    ∙ sym (stored-append 0 ls (own ∷ rs) lent)

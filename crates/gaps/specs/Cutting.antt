@@ -74,6 +74,10 @@ abbrev pub sideGaps : Side → List ℕ → List ℕ → List ℕ → List ℕ �
 sideGaps side freqs ends edges links uses i n =
     joined (λ (k : ℕ). spaceGaps side freqs edges links (spaceOf side ends (length freqs) (useIn uses k) (useIn uses (k + 1)))) i n
 
+-- the best use's own gap
+abbrev pub ownIn : List ℕ → List ℕ → SplitUse → Gap
+ownIn freqs ends u = record { from = u .inst .0; to = u .inst .0 + 1; weights = u .weight ∷ []; freq = freqIn freqs (blockIn ends (length freqs) (u .inst .0)) }
+
 -- columns of a block list, each as long as the others
 pub record Alike (freqs edges links : List ℕ) : Type 0 where
   pub edges-long : length edges ≡ length freqs

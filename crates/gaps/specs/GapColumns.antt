@@ -36,3 +36,12 @@ pub record Rows (n : ℕ) (cols : GapColumns) : Type 0 where
   pub to : n ≤ length (cols .tos)
   pub weight : n ≤ length (cols .weights)
   pub freq : n ≤ length (cols .freqs)
+
+-- the columns hold gaps from their first row on, with no live instructions counted, and past them what was there; so many rows are used
+pub record GapsHeld (gaps : List Gap) (lent now : GapColumns) (lentLive nowLive : List ℕ) (used : ℕ) : Type 0 where
+  pub count : used ≡ length gaps
+  pub from : now .froms ≡ filled (map (λ (g : Gap). g .from) gaps) (lent .froms)
+  pub to : now .tos ≡ filled (map (λ (g : Gap). g .to) gaps) (lent .tos)
+  pub weight : now .weights ≡ filled (map weightOf gaps) (lent .weights)
+  pub freq : now .freqs ≡ filled (map (λ (g : Gap). g .freq) gaps) (lent .freqs)
+  pub live : nowLive ≡ filled (map (λ (g : Gap). 0) gaps) lentLive

@@ -1,14 +1,18 @@
 -- Gaps: the instructions from the first use to the last, cut between neighbouring uses where the frequency falls
-use Prim.Native.Nat.{ℕ, zero, suc, _+_, _-_}
+use mathlib.Core.Path.{_≡_}
+use Prim.Native.Nat.{ℕ, zero, suc, _+_, _-_, _<_}
 use mathlib.Core.List.{List, [], _∷_, _++_, map}
 use lib.Ieee.{Float, binary32, add}
 use lib.ListN.{length, getD}
 use Rattle.numbers.specs.Weight.{zeroWeight, frequencyLimit, valueOf}
-use Rattle.links.specs.Blocks.{BlockRow, blockAt, blockOf}
+use Rattle.links.specs.Table.{table}
+use Rattle.links.specs.Blocks.{BlockRow, blocksOf, blockAt, blockOf, startOf, SoundColumns}
+use Rattle.links.specs.Links.{linkColumn}
 use Rattle.links.specs.Split.{follow, edge, preferred, home, reaches}
 use Rattle.links.specs.declared.lower.Side.{Side}
 use Rattle.links.specs.declared.lower.Side.the-variants.{Previous, Next}
 use Rattle.walks.specs.Uses.{noWeights, frequencyAt}
+use Rattle.walks.specs.UseColumns.{UseColumns, useIn}
 use Rattle.walks.specs.GapSegments.{joined}
 use Rattle.walks.specs.declared.uses.SplitUse.{SplitUse}
 
@@ -107,3 +111,19 @@ gapsOf blocks uses best =
 -- which of them is the best use's own
 abbrev pub initialGap : List BlockRow → List SplitUse → ℕ → ℕ
 initialGap blocks uses best = length (gapsOn Previous blocks uses 0 best)
+
+-- the use table that its columns hold
+abbrev pub usesIn : UseColumns → List SplitUse
+usesIn cols = table (useIn cols) (length (cols .insts))
+
+-- what the gaps rely on: a sound block list with its links, and a use table whose instructions rise inside the blocks
+pub record Cuttable (freqs firsts ends prevs nexts : List ℕ) (uses : UseColumns) (best : ℕ) : Type 0 where
+  pub blocks : SoundColumns freqs firsts ends
+  pub left-links : prevs ≡ linkColumn Previous freqs
+  pub right-links : nexts ≡ linkColumn Next freqs
+  pub mains-long : length (uses .mains) ≡ length (uses .insts)
+  pub lefts-long : length (uses .lefts) ≡ length (uses .insts)
+  pub rights-long : length (uses .rights) ≡ length (uses .insts)
+  pub best-inside : best < length (uses .insts)
+  pub rises : (k : ℕ) → k + 1 < length (uses .insts) → getD (uses .insts) k 0 < getD (uses .insts) (k + 1) 0
+  pub inside : (k : ℕ) → k < length (uses .insts) → getD (uses .insts) k 0 < startOf (blocksOf freqs firsts ends) (length (blocksOf freqs firsts ends))

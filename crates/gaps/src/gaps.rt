@@ -14,10 +14,11 @@ ghost use mathlib.Core.List.{_∷_, []};
 ghost use Prim.Native.Nat.{ℕ, _+_, _-_, _≤_, _<_, max};
 ghost use lib.ListN.{length, getD};
 ghost use Rattle.walks.specs.UseColumns.{columns as useColumns, useIn};
-ghost use Rattle.links.specs.Blocks.{Ends};
-ghost use Rattle.gaps.specs.Gaps.{Gap, onSide};
-ghost use Rattle.gaps.specs.GapColumns.{columns, withRow, stored, Rows};
-ghost use Rattle.gaps.specs.Cutting.{Ordered, spaceOf, Leads, nextCut, cutsIn, freqIn, Alike, spaceGaps, sideGaps, InOrder};
+ghost use Rattle.links.specs.Blocks.{blocksOf, Ends};
+ghost use Rattle.links.specs.Table.{table, filled};
+ghost use Rattle.gaps.specs.Gaps.{onSide, gapsOf, initialGap, Cuttable, usesIn};
+ghost use Rattle.gaps.specs.GapColumns.{columns, withRow, withGap, stored, Rows, GapsHeld};
+ghost use Rattle.gaps.specs.Cutting.{Ordered, spaceOf, Leads, nextCut, cutsIn, freqIn, Alike, spaceGaps, sideGaps, ownIn, InOrder};
 
 // What stands left of the best use, or right of it.
 fn on_side(side: Side, left: u32, right: u32) -> u32
@@ -244,10 +245,121 @@ fn cut_side(
         let v = use_at(inst, weight, left_weight, right_weight, i + 1);
         let s = space_between(side, end, freq.len(), u, v);
         n = cut_space(
-            side, freq, edges, links, from, to, out_weight, min_freq, n, s,
+            side,
+            freq,
+            edges,
+            links,
+            from,
+            to,
+            out_weight,
+            min_freq,
+            n,
+            s,
         );
         i += 1;
     }
     n
 }
 
+// Stores the best use's own gap: one instruction.
+fn put_own(
+    freq: &[u32],
+    end: &[u32],
+    from: &mut [u32],
+    to: &mut [u32],
+    weight: &mut [f32],
+    min_freq: &mut [f32],
+    n: usize,
+    u: SplitUse,
+)
+    requires { ⌜ Ends (now end) (length (now freq)) (u .inst .0) × Rows (n + 1) (columns (now from) (now to) (now weight) (now «min_freq»)) ⌝ }
+    ensures { λ _. ⌜ columns (now (from .exit)) (now (to .exit)) (now (weight .exit)) (now («min_freq» .exit)) ≡ withGap (columns (now (from .entry)) (now (to .entry)) (now (weight .entry)) (now («min_freq» .entry))) n (ownIn (now (freq .entry)) (now (end .entry)) u) ⌝ }
+{
+    let p = u.inst.0;
+    let b = block_of(end, freq.len(), Inst(p));
+    let f = block_frequency(freq, b);
+    let w = u.weight;
+    put_gap(from, to, weight, min_freq, n, Side::Next, p, p + 1, w, f);
+}
+
+// Nothing is counted yet in the first n rows.
+fn clear_live(live: &mut [u32], n: usize)
+    requires { ⌜ n ≤ length (now live) ⌝ }
+    ensures { λ _. ⌜ now (live .exit) ≡ filled (table (λ (k : ℕ). 0) n) (now (live .entry)) ⌝ }
+{
+    let mut i: usize = 0;
+    while i < n {
+        live[i] = 0;
+        i += 1;
+    }
+}
+
+// How many gaps there are, and which is the best use's own.
+pub struct Gaps {
+    pub rows: usize,
+    pub initial: usize,
+}
+
+// Fills the columns with the gaps of a use table around its best use; no live instructions are counted yet. The rows past them stay.
+pub fn collect_gaps(
+    inst: &[u32],
+    weight: &[f32],
+    left_weight: &[f32],
+    right_weight: &[f32],
+    best: usize,
+    freq: &[u32],
+    first: &[u32],
+    end: &[u32],
+    prev_lower_freq: &[u32],
+    next_lower_freq: &[u32],
+    from: &mut [u32],
+    to: &mut [u32],
+    out_weight: &mut [f32],
+    live: &mut [u32],
+    min_freq: &mut [f32],
+) -> Gaps
+    requires { ⌜ Cuttable (now freq) (now first) (now end) (now «prev_lower_freq») (now «next_lower_freq») (useColumns (now inst) (now weight) (now «left_weight») (now «right_weight»)) best ⌝ }
+    requires { ⌜ Rows (length (gapsOf (blocksOf (now freq) (now first) (now end)) (usesIn (useColumns (now inst) (now weight) (now «left_weight») (now «right_weight»))) best)) (columns (now from) (now to) (now «out_weight») (now «min_freq»)) × (length (gapsOf (blocksOf (now freq) (now first) (now end)) (usesIn (useColumns (now inst) (now weight) (now «left_weight») (now «right_weight»))) best) ≤ length (now live)) ⌝ }
+    ensures { λ r. ⌜ GapsHeld (gapsOf (blocksOf (now (freq .entry)) (now (first .entry)) (now (end .entry))) (usesIn (useColumns (now (inst .entry)) (now (weight .entry)) (now («left_weight» .entry)) (now («right_weight» .entry)))) best) (columns (now (from .entry)) (now (to .entry)) (now («out_weight» .entry)) (now («min_freq» .entry))) (columns (now (from .exit)) (now (to .exit)) (now («out_weight» .exit)) (now («min_freq» .exit))) (now (live .entry)) (now (live .exit)) (r .rows) × (r .initial ≡ initialGap (blocksOf (now (freq .entry)) (now (first .entry)) (now (end .entry))) (usesIn (useColumns (now (inst .entry)) (now (weight .entry)) (now («left_weight» .entry)) (now («right_weight» .entry)))) best) ⌝ }
+{
+    let initial = cut_side(
+        Side::Previous,
+        inst,
+        weight,
+        left_weight,
+        right_weight,
+        freq,
+        end,
+        end,
+        prev_lower_freq,
+        from,
+        to,
+        out_weight,
+        min_freq,
+        0,
+        best,
+        0,
+    );
+    let u = use_at(inst, weight, left_weight, right_weight, best);
+    put_own(freq, end, from, to, out_weight, min_freq, initial, u);
+    let rows = cut_side(
+        Side::Next,
+        inst,
+        weight,
+        left_weight,
+        right_weight,
+        freq,
+        end,
+        first,
+        next_lower_freq,
+        from,
+        to,
+        out_weight,
+        min_freq,
+        best,
+        inst.len() - 1,
+        initial + 1,
+    );
+    clear_live(live, rows);
+    Gaps { rows, initial }
+}

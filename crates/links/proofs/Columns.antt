@@ -74,6 +74,11 @@ last-end blocks h = go (length blocks) h
         less n = omega arith
 
 -- ---- a sound list's columns
+-- the edges that a side's search takes
+abbrev pub edgesOf : Side → List ℕ → List ℕ → List ℕ
+edgesOf Previous ss es = es
+edgesOf Next ss es = ss
+
 module _ (fs ss es : List ℕ) (w : SoundColumns fs ss es) where
   abbrev listed : List BlockRow
   listed = blocksOf fs ss es
@@ -131,12 +136,17 @@ module _ (fs ss es : List ℕ) (w : SoundColumns fs ss es) where
         limited = lt-of-lt-of-le h last-limited;
       }
 
--- ---- what the search relies on
--- the edges that a side's search takes
-abbrev pub edgesOf : Side → List ℕ → List ℕ → List ℕ
-edgesOf Previous ss es = es
-edgesOf Next ss es = ss
+  -- so its blocks are found, and the edges of a side are its column
+  pub block-of-sound : (inst : ℕ) → firstBelow (λ (i : ℕ). ltb inst (getD es i 0)) (length fs) ≡ blockOf listed inst
+  block-of-sound inst =
+      first-same (λ (i : ℕ). ltb inst (getD es i 0)) (λ (i : ℕ). ltb inst (blockAt listed i .end)) (length fs) (λ k _. ap (ltb inst) (sym (end-at k)))
+      ∙ ap (firstBelow (λ (i : ℕ). ltb inst (blockAt listed i .end))) (sym n-is) ∙ block-of-holds listed (w .sound) inst
 
+  pub edges-of-sound : (side : Side) → _≡_ {A = ℕ → ℕ} (λ c. edge side (blockAt listed c)) (λ c. getD (edgesOf side ss es) c 0)
+  edges-of-sound Previous = fun-ext end-at
+  edges-of-sound Next = fun-ext first-at
+
+-- ---- what the search relies on
 module _ (fs ss es : List ℕ) (after before : ℕ) (w : Between fs ss es after before) where
   abbrev blocks : List BlockRow
   blocks = blocksOf fs ss es
@@ -159,9 +169,7 @@ module _ (fs ss es : List ℕ) (after before : ℕ) (w : Between fs ss es after 
       lt-of-le-of-lt (le-trans (le-of-eq e) (first-at-most (λ (i : ℕ). ltb inst (getD es i 0)) (length fs) (length fs - 1) (lt-ltb inst (getD es (length fs - 1) 0) (lt-of-lt-of-le h before-last)))) (last-inside fs ss es whole)
 
   pub block-found : (inst b : ℕ) → b ≡ firstBelow (λ (i : ℕ). ltb inst (getD es i 0)) (length fs) → b ≡ blockOf blocks inst
-  block-found inst b e =
-      e ∙ first-same (λ (i : ℕ). ltb inst (getD es i 0)) (λ (i : ℕ). ltb inst (blockAt blocks i .end)) (length fs) (λ k _. ap (ltb inst) (sym (end-at fs ss es whole k)))
-      ∙ ap (firstBelow (λ (i : ℕ). ltb inst (blockAt blocks i .end))) (sym (n-is fs ss es whole)) ∙ block-of-holds blocks (w .sound) inst
+  block-found inst b e = e ∙ block-of-sound fs ss es whole inst
 
   pub swept-ends : (b : ℕ) → b < length fs → Swept fs es b
   swept-ends b h = record { inside = h; given = frequencies (length es) (le-of-eq (sym (w .ends-long))); rising = ends-order fs ss es whole }
@@ -170,16 +178,12 @@ module _ (fs ss es : List ℕ) (after before : ℕ) (w : Between fs ss es after 
   swept-firsts b h = record { inside = h; given = frequencies (length ss) (le-of-eq (sym (w .firsts-long))); rising = firsts-order fs ss es whole }
 
   -- the split point, of the columns
-  edge-at : (side : Side) → _≡_ {A = ℕ → ℕ} (λ c. edge side (blockAt blocks c)) (λ c. getD (edgesOf side ss es) c 0)
-  edge-at Previous = fun-ext (end-at fs ss es whole)
-  edge-at Next = fun-ext (first-at fs ss es whole)
-
   pub split-columns : (side : Side) → (after + 1 ≡ before → ⊥) → (b : ℕ) → b ≡ blockOf blocks (home side after before)
       → lastReached side fs (edgesOf side ss es) (farthest side after before) (preferred side after before) b ≡ splitPoint side blocks after before
   unfolding splitPoint
   split-columns side apart b e =
       sym (cond-false before _ (ne-eqb (after + 1) before apart)
-      ∙ ap (λ (place : ℕ → ℕ). lastOr (preferred side after before) (map place (follow side (map (λ (x : BlockRow). x .frequency) blocks) (λ (c : ℕ). reaches side (farthest side after before) (place c)) (length blocks) (blockOf blocks (home side after before))))) (edge-at side)
+      ∙ ap (λ (place : ℕ → ℕ). lastOr (preferred side after before) (map place (follow side (map (λ (x : BlockRow). x .frequency) blocks) (λ (c : ℕ). reaches side (farthest side after before) (place c)) (length blocks) (blockOf blocks (home side after before))))) (edges-of-sound fs ss es whole side)
       ∙ ap (λ (freqs : List ℕ). lastOr (preferred side after before) (map (λ (c : ℕ). getD (edgesOf side ss es) c 0) (follow side freqs (λ (c : ℕ). reaches side (farthest side after before) (getD (edgesOf side ss es) c 0)) (length blocks) (blockOf blocks (home side after before))))) (frequency-column fs ss es (w .firsts-long) (w .ends-long))
       ∙ ap (λ (n : ℕ). lastOr (preferred side after before) (map (λ (c : ℕ). getD (edgesOf side ss es) c 0) (follow side fs (λ (c : ℕ). reaches side (farthest side after before) (getD (edgesOf side ss es) c 0)) n (blockOf blocks (home side after before))))) (n-is fs ss es whole)
       ∙ ap (λ (x : ℕ). lastReached side fs (edgesOf side ss es) (farthest side after before) (preferred side after before) x) (sym e))

@@ -14,9 +14,7 @@ use Rattle.numbers.specs.Weight.{zeroWeight, frequencyLimit, valueOf}
 use Rattle.numbers.proofs.Tests.{cond-true, cond-false}
 use Rattle.links.specs.First.{firstBelow}
 use Rattle.links.specs.Blocks.{BlockRow, blocksOf, blockAt, blockOf, SoundBlocks}
-use Rattle.links.proofs.Firsts.{first-same}
-use Rattle.links.proofs.Rows.{block-of-holds}
-use Rattle.links.proofs.Columns.{list-long, row-at}
+use Rattle.links.proofs.Columns.{row-at, block-of-sound}
 use Rattle.numbers.specs.Cost.{reloadCost, moveCost, spillCost, scaled}
 use Rattle.jobs.specs.declared.rows.Segment.{Segment}
 use Rattle.jobs.specs.declared.rows.Limits.{Limits}
@@ -63,10 +61,7 @@ rows-near seen first n most h uses p e = by (eqb p first) refl (carries seen n p
 pub weight-blocks : (fs ss es : List ℕ) → length ss ≡ length fs → length es ≡ length fs → SoundBlocks (blocksOf fs ss es) → (cost : Float) (p : ℕ) → weightAt fs es cost p ≡ mul binary32 cost (frequencyAt (blocksOf fs ss es) p)
 unfolding weightAt frequencyAt
 weight-blocks fs ss es a b sound cost p =
-    let found : firstBelow (λ (i : ℕ). ltb p (getD es i 0)) (length fs) ≡ blockOf (blocksOf fs ss es) p =
-    first-same (λ (i : ℕ). ltb p (getD es i 0)) (λ (i : ℕ). ltb p (blockAt (blocksOf fs ss es) i .end)) (length fs) (λ k h. ap (λ (r : BlockRow). ltb p (r .end)) (sym (row-at fs ss es a b k)))
-    ∙ ap (firstBelow (λ (i : ℕ). ltb p (blockAt (blocksOf fs ss es) i .end))) (sym (list-long fs ss es a b))
-    ∙ block-of-holds (blocksOf fs ss es) sound p in
+    let found = block-of-sound fs ss es (record { firsts-long = a; ends-long = b; sound = sound }) p in
     ap (λ (i : ℕ). mul binary32 cost (valueOf frequencyLimit (getD fs i 0))) found
     ∙ ap (λ (r : BlockRow). mul binary32 cost (valueOf frequencyLimit (r .frequency))) (sym (row-at fs ss es a b (blockOf (blocksOf fs ss es) p)))
 
