@@ -72,3 +72,7 @@ first-found test n i h passed e = first-is (record { from = zero-le; to = le-of-
 
 pub first-none : (test : ℕ → Bool) (n : ℕ) → ((k : ℕ) → k < n → test k ≡ false) → n ≡ firstBelow test n
 first-none test n passed = first-is (record { from = zero-le; to = le-refl n; passed = λ k _ l. passed k l; found = λ l. absurd (lt-irrefl n l) })
+
+-- a walk that answers the number of them has passed all
+pub first-all : (test : ℕ → Bool) (n : ℕ) → firstBelow test n ≡ n → (k : ℕ) → k < n → test k ≡ false
+first-all test n e k h = first-in test n .passed k zero-le (subst (λ (r : ℕ). k < r) (sym e) h)

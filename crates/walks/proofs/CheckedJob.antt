@@ -8,12 +8,14 @@ use lib.Dec.{eqb}
 use lib.ListN.{length, getD}
 use borrow.Author.Tests.{eq-eqb}
 use Rattle.links.specs.Blocks.{blocksOf, startOf, SoundColumns}
+use Rattle.links.specs.First.{firstBelow}
+use Rattle.links.proofs.Firsts.{first-all}
 use Rattle.links.proofs.Columns.{ends-of-sound, last-of-sound}
 use Rattle.jobs.specs.declared.rows.Segment.{Segment}
 use Rattle.jobs.specs.declared.rows.Use.{Use}
 use Rattle.jobs.specs.declared.rows.Limits.{Limits}
 use Rattle.jobs.specs.Rows.{noSegment, noUse, liveOut, fixedDef}
-use Rattle.jobs.specs.Lines.{rowBefore, Lists, listOf, badUseOf, badEnd}
+use Rattle.jobs.specs.Lines.{rowBefore, Lists, listOf, badSegment, badDefAt, badUseAt, badEnd, badEndAt}
 use Rattle.jobs.proofs.Sound.{Bounded, segment-bounded, segments-lists}
 use Rattle.jobs.proofs.SoundUses.{Defined, defined, Fitting, fitting, LivesOut, lives-out, Ended, ended}
 use Rattle.jobs.proofs.UseLists.{list-of}
@@ -21,6 +23,23 @@ use Rattle.walks.specs.Uses.{Source, firstInst, lastInst}
 use Rattle.walks.specs.CheckedUses.{CheckedUses}
 use Rattle.walks.specs.Collecting.{Listings, Starting, Ending}
 use Rattle.walks.proofs.UseOrder.{last-out, last-use, first-out, first-use-last}
+
+-- the checks of lines 5 to 8 have answered the number of rows
+pub checked-uses : (job : Source) (limits : Limits) → 0 < length (job .segments) → limits .end ≡ 4 * startOf (job .blocks) (length (job .blocks)) → limits .uses ≡ length (job .uses) → limits .values ≡ length (job .codes)
+    → firstBelow (badSegment limits (job .segments)) (length (job .segments)) ≡ length (job .segments) → firstBelow (badDefAt (job .uses) (job .segments)) (length (job .segments)) ≡ length (job .segments)
+    → firstBelow (badUseAt limits (job .uses) (job .segments)) (length (job .uses)) ≡ length (job .uses) → firstBelow (badEndAt (job .uses) (job .segments)) (length (job .segments)) ≡ length (job .segments) → CheckedUses job
+checked-uses job limits some e f g l5 l6 l7 l8 =
+    record {
+      some = some;
+      limits = limits;
+      end = e;
+      uses = f;
+      values = g;
+      line5 = first-all (badSegment limits (job .segments)) (length (job .segments)) l5;
+      line6 = first-all (badDefAt (job .uses) (job .segments)) (length (job .segments)) l6;
+      line7 = first-all (badUseAt limits (job .uses) (job .segments)) (length (job .uses)) l7;
+      line8 = first-all (badEndAt (job .uses) (job .segments)) (length (job .segments)) l8;
+    }
 
 module _ (job : Source) (checked : CheckedUses job) where
   abbrev segs : List Segment

@@ -284,7 +284,8 @@ fn put_last(
     rows + 2
 }
 
-// Fills the columns with the use table of a checked job, and answers how many rows that has. The rows past them stay.
+// Fills the columns with the use table of a checked job, and answers how many rows that has. The rows past them stay. The column
+// `block_first` is not read: it is lent so that the contract can speak of the block list.
 pub fn collect_uses(
     start: &[u32],
     end: &[u32],
@@ -311,10 +312,11 @@ pub fn collect_uses(
     ensures { λ r. ⌜ Holds (useTableOf (sourceOf (usesOf (now (position .entry)) (now (kind .entry)) (now (cost .entry))) (segmentsOf (now (start .entry)) (now (end .entry)) (now (value .entry)) (now («first_use» .entry)) (now («end_use» .entry)) (now (flags .entry))) (now (code .entry)) scales (blocksOf (now (freq .entry)) (now («block_first» .entry)) (now («block_end» .entry))))) (columns (now (inst .entry)) (now (weight .entry)) (now («left_weight» .entry)) (now («right_weight» .entry))) (columns (now (inst .exit)) (now (weight .exit)) (now («left_weight» .exit)) (now («right_weight» .exit))) r ⌝ }
 {
     let n = segment_count(start, end, value, first_use, end_use, flags);
-    let head = segment_at(start, end, value, first_use, end_use, flags, 0);
-    let tail = segment_at(start, end, value, first_use, end_use, flags, n - 1);
-    let last = last_inst(position, kind, cost, tail);
-    let latest = no_weights(first_inst(head));
+    let first_segment = segment_at(start, end, value, first_use, end_use, flags, 0);
+    let last_segment = segment_at(start, end, value, first_use, end_use, flags, n - 1);
+    let last = last_inst(position, kind, cost, last_segment);
+    // The first instruction has a row, and so has the last, even if nothing counts there.
+    let latest = no_weights(first_inst(first_segment));
     let done = collect_lists(
         start,
         end,
