@@ -25,11 +25,11 @@ and-left : (a b : Bool) → a ≡ false → (a && b) ≡ false
 and-left true b e = absurd (true≢false e)
 and-left false b e = refl
 
-and-right : (a b : Bool) → b ≡ false → (a && b) ≡ false
+pub and-right : (a b : Bool) → b ≡ false → (a && b) ≡ false
 and-right true b e = e
 and-right false b e = refl
 
-and-both : (a b : Bool) → a ≡ true → b ≡ true → (a && b) ≡ true
+pub and-both : (a b : Bool) → a ≡ true → b ≡ true → (a && b) ≡ true
 and-both true b p q = q
 and-both false b p q = absurd (true≢false (sym p))
 

@@ -5,3 +5,5 @@ pub mod Spaces
 pub mod Sides
 pub mod InColumns
 pub mod Collected
+pub mod Homes
+pub mod Runs
