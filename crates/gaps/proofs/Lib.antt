@@ -7,3 +7,4 @@ pub mod InColumns
 pub mod Collected
 pub mod Homes
 pub mod Runs
+pub mod Chains

@@ -1,0 +1,322 @@
+-- The gaps between two uses: they follow one another from use to use; each has the least frequency among the blocks it meets, and that of one of them; there are no more cuts than blocks between
+use mathlib.Core.Path.{_≡_, refl, sym, ap, _∙_, subst}
+use mathlib.Core.Logic.{_⊎_, inl, inr, ⊎-elim}
+use mathlib.Core.List.{List, [], _∷_, _++_, map}
+use Prim.Native.Nat.{ℕ, zero, suc, _+_, _-_, _≤_, _<_, zero-le}
+use native.Mathlib.Nat.{le-refl, le-trans, le-of-eq, lt-of-lt-of-le}
+use native.Mathlib.Omega.{arith}
+use mathlib.Core.Bool.{Bool, true, false, _&&_, cond, true≢false}
+use lib.Dec.{leb, ltb, lit≤}
+use lib.Ieee.{Float, lt}
+use lib.ListN.{length, getD, length-map}
+use borrow.Author.Tests.{ltb-true, lt-ltb, le-ltb, leb-true, leb-false}
+use lib.Ieee.Bits.{is-true, is-false}
+use Rattle.numbers.specs.Weight.{finite, unitsOf, zeroWeight, frequencyLimit, valueOf}
+use Rattle.numbers.proofs.Units.{units-order}
+use Rattle.numbers.proofs.Bits.{value-finite}
+use Rattle.numbers.proofs.Tests.{cond-true, cond-false, cond-both}
+use Rattle.links.specs.Blocks.{BlockRow, noBlock, blockAt, blockOf, startOf, itemLimit, SoundBlocks}
+use Rattle.links.specs.Links.{absent, beside, isLower, lowerLink, Beyond}
+use Rattle.links.specs.Split.{follow, edge, preferred, home, reaches}
+use Rattle.links.specs.declared.lower.Side.{Side}
+use Rattle.links.specs.declared.lower.Side.the-variants.{Previous, Next}
+use Rattle.links.proofs.Firsts.{split}
+use Rattle.links.proofs.Linking.{IsLink, link-nearest}
+use Rattle.links.proofs.Following.{fuel-left}
+use Rattle.links.proofs.Rows.{row-good, ends-rise, firsts-rise}
+use Rattle.links.proofs.Columns.{last-end}
+use Rattle.walks.specs.Uses.{frequencyAt}
+use Rattle.walks.specs.declared.uses.SplitUse.{SplitUse}
+use Rattle.gaps.specs.Gaps.{Gap, onSide, near, far, nearWeight, farWeights, farEnd, spanned, inOrder, cutGaps, frequencyOf, cuts, gapsBetween}
+use Rattle.gaps.proofs.Cuts.{and-parts, all-enough}
+use Rattle.gaps.proofs.Spaces.{cut-gaps-length}
+use Rattle.gaps.proofs.Homes.{Home, home-of, home-only, homes-rise, At, at-home, at-edge, at-beyond, home-block, target-block, at-start, start-beyond, edge-beyond, home-reaches, blocks-rise}
+use Rattle.gaps.proofs.Runs.{Run, run-in-order, run-one}
+
+-- ---- the blocks of the cuts, from block b on, up to block `last`: each is the link of the one before, and the last one's link is absent or leads too far
+abbrev pub Chained : Side → List ℕ → ℕ → ℕ → List ℕ → Type 0
+Chained side f last b [] = lowerLink side f b < length f → reaches side last (lowerLink side f b) ≡ false
+Chained side f last b (c ∷ cs) = (c ≡ lowerLink side f b) × (c < length f) × (reaches side last c ≡ true) × Chained side f last c cs
+
+module _ (side : Side) (f : List ℕ) (few : length f ≤ absent) (last : ℕ) where
+  pub follow-chained : (n b : ℕ) → b < length f → beside side (length f) b ≤ n → Chained side f last b (follow side f (reaches side last) n b)
+  unfolding follow
+  follow-chained zero b h e = λ l. absurd (none side (length f) b (lowerLink side f b) h l e (link-nearest side f b few h .found l .0))
+    where
+      none : (side : Side) (n b c : ℕ) → b < n → c < n → beside side n b ≤ 0 → Beyond side b c → ⊥
+      none Previous n b c h l e p = omega (arith, e, p)
+      none Next n b c h l e p = omega (arith, e, p, l)
+  follow-chained (suc n) b h e =
+      let c = lowerLink side f b in
+      cond-both (λ (cs : List ℕ). Chained side f last b cs) (ltb c (length f) && reaches side last c) (c ∷ follow side f (reaches side last) n c) []
+      (λ t.
+      let q = and-parts (ltb c (length f)) (reaches side last c) (is-true (ltb c (length f) && reaches side last c) t) in
+      let l = ltb-true c (length f) (q .0) in
+      let k = fuel-left side (length f) b c (suc n) h l (link-nearest side f b few h .found l .0) e in
+      let z : n ≡ k .0 = let w = k .1 in omega (arith, w) in
+      (refl, l, q .1, follow-chained n c l (le-trans (k .2) (le-of-eq (sym z)))))
+      (λ t l. not-reached (ltb c (length f)) (reaches side last c) (lt-ltb c (length f) l) (is-false (ltb c (length f) && reaches side last c) t))
+    where
+      not-reached : (a b : Bool) → a ≡ true → (a && b) ≡ false → b ≡ false
+      not-reached true b p q = q
+      not-reached false b p q = absurd (true≢false (sym p))
+
+-- ---- each gap of a list
+abbrev pub Each : (Gap → Type 0) → List Gap → Type 0
+Each P [] = Unit {0}
+Each P (g ∷ gs) = P g × Each P gs
+
+pub each-append : (P : Gap → Type 0) (gs hs : List Gap) → Each P gs → Each P hs → Each P (gs ++ hs)
+each-append P [] hs a b = b
+each-append P (g ∷ gs) hs a b = (a .0, each-append P gs hs (a .1) b)
+
+each-in-order : (P : Gap → Type 0) (side : Side) (g : Gap) (gs : List Gap) → P g → Each P gs → Each P (inOrder side g gs)
+each-in-order P Previous g gs a b = each-append P gs (g ∷ []) b (a, tt)
+each-in-order P Next g gs a b = (a, b)
+
+-- ---- a gap's frequency is the least among the blocks that it meets, and one of theirs
+pub record Least (blocks : List BlockRow) (g : Gap) : Type 0 where
+  pub least : (i : ℕ) → g .from ≤ i → i < g .to → lt (frequencyAt blocks i) (g .freq) ≡ false
+  pub inst : ℕ
+  pub inside : (g .from ≤ inst) × (inst < g .to)
+  pub is : frequencyAt blocks inst ≡ g .freq
+
+module _ (blocks : List BlockRow) (sound : SoundBlocks blocks) where
+  abbrev freqs : List ℕ
+  freqs = map (λ (b : BlockRow). b .frequency) blocks
+
+  freqs-long : length freqs ≡ length blocks
+  freqs-long = length-map blocks (λ (b : BlockRow). b .frequency)
+
+  few : length freqs ≤ absent
+  few = le-trans (le-of-eq freqs-long) (le-trans (sound .few) (lit≤ tt))
+
+  inside-freqs : {b : ℕ} → b < length blocks → b < length freqs
+  inside-freqs h = lt-of-lt-of-le h (le-of-eq (sym freqs-long))
+
+  inside-blocks : {b : ℕ} → b < length freqs → b < length blocks
+  inside-blocks h = lt-of-lt-of-le h (le-of-eq freqs-long)
+
+  freq-at : (b : ℕ) → getD freqs b 0 ≡ blockAt blocks b .frequency
+  freq-at b = map-at blocks b
+    where
+      map-at : (bs : List BlockRow) (b : ℕ) → getD (map (λ (b : BlockRow). b .frequency) bs) b 0 ≡ blockAt bs b .frequency
+      map-at [] b = refl
+      map-at (x ∷ bs) zero = refl
+      map-at (x ∷ bs) (suc b) = map-at bs b
+
+  -- a block that is not lower
+  not-lower : (b k i : ℕ) → isLower freqs b k ≡ false → k ≡ blockOf blocks i → lt (frequencyAt blocks i) (frequencyOf blocks b) ≡ false
+  unfolding isLower frequencyAt
+  not-lower b k i e h =
+      ap (λ (x : ℕ). lt (frequencyOf blocks x) (frequencyOf blocks b)) (sym h)
+      ∙ ap (λ (x : ℕ). lt (valueOf frequencyLimit x) (frequencyOf blocks b)) (sym (freq-at k))
+      ∙ ap (λ (x : ℕ). lt (valueOf frequencyLimit (getD freqs k 0)) (valueOf frequencyLimit x)) (sym (freq-at b)) ∙ e
+
+  itself : (b : ℕ) → isLower freqs b b ≡ false
+  unfolding isLower
+  itself b =
+      let w = finite (value-finite frequencyLimit (getD freqs b 0) (lit≤ tt)) in
+      units-order w w ∙ le-ltb (unitsOf (valueOf frequencyLimit (getD freqs b 0))) (unitsOf (valueOf frequencyLimit (getD freqs b 0))) (le-refl (unitsOf (valueOf frequencyLimit (getD freqs b 0))))
+
+  -- a gap that begins in block b and ends before the block that b's link names
+  module _ (side : Side) (e m b : ℕ) (ws : List Float) (h : b < length blocks) (a : At blocks sound side e b) (onward : Beyond side e m) (low : onSide side e m ≤ startOf blocks (length blocks))
+      (stop : (i k : ℕ) → onSide side m e ≤ i → i < onSide side e m → Home blocks sound i k → lowerLink side freqs b < length freqs → Beyond side k (lowerLink side freqs b)) where
+    -- its instructions lie in block b or beyond
+    where-at : (i k : ℕ) → onSide side m e ≤ i → i < onSide side e m → Home blocks sound i k → (k ≡ b) ⊎ Beyond side b k
+    where-at i k p q x = by side (at-home blocks sound side e b h a) p q
+      where
+        by : (side : Side) → Home blocks sound (onSide side (e - 1) e) b → onSide side m e ≤ i → i < onSide side e m → (k ≡ b) ⊎ Beyond side b k
+        by Previous y p q = let l = homes-rise blocks sound i (e - 1) k b (omega (arith, q)) x y in ⊎-elim (λ g. inr g) (λ g. inl (omega (arith, l, g))) (split k b)
+        by Next y p q = let l = homes-rise blocks sound e i b k p y x in ⊎-elim (λ g. inr g) (λ g. inl (omega (arith, l, g))) (split b k)
+
+    gap-least : Least blocks (spanned side e m ws (frequencyOf blocks b))
+    unfolding frequencyAt
+    gap-least =
+        record {
+          least = λ i p q.
+              let x = home-of blocks sound i (lt-of-lt-of-le q low) in
+              let k = blockOf blocks i in
+              ⊎-elim (λ z. not-lower b b i (itself b) (sym z))
+              (λ z. not-lower b k i (link-nearest side freqs b few (inside-freqs h) .passed k (inside-freqs (x .inside)) z (stop i k p q x)) refl)
+              (where-at i k p q x);
+          inst = onSide side (e - 1) e;
+          inside = within side onward;
+          is = same (home-only blocks sound (onSide side (e - 1) e) b (at-home blocks sound side e b h a));
+        }
+      where
+        within : (side : Side) → Beyond side e m → (onSide side m e ≤ onSide side (e - 1) e) × (onSide side (e - 1) e < onSide side e m)
+        within Previous o = (omega (arith, o), omega (arith, o))
+        within Next o = (le-refl e, o)
+
+        same : b ≡ blockOf blocks (onSide side (e - 1) e) → frequencyAt blocks (onSide side (e - 1) e) ≡ frequencyOf blocks b
+        same z = ap (frequencyOf blocks) (sym z)
+
+  -- blocks end by the last end
+  end-total : (c : ℕ) → c < length blocks → blockAt blocks c .end ≤ startOf blocks (length blocks)
+  end-total c h = le-trans (ends-rise blocks sound c (length blocks - 1) (omega (arith, h)) (omega (arith, h))) (le-of-eq (sym (last-end blocks (sound .some))))
+
+  -- ---- the gaps between two uses
+  module _ (side : Side) (p q : ℕ) (order : p < q) (inside : q < startOf blocks (length blocks)) (ws : List Float) where
+    abbrev last : ℕ
+    last = blockOf blocks (onSide side p q)
+
+    abbrev end : ℕ
+    end = farEnd side p q
+
+    abbrev edgeAt : ℕ → ℕ
+    edgeAt c = edge side (blockAt blocks c)
+
+    -- an edge at a block, before the end, with all instructions up to it in blocks
+    record From (e b : ℕ) : Type 0 where
+      block : b < length blocks
+      at : At blocks sound side e b
+      onward : Beyond side e end
+      low : onSide side e 0 ≤ startOf blocks (length blocks)
+
+    from-start : From (preferred side p q) (blockOf blocks (home side p q))
+    from-start =
+        record {
+          block = home-block blocks sound p q order inside side .inside;
+          at = at-start blocks sound p q order inside side;
+          onward = start-beyond blocks sound p q order inside side;
+          low = by side;
+        }
+      where
+        by : (side : Side) → onSide side (preferred side p q) 0 ≤ startOf blocks (length blocks)
+        by Previous = omega (arith, inside)
+        by Next = zero-le
+
+    from-edge : (c : ℕ) → c < length blocks → reaches side last c ≡ true → From (edgeAt c) c
+    from-edge c h r =
+        record { block = h; at = at-edge blocks sound side c h; onward = edge-beyond blocks sound p q order inside side c h r; low = by side }
+      where
+        by : (side : Side) → onSide side (edge side (blockAt blocks c)) 0 ≤ startOf blocks (length blocks)
+        by Previous = end-total c h
+        by Next = zero-le
+
+    -- they follow one another
+    cut-run : (e b : ℕ) (w : Float) (cs : List ℕ) → From e b → Chained side freqs last b cs
+        → Run (onSide side end e) (onSide side e end) (cutGaps side (λ b. frequencyOf blocks b) edgeAt end ws e w b cs)
+    unfolding cutGaps
+    cut-run e b w [] f k = run-one side e end (w ∷ ws) (frequencyOf blocks b) (f .onward)
+    cut-run e b w (c ∷ cs) f k =
+        let h = inside-blocks (k .1) in
+        let link = link-nearest side freqs b few (inside-freqs (f .block)) in
+        let on : Beyond side b c = subst (Beyond side b) (sym (k .0)) (link .found (subst (λ (x : ℕ). x < length freqs) (k .0) (k .1)) .0) in
+        run-in-order side e (edgeAt c) end (w ∷ []) (frequencyOf blocks b) (cutGaps side (λ b. frequencyOf blocks b) edgeAt end ws (edgeAt c) zeroWeight c cs)
+        (at-beyond blocks sound side e b c (f .block) h (f .at) on)
+        (cut-run (edgeAt c) c zeroWeight cs (from-edge c h (k .2)) (k .3))
+
+    -- where the instructions of the farthest gap lie
+    end-stop : (e b : ℕ) → From e b → (i k : ℕ) → onSide side end e ≤ i → i < onSide side e end → Home blocks sound i k → (reaches side last (lowerLink side freqs b) ≡ false) → Beyond side k (lowerLink side freqs b)
+    end-stop e b f i k x y z r = by side (target-block blocks sound p q order inside side) x y r
+      where
+        by : (side : Side) → Home blocks sound (onSide side p q) (blockOf blocks (onSide side p q)) → onSide side (farEnd side p q) e ≤ i → i < onSide side e (farEnd side p q)
+            → reaches side (blockOf blocks (onSide side p q)) (lowerLink side freqs b) ≡ false → Beyond side k (lowerLink side freqs b)
+        by Previous t x y r = let l = homes-rise blocks sound p i (blockOf blocks p) k x t z in let g = leb-false (blockOf blocks p) (lowerLink Previous freqs b) r in omega (arith, l, g)
+        by Next t x y r = let l = homes-rise blocks sound i q k (blockOf blocks q) (omega (arith, y)) z t in let g = leb-false (lowerLink Next freqs b) (blockOf blocks q) r in omega (arith, l, g)
+
+    -- and those of a gap up to a cut
+    cut-stop : (e c i k : ℕ) → c < length blocks → onSide side (edgeAt c) e ≤ i → i < onSide side e (edgeAt c) → Home blocks sound i k → Beyond side k c
+    cut-stop e c i k h x y z = by side x y
+      where
+        by : (side : Side) → onSide side (edge side (blockAt blocks c)) e ≤ i → i < onSide side e (edge side (blockAt blocks c)) → Beyond side k c
+        by Previous x y = ⊎-elim (λ g. g) (λ g. let l = ends-rise blocks sound k c g h in let m = z .before in absurd (omega (arith, l, m, x))) (split c k)
+        by Next x y = ⊎-elim (λ g. g) (λ g. let l = firsts-rise blocks sound c k g (z .inside) in let m = z .from in absurd (omega (arith, l, m, y))) (split k c)
+
+    low-end : (side : Side) (e m : ℕ) → onSide side e 0 ≤ startOf blocks (length blocks) → m ≤ startOf blocks (length blocks) → onSide side e m ≤ startOf blocks (length blocks)
+    low-end Previous e m x y = x
+    low-end Next e m x y = y
+
+    end-low : end ≤ startOf blocks (length blocks)
+    end-low = by side
+      where
+        by : (side : Side) → farEnd side p q ≤ startOf blocks (length blocks)
+        by Previous = omega (arith, order, inside)
+        by Next = omega (arith, inside)
+
+    edge-low : (side : Side) (c : ℕ) → c < length blocks → edge side (blockAt blocks c) ≤ startOf blocks (length blocks)
+    edge-low Previous c h = end-total c h
+    edge-low Next c h = let l = end-total c h in let m = row-good blocks sound c h .nonempty in omega (arith, l, m)
+
+    -- each has the least frequency among the blocks it meets
+    cut-least : (e b : ℕ) (w : Float) (cs : List ℕ) → From e b → Chained side freqs last b cs
+        → Each (Least blocks) (cutGaps side (λ b. frequencyOf blocks b) edgeAt end ws e w b cs)
+    unfolding cutGaps
+    cut-least e b w [] f k = (
+      gap-least side e end b (w ∷ ws) (f .block) (f .at) (f .onward) (low-end side e end (f .low) end-low) (λ i j x y z l. end-stop e b f i j x y z (k l)),
+      tt,
+    )
+    cut-least e b w (c ∷ cs) f k =
+        let h = inside-blocks (k .1) in
+        let link = link-nearest side freqs b few (inside-freqs (f .block)) in
+        let on : Beyond side b c = subst (Beyond side b) (sym (k .0)) (link .found (subst (λ (x : ℕ). x < length freqs) (k .0) (k .1)) .0) in
+        each-in-order (Least blocks) side (spanned side e (edgeAt c) (w ∷ []) (frequencyOf blocks b)) (cutGaps side (λ b. frequencyOf blocks b) edgeAt end ws (edgeAt c) zeroWeight c cs)
+        (gap-least side e (edgeAt c) b (w ∷ []) (f .block) (f .at) (at-beyond blocks sound side e b c (f .block) h (f .at) on) (low-end side e (edgeAt c) (f .low) (edge-low side c h))
+        (λ i j x y z _. subst (Beyond side j) (k .0) (cut-stop e c i j h x y z)))
+        (cut-least (edgeAt c) c zeroWeight cs (from-edge c h (k .2)) (k .3))
+
+    -- there are no more cuts than blocks from the first to the farther use's
+    abbrev Between : Side → ℕ → ℕ → ℕ → Type 0
+    Between Previous last b n = n + last ≤ b
+    Between Next last b n = n + b ≤ last
+
+    cut-few : (b : ℕ) (cs : List ℕ) → b < length blocks → reaches side last b ≡ true → Chained side freqs last b cs → Between side last b (length cs)
+    cut-few b [] h r k = by side last b r
+      where
+        by : (side : Side) (l b : ℕ) → reaches side l b ≡ true → Between side l b 0
+        by Previous l b r = let x = leb-true l b r in omega (arith, x)
+        by Next l b r = let x = leb-true b l r in omega (arith, x)
+    cut-few b (c ∷ cs) h r k =
+        let link = link-nearest side freqs b few (inside-freqs h) in
+        let on : Beyond side b c = subst (Beyond side b) (sym (k .0)) (link .found (subst (λ (x : ℕ). x < length freqs) (k .0) (k .1)) .0) in
+        by side last b c (length cs) on (cut-few c cs (inside-blocks (k .1)) (k .2) (k .3))
+      where
+        by : (side : Side) (l b c n : ℕ) → Beyond side b c → Between side l c n → Between side l b (suc n)
+        by Previous l b c n o m = omega (arith, o, m)
+        by Next l b c n o m = omega (arith, o, m)
+
+    -- the blocks of the cuts
+    cuts-chained : Chained side freqs last (blockOf blocks (home side p q)) (cuts side blocks p q)
+    unfolding cuts
+    cuts-chained =
+        let h = inside-freqs (from-start .block) in
+        follow-chained side freqs few last (length blocks) (blockOf blocks (home side p q)) h (le-trans (all-enough side (length freqs) (blockOf blocks (home side p q)) h) (le-of-eq freqs-long))
+
+-- ---- of two uses
+module _ (blocks : List BlockRow) (sound : SoundBlocks blocks) (side : Side) (u v : SplitUse) (order : u .inst .0 < v .inst .0) (inside : v .inst .0 < startOf blocks (length blocks)) where
+  abbrev p : ℕ
+  p = u .inst .0
+
+  abbrev q : ℕ
+  q = v .inst .0
+
+  abbrev weights : List Float
+  weights = farWeights side (far side u v)
+
+  pub between-run : Run (onSide side p (p + 1)) (onSide side q (q + 1)) (gapsBetween side blocks u v)
+  unfolding gapsBetween
+  between-run =
+      by side (gapsBetween side blocks u v)
+      (cut-run blocks sound side p q order inside weights (preferred side p q) (blockOf blocks (home side p q)) (nearWeight side (near side u v)) (cuts side blocks p q) (from-start blocks sound side p q order inside weights) (cuts-chained blocks sound side p q order inside weights))
+    where
+      by : (side : Side) (gs : List Gap) → Run (onSide side (farEnd side (u .inst .0) (v .inst .0)) (preferred side (u .inst .0) (v .inst .0))) (onSide side (preferred side (u .inst .0) (v .inst .0)) (farEnd side (u .inst .0) (v .inst .0))) gs
+          → Run (onSide side (u .inst .0) (u .inst .0 + 1)) (onSide side (v .inst .0) (v .inst .0 + 1)) gs
+      by Previous gs r = r
+      by Next gs r = r
+
+  pub between-least : Each (Least blocks) (gapsBetween side blocks u v)
+  unfolding gapsBetween
+  between-least =
+      cut-least blocks sound side p q order inside weights (preferred side p q) (blockOf blocks (home side p q)) (nearWeight side (near side u v)) (cuts side blocks p q) (from-start blocks sound side p q order inside weights) (cuts-chained blocks sound side p q order inside weights)
+
+  pub between-few : length (gapsBetween side blocks u v) + blockOf blocks p ≤ 1 + blockOf blocks q
+  unfolding gapsBetween
+  between-few =
+      let l = cut-gaps-length side (λ b. frequencyOf blocks b) (λ c. edge side (blockAt blocks c)) (farEnd side p q) weights (preferred side p q) (nearWeight side (near side u v)) (blockOf blocks (home side p q)) (cuts side blocks p q) in
+      by side (cut-few blocks sound side p q order inside weights (blockOf blocks (home side p q)) (cuts side blocks p q) (from-start blocks sound side p q order inside weights .block) (home-reaches blocks sound p q order inside side) (cuts-chained blocks sound side p q order inside weights)) l
+    where
+      by : (side : Side) {n m : ℕ} → Between blocks sound side p q order inside weights side (blockOf blocks (onSide side (u .inst .0) (v .inst .0))) (blockOf blocks (home side (u .inst .0) (v .inst .0))) n → m ≡ suc n → m + blockOf blocks (u .inst .0) ≤ 1 + blockOf blocks (v .inst .0)
+      by Previous c l = let r = blocks-rise blocks sound (v .inst .0 - 1) (v .inst .0) (omega arith) inside in omega (arith, c, l, r)
+      by Next c l = let r = blocks-rise blocks sound (u .inst .0) (u .inst .0 + 1) (omega arith) (omega (arith, order, inside)) in omega (arith, c, l, r)
