@@ -27,7 +27,7 @@ use Rattle.links.proofs.Rows.{row-good, ends-rise, firsts-rise}
 use Rattle.links.proofs.Columns.{last-end}
 use Rattle.walks.specs.Uses.{frequencyAt}
 use Rattle.walks.specs.declared.uses.SplitUse.{SplitUse}
-use Rattle.gaps.specs.Gaps.{Gap, onSide, near, far, nearWeight, farWeights, farEnd, spanned, inOrder, cutGaps, frequencyOf, cuts, gapsBetween}
+use Rattle.gaps.specs.Gaps.{Gap, onSide, near, far, nearWeight, farWeights, farEnd, spanned, inOrder, cutGaps, frequencyOf, cuts, gapsBetween, ownGap}
 use Rattle.gaps.proofs.Cuts.{and-parts, all-enough}
 use Rattle.gaps.proofs.Spaces.{cut-gaps-length}
 use Rattle.gaps.proofs.Homes.{Home, home-of, home-only, homes-rise, At, at-home, at-edge, at-beyond, home-block, target-block, at-start, start-beyond, edge-beyond, home-reaches, blocks-rise}
@@ -320,3 +320,17 @@ module _ (blocks : List BlockRow) (sound : SoundBlocks blocks) (side : Side) (u 
       by : (side : Side) {n m : ℕ} → Between blocks sound side p q order inside weights side (blockOf blocks (onSide side (u .inst .0) (v .inst .0))) (blockOf blocks (home side (u .inst .0) (v .inst .0))) n → m ≡ suc n → m + blockOf blocks (u .inst .0) ≤ 1 + blockOf blocks (v .inst .0)
       by Previous c l = let r = blocks-rise blocks sound (v .inst .0 - 1) (v .inst .0) (omega arith) inside in omega (arith, c, l, r)
       by Next c l = let r = blocks-rise blocks sound (u .inst .0) (u .inst .0 + 1) (omega arith) (omega (arith, order, inside)) in omega (arith, c, l, r)
+
+-- the best use's own gap lies in one block
+pub own-least : (blocks : List BlockRow) → SoundBlocks blocks → (u : SplitUse) → u .inst .0 < startOf blocks (length blocks) → Least blocks (ownGap blocks u)
+unfolding frequencyAt
+own-least blocks sound u h =
+    record {
+      least = λ i p q. let z : i ≡ u .inst .0 = omega (arith, p, q) in ap (λ (x : ℕ). lt (frequencyAt blocks x) (frequencyAt blocks (u .inst .0))) z ∙ same;
+      inst = u .inst .0;
+      inside = (le-refl (u .inst .0), omega arith);
+      is = refl;
+    }
+  where
+    same : lt (frequencyAt blocks (u .inst .0)) (frequencyAt blocks (u .inst .0)) ≡ false
+    same = not-lower blocks sound (blockOf blocks (u .inst .0)) (blockOf blocks (u .inst .0)) (u .inst .0) (itself blocks sound (blockOf blocks (u .inst .0))) refl

@@ -8,3 +8,4 @@ pub mod Collected
 pub mod Homes
 pub mod Runs
 pub mod Chains
+pub mod GapTable

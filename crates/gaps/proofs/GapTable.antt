@@ -1,0 +1,103 @@
+-- The gaps of a use table: they follow one another from the first instruction to the last, each carries the least frequency it meets, and there are at most as many as uses and blocks together
+use mathlib.Core.Path.{_≡_, refl, sym, ap, _∙_, subst}
+use mathlib.Core.List.{List, [], _∷_, _++_}
+use Prim.Native.Nat.{ℕ, zero, suc, _+_, _-_, _≤_, _<_}
+use native.Mathlib.Nat.{le-refl}
+use native.Mathlib.Omega.{arith}
+use lib.Ieee.{lt}
+use lib.ListN.{length, length-append}
+use Rattle.links.specs.Blocks.{BlockRow, blockOf, startOf, SoundBlocks}
+use Rattle.links.specs.declared.lower.Side.{Side}
+use Rattle.links.specs.declared.lower.Side.the-variants.{Previous, Next}
+use Rattle.walks.specs.Uses.{frequencyAt}
+use Rattle.walks.specs.GapSegments.{joined}
+use Rattle.walks.specs.declared.uses.SplitUse.{SplitUse}
+use Rattle.gaps.specs.Gaps.{Gap, gapsBetween, ownGap, useOf, gapsOn, gapsOf}
+use Rattle.gaps.proofs.Homes.{home-of, blocks-rise}
+use Rattle.gaps.proofs.Runs.{Run, run-append, run-joined}
+use Rattle.gaps.proofs.Chains.{Each, each-append, Least, between-run, between-least, between-few, own-least}
+
+each-joined : (P : Gap → Type 0) (lists : ℕ → List Gap) (i n : ℕ) → ((k : ℕ) → i ≤ k → k < i + n → Each P (lists k)) → Each P (joined lists i n)
+unfolding joined
+each-joined P lists i zero h = tt
+each-joined P lists i (suc n) h =
+    each-append P (lists i) (joined lists (suc i) n) (h i (omega arith) (omega arith)) (each-joined P lists (suc i) n (λ k l m. h k (omega (arith, l)) (omega (arith, m))))
+
+-- lists of at most one more than a rise
+joined-few : (lists : ℕ → List Gap) (mark : ℕ → ℕ) (i n : ℕ) → ((k : ℕ) → i ≤ k → k < i + n → length (lists k) + mark k ≤ 1 + mark (k + 1)) → length (joined lists i n) + mark i ≤ n + mark (i + n)
+unfolding joined
+joined-few lists mark i zero h = let z : i ≡ i + zero = omega arith in let m = ap mark z in omega (arith, m)
+joined-few lists mark i (suc n) h =
+    let a : i + 1 ≡ suc i = omega arith in
+    let b : suc i + n ≡ i + suc n = omega arith in
+    let here = h i (omega arith) (omega arith) in
+    let there = joined-few lists mark (suc i) n (λ k l m. h k (omega (arith, l)) (omega (arith, m))) in
+    let l = length-append (lists i) (joined lists (suc i) n) in
+    let x = ap mark a in
+    let y = ap mark b in
+    omega (arith, here, there, l, x, y)
+
+-- a use table whose instructions rise inside the blocks
+pub record Rising (blocks : List BlockRow) (uses : List SplitUse) : Type 0 where
+  pub sound : SoundBlocks blocks
+  pub rises : (k : ℕ) → k + 1 < length uses → useOf uses k .inst .0 < useOf uses (k + 1) .inst .0
+  pub inside : (k : ℕ) → k < length uses → useOf uses k .inst .0 < startOf blocks (length blocks)
+
+module _ (blocks : List BlockRow) (uses : List SplitUse) (r : Rising blocks uses) (best : ℕ) (h : best < length uses) where
+  abbrev inst : ℕ → ℕ
+  inst k = useOf uses k .inst .0
+
+  abbrev last : ℕ
+  last = length uses - 1
+
+  abbrev right : ℕ
+  right = length uses - 1 - best
+
+  to-last : best + right ≡ last
+  to-last = omega (arith, h)
+
+  -- they follow one another from the first instruction to the last
+  pub gaps-run : Run (useOf uses 0 .inst .0) (useOf uses (length uses - 1) .inst .0 + 1) (gapsOf blocks uses best)
+  unfolding gapsOf
+  gaps-run =
+      let z : 0 + best ≡ best = omega arith in
+      run-append (inst 0) (inst best) (inst last + 1) (gapsOn Previous blocks uses 0 best) (ownGap blocks (useOf uses best) ∷ gapsOn Next blocks uses best right)
+      (subst (λ (x : ℕ). Run (inst 0) (inst x) (gapsOn Previous blocks uses 0 best)) z
+      (run-joined (λ k. gapsBetween Previous blocks (useOf uses k) (useOf uses (k + 1))) inst 0 best
+      (λ k l m. between-run blocks (r .sound) Previous (useOf uses k) (useOf uses (k + 1)) (r .rises k (omega (arith, m, h))) (r .inside (k + 1) (omega (arith, m, h))))))
+      (refl, omega arith,
+      subst (λ (x : ℕ). Run (inst best + 1) (inst x + 1) (gapsOn Next blocks uses best right)) to-last
+      (run-joined (λ k. gapsBetween Next blocks (useOf uses k) (useOf uses (k + 1))) (λ k. inst k + 1) best right
+      (λ k l m. between-run blocks (r .sound) Next (useOf uses k) (useOf uses (k + 1)) (r .rises k (omega (arith, m, h))) (r .inside (k + 1) (omega (arith, m, h))))))
+
+  -- each carries the least frequency among the blocks it meets
+  pub gaps-least : Each (Least blocks) (gapsOf blocks uses best)
+  unfolding gapsOf
+  gaps-least =
+      each-append (Least blocks) (gapsOn Previous blocks uses 0 best) (ownGap blocks (useOf uses best) ∷ gapsOn Next blocks uses best right)
+      (each-joined (Least blocks) (λ k. gapsBetween Previous blocks (useOf uses k) (useOf uses (k + 1))) 0 best
+      (λ k l m. between-least blocks (r .sound) Previous (useOf uses k) (useOf uses (k + 1)) (r .rises k (omega (arith, m, h))) (r .inside (k + 1) (omega (arith, m, h)))))
+      (own-least blocks (r .sound) (useOf uses best) (r .inside best h),
+      each-joined (Least blocks) (λ k. gapsBetween Next blocks (useOf uses k) (useOf uses (k + 1))) best right
+      (λ k l m. between-least blocks (r .sound) Next (useOf uses k) (useOf uses (k + 1)) (r .rises k (omega (arith, m, h))) (r .inside (k + 1) (omega (arith, m, h)))))
+
+  -- there are fewer than uses and blocks together
+  pub gaps-few : length (gapsOf blocks uses best) < length uses + length blocks
+  unfolding gapsOf
+  gaps-few =
+      let z : 0 + best ≡ best = omega arith in
+      let mark : ℕ → ℕ = λ k. blockOf blocks (inst k) in
+      let a = joined-few (λ k. gapsBetween Previous blocks (useOf uses k) (useOf uses (k + 1))) mark 0 best
+          (λ k l m. between-few blocks (r .sound) Previous (useOf uses k) (useOf uses (k + 1)) (r .rises k (omega (arith, m, h))) (r .inside (k + 1) (omega (arith, m, h)))) in
+      let b = joined-few (λ k. gapsBetween Next blocks (useOf uses k) (useOf uses (k + 1))) mark best right
+          (λ k l m. between-few blocks (r .sound) Next (useOf uses k) (useOf uses (k + 1)) (r .rises k (omega (arith, m, h))) (r .inside (k + 1) (omega (arith, m, h)))) in
+      let c = home-of blocks (r .sound) (inst last) (r .inside last (omega (arith, h))) .inside in
+      let l = length-append (gapsOn Previous blocks uses 0 best) (ownGap blocks (useOf uses best) ∷ gapsOn Next blocks uses best right) in
+      let x = ap mark z in
+      let y = ap mark to-last in
+      let w = to-last in
+      omega (arith, a, b, c, l, x, y, w, h)
+
+  pub gaps-some : 0 < length (gapsOf blocks uses best)
+  unfolding gapsOf
+  gaps-some = let l = length-append (gapsOn Previous blocks uses 0 best) (ownGap blocks (useOf uses best) ∷ gapsOn Next blocks uses best right) in omega (arith, l)
