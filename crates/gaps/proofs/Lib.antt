@@ -9,3 +9,4 @@ pub mod Homes
 pub mod Runs
 pub mod Chains
 pub mod GapTable
+pub mod Placed
