@@ -10,3 +10,4 @@ pub mod Runs
 pub mod Chains
 pub mod GapTable
 pub mod Placed
+pub mod JobGaps

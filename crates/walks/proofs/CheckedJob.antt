@@ -7,6 +7,7 @@ use native.Mathlib.Omega.{arith}
 use lib.Dec.{eqb}
 use lib.ListN.{length, getD}
 use borrow.Author.Tests.{eq-eqb}
+use Rattle.numbers.specs.Point.{instOf, roundUp}
 use Rattle.links.specs.Blocks.{blocksOf, startOf, SoundColumns}
 use Rattle.links.specs.First.{firstBelow}
 use Rattle.links.proofs.Firsts.{first-all}
@@ -132,6 +133,45 @@ module _ (job : Source) (checked : CheckedUses job) where
     where
       below : (s x y e : ℕ) → s < x → x % 4 ≡ 0 → x ≤ y → y ≡ 4 * e → x / 4 - 1 < e
       below s x y e n b l f = omega (arith, n, b, l, f)
+
+  -- they hold all live instructions: segment i's lie from the first instruction to the last
+  pub first-covers : (i : ℕ) → i < length (job .segments) → firstInst (job .segments) ≤ instOf (getD (job .segments) i noSegment .start)
+  unfolding firstInst
+  first-covers zero h = omega arith
+  first-covers (suc i) h =
+      let before = first-covers i (omega (arith, h)) in
+      let this = job-bounded i (omega (arith, h)) .nonempty in
+      let next = job-bounded (suc i) h .after in
+      onward (seg i .start) (seg i .end) (seg (suc i) .start) this next before
+    where
+      onward : {f : ℕ} (s e t : ℕ) → s < e → e ≤ t → f ≤ s / 4 → f ≤ t / 4
+      onward s e t p q r = omega (arith, p, q, r)
+
+  ends-before : (i k : ℕ) → i + k < length (job .segments) → seg i .end ≤ seg (i + k) .end
+  ends-before i zero h = let z : i + zero ≡ i = omega arith in let e = ap (λ (x : ℕ). seg x .end) z in omega (arith, e)
+  ends-before i (suc k) h =
+      let z : i + suc k ≡ suc (i + k) = omega arith in
+      let l : suc (i + k) < length (job .segments) = omega (arith, h) in
+      let before = ends-before i k (omega (arith, h)) in
+      let next = job-bounded (suc (i + k)) l .after in
+      let that = job-bounded (suc (i + k)) l .nonempty in
+      let e = ap (λ (x : ℕ). seg x .end) z in
+      omega (arith, before, next, that, e)
+
+  pub last-covers : (i : ℕ) → i < length (job .segments) → roundUp (getD (job .segments) i noSegment .end) ≤ lastInst (job .uses) (job .segments) + 1
+  last-covers i h =
+      let e : i + (z - i) ≡ z = omega (arith, h) in
+      let l = z-inside in
+      let b = ends-before i (z - i) (omega (arith, e, l)) in
+      let c = ap (λ (x : ℕ). seg x .end) e in
+      by-end (λ (p : ℕ). roundUp (seg i .end) ≤ p + 1) (λ o. out-covers (seg i .end) (seg z .end) (seg z .start) (omega (arith, b, c)) (o .boundary) (job-bounded z z-inside .nonempty))
+      (λ u. use-covers (seg i .end) (seg z .end) (omega (arith, b, c)) (u .near))
+    where
+      out-covers : (x y s : ℕ) → x ≤ y → y % 4 ≡ 0 → s < y → (x + 3) / 4 ≤ y / 4 - 1 + 1
+      out-covers x y s l m n = omega (arith, l, m, n)
+
+      use-covers : {p : ℕ} (x y : ℕ) → x ≤ y → (y + 3) / 4 ≤ p → (x + 3) / 4 ≤ p
+      use-covers x y l m = omega (arith, l, m)
 
   -- ---- what the code relies on
   pub job-starting : Starting (getD (job .segments) 0 noSegment)

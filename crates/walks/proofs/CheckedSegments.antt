@@ -20,7 +20,7 @@ use Rattle.walks.specs.GapSegments.{Valued}
 
 module _ (limits : Limits) (starts ends values firsts lasts flags : List ℕ) (blocks : limits .end ≤ 4 * endLimit)
     (passed : (i : ℕ) → i < length (segmentsOf starts ends values firsts lasts flags) → badSegment limits (segmentsOf starts ends values firsts lasts flags) i ≡ false) where
-  abbrev rows : List Segment
+  abbrev pub rows : List Segment
   rows = segmentsOf starts ends values firsts lasts flags
 
   abbrev lengths : List ℕ
@@ -37,17 +37,17 @@ module _ (limits : Limits) (starts ends values firsts lasts flags : List ℕ) (b
   field of column e i h =
       ap of (table-at (segmentRow starts ends values firsts lasts flags) (shortest lengths) i noSegment (lt-of-lt-of-le h (le-of-eq count))) ∙ e i ∙ sym (getD-take (length rows) column i 0 h)
 
-  start-at : (i : ℕ) → i < length rows → getD rows i noSegment .start ≡ getD (take (length rows) starts) i 0
+  pub start-at : (i : ℕ) → i < length rows → getD rows i noSegment .start ≡ getD (take (length rows) starts) i 0
   start-at = field (λ s. s .start) starts (λ i. refl)
 
-  end-at : (i : ℕ) → i < length rows → getD rows i noSegment .end ≡ getD (take (length rows) ends) i 0
+  pub end-at : (i : ℕ) → i < length rows → getD rows i noSegment .end ≡ getD (take (length rows) ends) i 0
   end-at = field (λ s. s .end) ends (λ i. refl)
 
   end-before : (i : ℕ) → i < length rows → rowBefore rows noSegment i .end ≡ rowBefore (take (length rows) ends) 0 i
   end-before zero h = refl
   end-before (suc i) h = end-at i (omega (arith, h))
 
-  starts-long : length (take (length rows) starts) ≡ length rows
+  pub starts-long : length (take (length rows) starts) ≡ length rows
   starts-long = long 0 starts (omega arith) refl
 
   there : {i : ℕ} → i < length (take (length rows) starts) → i < length rows
