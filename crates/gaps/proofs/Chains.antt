@@ -70,7 +70,7 @@ pub each-append : (P : Gap → Type 0) (gs hs : List Gap) → Each P gs → Each
 each-append P [] hs a b = b
 each-append P (g ∷ gs) hs a b = (a .0, each-append P gs hs (a .1) b)
 
-each-in-order : (P : Gap → Type 0) (side : Side) (g : Gap) (gs : List Gap) → P g → Each P gs → Each P (inOrder side g gs)
+pub each-in-order : (P : Gap → Type 0) (side : Side) (g : Gap) (gs : List Gap) → P g → Each P gs → Each P (inOrder side g gs)
 each-in-order P Previous g gs a b = each-append P gs (g ∷ []) b (a, tt)
 each-in-order P Next g gs a b = (a, b)
 

@@ -17,7 +17,7 @@ use Rattle.gaps.proofs.Homes.{home-of, blocks-rise}
 use Rattle.gaps.proofs.Runs.{Run, run-append, run-joined}
 use Rattle.gaps.proofs.Chains.{Each, each-append, Least, between-run, between-least, between-few, own-least}
 
-each-joined : (P : Gap → Type 0) (lists : ℕ → List Gap) (i n : ℕ) → ((k : ℕ) → i ≤ k → k < i + n → Each P (lists k)) → Each P (joined lists i n)
+pub each-joined : (P : Gap → Type 0) (lists : ℕ → List Gap) (i n : ℕ) → ((k : ℕ) → i ≤ k → k < i + n → Each P (lists k)) → Each P (joined lists i n)
 unfolding joined
 each-joined P lists i zero h = tt
 each-joined P lists i (suc n) h =
@@ -64,11 +64,13 @@ module _ (blocks : List BlockRow) (uses : List SplitUse) (r : Rising blocks uses
       run-append (inst 0) (inst best) (inst last + 1) (gapsOn Previous blocks uses 0 best) (ownGap blocks (useOf uses best) ∷ gapsOn Next blocks uses best right)
       (subst (λ (x : ℕ). Run (inst 0) (inst x) (gapsOn Previous blocks uses 0 best)) z
       (run-joined (λ k. gapsBetween Previous blocks (useOf uses k) (useOf uses (k + 1))) inst 0 best
-      (λ k l m. between-run blocks (r .sound) Previous (useOf uses k) (useOf uses (k + 1)) (r .rises k (omega (arith, m, h))) (r .inside (k + 1) (omega (arith, m, h))))))
-      (refl, omega arith,
-      subst (λ (x : ℕ). Run (inst best + 1) (inst x + 1) (gapsOn Next blocks uses best right)) to-last
-      (run-joined (λ k. gapsBetween Next blocks (useOf uses k) (useOf uses (k + 1))) (λ k. inst k + 1) best right
-      (λ k l m. between-run blocks (r .sound) Next (useOf uses k) (useOf uses (k + 1)) (r .rises k (omega (arith, m, h))) (r .inside (k + 1) (omega (arith, m, h))))))
+      (λ k l m. between-run blocks (r .sound) Previous (useOf uses k) (useOf uses (k + 1)) (r .rises k (omega (arith, m, h))) (r .inside (k + 1) (omega (arith, m, h)))))) (
+        refl,
+        omega arith,
+        subst (λ (x : ℕ). Run (inst best + 1) (inst x + 1) (gapsOn Next blocks uses best right)) to-last
+            (run-joined (λ k. gapsBetween Next blocks (useOf uses k) (useOf uses (k + 1))) (λ k. inst k + 1) best right
+            (λ k l m. between-run blocks (r .sound) Next (useOf uses k) (useOf uses (k + 1)) (r .rises k (omega (arith, m, h))) (r .inside (k + 1) (omega (arith, m, h))))),
+      )
 
   -- each carries the least frequency among the blocks it meets
   pub gaps-least : Each (Least blocks) (gapsOf blocks uses best)
@@ -76,10 +78,11 @@ module _ (blocks : List BlockRow) (uses : List SplitUse) (r : Rising blocks uses
   gaps-least =
       each-append (Least blocks) (gapsOn Previous blocks uses 0 best) (ownGap blocks (useOf uses best) ∷ gapsOn Next blocks uses best right)
       (each-joined (Least blocks) (λ k. gapsBetween Previous blocks (useOf uses k) (useOf uses (k + 1))) 0 best
-      (λ k l m. between-least blocks (r .sound) Previous (useOf uses k) (useOf uses (k + 1)) (r .rises k (omega (arith, m, h))) (r .inside (k + 1) (omega (arith, m, h)))))
-      (own-least blocks (r .sound) (useOf uses best) (r .inside best h),
-      each-joined (Least blocks) (λ k. gapsBetween Next blocks (useOf uses k) (useOf uses (k + 1))) best right
-      (λ k l m. between-least blocks (r .sound) Next (useOf uses k) (useOf uses (k + 1)) (r .rises k (omega (arith, m, h))) (r .inside (k + 1) (omega (arith, m, h)))))
+      (λ k l m. between-least blocks (r .sound) Previous (useOf uses k) (useOf uses (k + 1)) (r .rises k (omega (arith, m, h))) (r .inside (k + 1) (omega (arith, m, h))))) (
+        own-least blocks (r .sound) (useOf uses best) (r .inside best h),
+        each-joined (Least blocks) (λ k. gapsBetween Next blocks (useOf uses k) (useOf uses (k + 1))) best right
+            (λ k l m. between-least blocks (r .sound) Next (useOf uses k) (useOf uses (k + 1)) (r .rises k (omega (arith, m, h))) (r .inside (k + 1) (omega (arith, m, h)))),
+      )
 
   -- there are fewer than uses and blocks together
   pub gaps-few : length (gapsOf blocks uses best) < length uses + length blocks
@@ -88,9 +91,9 @@ module _ (blocks : List BlockRow) (uses : List SplitUse) (r : Rising blocks uses
       let z : 0 + best ≡ best = omega arith in
       let mark : ℕ → ℕ = λ k. blockOf blocks (inst k) in
       let a = joined-few (λ k. gapsBetween Previous blocks (useOf uses k) (useOf uses (k + 1))) mark 0 best
-          (λ k l m. between-few blocks (r .sound) Previous (useOf uses k) (useOf uses (k + 1)) (r .rises k (omega (arith, m, h))) (r .inside (k + 1) (omega (arith, m, h)))) in
+      (λ k l m. between-few blocks (r .sound) Previous (useOf uses k) (useOf uses (k + 1)) (r .rises k (omega (arith, m, h))) (r .inside (k + 1) (omega (arith, m, h)))) in
       let b = joined-few (λ k. gapsBetween Next blocks (useOf uses k) (useOf uses (k + 1))) mark best right
-          (λ k l m. between-few blocks (r .sound) Next (useOf uses k) (useOf uses (k + 1)) (r .rises k (omega (arith, m, h))) (r .inside (k + 1) (omega (arith, m, h)))) in
+      (λ k l m. between-few blocks (r .sound) Next (useOf uses k) (useOf uses (k + 1)) (r .rises k (omega (arith, m, h))) (r .inside (k + 1) (omega (arith, m, h)))) in
       let c = home-of blocks (r .sound) (inst last) (r .inside last (omega (arith, h))) .inside in
       let l = length-append (gapsOn Previous blocks uses 0 best) (ownGap blocks (useOf uses best) ∷ gapsOn Next blocks uses best right) in
       let x = ap mark z in

@@ -11,3 +11,5 @@ pub mod Chains
 pub mod GapTable
 pub mod Placed
 pub mod JobGaps
+pub mod GapWeights
+pub mod GapCases

@@ -111,7 +111,7 @@ module _ (f : Float → ℕ) where
           let right : ℕ = length uses - 1 - best in
           let l = placed-joined (λ k. gapsBetween Previous blocks (useOf uses k) (useOf uses (k + 1))) (λ k. beside k + main k) (λ k. placed-between Previous blocks (useOf uses k) (useOf uses (k + 1))) 0 best ∙ from-both beside main 0 best in
           let r = placed-joined (λ k. gapsBetween Next blocks (useOf uses k) (useOf uses (k + 1))) (λ k. beside k + main (k + 1)) (λ k. placed-between Next blocks (useOf uses k) (useOf uses (k + 1))) best right
-              ∙ from-both beside (λ k. main (k + 1)) best right ∙ ap (λ (x : ℕ). sumFrom beside best right + x) (from-next main best right) in
+          ∙ from-both beside (λ k. main (k + 1)) best right ∙ ap (λ (x : ℕ). sumFrom beside best right + x) (from-next main best right) in
           let a = placed-append (gapsOn Previous blocks uses 0 best) (ownGap blocks (useOf uses best) ∷ gapsOn Next blocks uses best right) in
           let n : best + right ≡ length uses - 1 = omega (arith, h) in
           let m : suc best + right ≡ length uses = omega (arith, h) in

@@ -198,7 +198,7 @@ fn cut_space(
         w = 0.0;
         b = lower;
     }
-    let f = block_frequency(freq, b);
+    let far_freq = block_frequency(freq, b);
     put_gap(
         from,
         to,
@@ -209,7 +209,7 @@ fn cut_space(
         edge,
         s.end,
         w + s.far + s.main,
-        f,
+        far_freq,
     );
     later(first, at) + 1
 }
@@ -322,6 +322,9 @@ pub fn collect_gaps(
     requires { ⌜ Rows (length (gapsOf (blocksOf (now freq) (now first) (now end)) (usesIn (useColumns (now inst) (now weight) (now «left_weight») (now «right_weight»))) best)) (columns (now from) (now to) (now «out_weight») (now «min_freq»)) × (length (gapsOf (blocksOf (now freq) (now first) (now end)) (usesIn (useColumns (now inst) (now weight) (now «left_weight») (now «right_weight»))) best) ≤ length (now live)) ⌝ }
     ensures { λ r. ⌜ GapsHeld (gapsOf (blocksOf (now (freq .entry)) (now (first .entry)) (now (end .entry))) (usesIn (useColumns (now (inst .entry)) (now (weight .entry)) (now («left_weight» .entry)) (now («right_weight» .entry)))) best) (columns (now (from .entry)) (now (to .entry)) (now («out_weight» .entry)) (now («min_freq» .entry))) (columns (now (from .exit)) (now (to .exit)) (now («out_weight» .exit)) (now («min_freq» .exit))) (now (live .entry)) (now (live .exit)) (r .rows) × (r .initial ≡ initialGap (blocksOf (now (freq .entry)) (now (first .entry)) (now (end .entry))) (usesIn (useColumns (now (inst .entry)) (now (weight .entry)) (now («left_weight» .entry)) (now («right_weight» .entry)))) best) ⌝ }
 {
+    // Cuts stand at the ends of blocks on the left, at their starts on the right.
+    let left_edges = end;
+    let right_edges = first;
     let initial = cut_side(
         Side::Previous,
         inst,
@@ -330,7 +333,7 @@ pub fn collect_gaps(
         right_weight,
         freq,
         end,
-        end,
+        left_edges,
         prev_lower_freq,
         from,
         to,
@@ -350,7 +353,7 @@ pub fn collect_gaps(
         right_weight,
         freq,
         end,
-        first,
+        right_edges,
         next_lower_freq,
         from,
         to,

@@ -78,7 +78,14 @@ shared-slice-read-e c =
     omega (arith, e .edges-long, e .links-long, i)
 
 block-frequency-requires : tie.Need-block-frequency-requires Inv-loop μ-loop
-block-frequency-requires c κs = let h = c .before .before .before .before .before .before .loop .inv .inside in let l = c .before .before .before .before .before .before .loop .inv .alike .links-long in omega (arith, h, l)
+block-frequency-requires c κs =
+    let a = c .before .before .before .before .before .before .before .before .before .before .before .before .before .before .before .before .before .args in
+    let l = c .before .before .before .before .before .before .loop in
+    let m = storing-next (a .side) (a .freq .now) (a .edges .now) (a .links .now) (a .s) (a .n) (columns (a .from .now) (a .to .now) (a .weight .now) (a .min-freq .now)) (columns (l .from) (l .to) (l .weight) (l .min-freq)) (l .b .0) (l .at) (l .edge) (l .w) (l .inv) (c .before .before .before .lower .given .0 .0 .0) (sym (c .before .before .before .before .before .next-cut .ensures) ∙ c .before .before .before .lower .given .1) in
+    let h = l .inv .inside in
+    let e = l .inv .alike .links-long in
+    let i = m .2 in
+    omega (arith, h, e, i)
 
 put-gap-requires : tie.Need-put-gap-requires Inv-loop μ-loop
 put-gap-requires c κs = let a = c .before .before .before .before .before .before .before .before .before .before .before .before .before .before .before .before .before .before .before .before .before .before .args in let l = c .before .before .before .before .before .before .before .before .before .before .before .loop in row-inside (a .side) (a .freq .now) (a .edges .now) (a .links .now) (a .s) (a .n) (columns (a .from .now) (a .to .now) (a .weight .now) (a .min-freq .now)) (columns (l .from) (l .to) (l .weight) (l .min-freq)) (l .b .0) (l .at) (l .edge) (l .w) (l .inv)
