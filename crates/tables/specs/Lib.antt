@@ -1,0 +1,2 @@
+-- The work tables of a job
+pub mod GapTables
