@@ -7,9 +7,10 @@ ghost use Prim.Native.Nat.{_≤_};
 ghost use lib.ListN.{length};
 ghost use Rattle.links.specs.Blocks.{blocksOf};
 ghost use Rattle.walks.specs.UseColumns.{columns as useColumns};
-ghost use Rattle.walks.specs.GapSegments.{Valued, columns as segmentColumns};
+ghost use Rattle.links.specs.Table.{filled};
+ghost use Rattle.walks.specs.Live.{Gaps, Uncounted, liveColumn};
+ghost use Rattle.walks.specs.GapSegments.{Valued, gapSegments, columns as segmentColumns, Room, Filled};
 ghost use Rattle.gaps.specs.Gaps.{gapsOf, initialGap, usesIn, Cuttable};
-ghost use Rattle.gaps.specs.GapColumns.{columns as gapColumns};
 ghost use Rattle.tables.specs.GapTables.{lentTables, GapRoom, GapsFilled};
 
 // How many gaps there are, which is the best use's own, and how many gap segments there are.
@@ -17,6 +18,38 @@ pub struct GapTables {
     pub gaps: usize,
     pub initial: usize,
     pub segments: usize,
+}
+
+// Counts the gaps' live instructions and fills the gap segments, of gaps in which nothing is counted yet. Answers how many gap
+// segments there are.
+fn fill_segments(
+    start: &[u32],
+    segment_end: &[u32],
+    value: &[u32],
+    from: &[u32],
+    to: &[u32],
+    live: &mut [u32],
+    out_from: &mut [u32],
+    out_to: &mut [u32],
+    out_value: &mut [u32],
+    out_gap: &mut [u32],
+) -> usize
+    requires { ⌜ Valued (now start) (now «segment_end») (now value) × Gaps (now from) (now to) × Uncounted (length (now from)) (now live) ⌝ }
+    requires { ⌜ Room (length (gapSegments (now from) (now to) (now start) (now «segment_end») (now value))) (segmentColumns (now «out_from») (now «out_to») (now «out_value») (now «out_gap») 0) ⌝ }
+    ensures { λ r. ⌜ (now (live .exit) ≡ filled (liveColumn (now (start .entry)) (now («segment_end» .entry)) (now (from .entry)) (now (to .entry))) (now (live .entry))) × Filled (gapSegments (now (from .entry)) (now (to .entry)) (now (start .entry)) (now («segment_end» .entry)) (now (value .entry))) (segmentColumns (now («out_from» .entry)) (now («out_to» .entry)) (now («out_value» .entry)) (now («out_gap» .entry)) 0) (segmentColumns (now («out_from» .exit)) (now («out_to» .exit)) (now («out_value» .exit)) (now («out_gap» .exit)) r) ⌝ }
+{
+    count_live_insts(start, segment_end, from, to, live);
+    build_gap_segments(
+        start,
+        segment_end,
+        value,
+        from,
+        to,
+        out_from,
+        out_to,
+        out_value,
+        out_gap,
+    )
 }
 
 // Fills the gap table and the gap segments of a use table around its best use. The rows past those used stay.
@@ -66,13 +99,13 @@ pub fn fill_gaps(
         min_freq,
     );
     let n = g.rows;
-    count_live_insts(start, segment_end, &from[..n], &to[..n], live);
-    let segments = build_gap_segments(
+    let segments = fill_segments(
         start,
         segment_end,
         value,
         &from[..n],
         &to[..n],
+        live,
         out_from,
         out_to,
         out_value,

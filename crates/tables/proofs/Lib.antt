@@ -1,0 +1,3 @@
+-- Why the tables are right
+pub mod Fillings
+pub mod GapFilling
