@@ -1,0 +1,6 @@
+-- What the walkers share
+pub mod Uses
+pub mod Top
+pub mod Seen
+pub mod OneUnit
+pub mod AllUnits

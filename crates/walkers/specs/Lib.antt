@@ -1,0 +1,3 @@
+-- What a gap segment meets among a register's reservations, and where a walker stands
+pub mod Meeting
+pub mod Standing

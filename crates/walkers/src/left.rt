@@ -1,0 +1,138 @@
+// To the left: gap segments come in falling order.
+use crate::meeting::GapSegment;
+use crate::meeting::Met;
+use crate::meeting::Register;
+use crate::meeting::look;
+use jobs::rows::reservation_at;
+use jobs::rows::reservation_count;
+use numbers::Unit;
+ghost use mathlib.Core.Path.{_≡_};
+ghost use Prim.Native.Nat.{_+_, _<_, _≤_};
+ghost use lib.ListN.{length, getD};
+ghost use Rattle.numbers.specs.Weight.{Weight};
+ghost use Rattle.jobs.specs.Rows.{reservationsOf, fixedUsesOf};
+ghost use Rattle.walkers.specs.Meeting.{reservedOf, fixedMet, heaviestMet, alsoMet, oneUnit};
+ghost use Rattle.walkers.specs.Standing.{Ready, Known, UsesFrom, Beyond, StandsLeft};
+
+// The row after the next gap segment's, and for each unit of the register, in turn, the row after the last that may meet it and where the
+// fixed uses begin.
+pub struct LeftWalker {
+    pub next: usize,
+    pub at: [usize; 8],
+    pub uses: [usize; 8],
+}
+
+// Whether a gap segment meets something fixed, the heaviest weight so far, and the walker behind it.
+pub struct TookLeft {
+    pub fixed: bool,
+    pub heaviest: f32,
+    pub walker: LeftWalker,
+}
+
+// What was met, and where the walk stands in the unit.
+pub struct WalkedLeft {
+    pub at: usize,
+    pub met: Met,
+}
+
+// One unit: the rows before `at`, down to one that starts before the segment. That one may meet the next segment too.
+fn walk_left(
+    unit: &[u32],
+    start: &[u32],
+    end: &[u32],
+    kind: &[u32],
+    index: &[u32],
+    fixed: &[u32],
+    f_unit: &[u32],
+    f_point: &[u32],
+    f_value: &[u32],
+    weight: &[u32],
+    u: Unit,
+    at: usize,
+    from: usize,
+    s: GapSegment,
+    met: Met,
+) -> WalkedLeft
+    requires { ⌜ Ready (reservedOf (now unit) (now start) (now end) (now kind) (now index) (now fixed) (now «f_unit») (now «f_point») (now «f_value») (now weight)) ⌝ }
+    requires { ⌜ Beyond (reservationsOf (now unit) (now start) (now end) (now kind) (now index) (now fixed)) (u .0) (s .to .0) at ⌝ }
+    requires { ⌜ UsesFrom (fixedUsesOf (now «f_unit») (now «f_point») (now «f_value»)) (u .0) from ⌝ }
+    requires { ⌜ (s .from .0 < s .to .0) × Weight (met .heaviest) ⌝ }
+    ensures { λ r. ⌜ (r .met ≡ alsoMet (oneUnit (u .0)) (reservedOf (now (unit .entry)) (now (start .entry)) (now (end .entry)) (now (kind .entry)) (now (index .entry)) (now (fixed .entry)) (now («f_unit» .entry)) (now («f_point» .entry)) (now («f_value» .entry)) (now (weight .entry))) s met) × Beyond (reservationsOf (now (unit .entry)) (now (start .entry)) (now (end .entry)) (now (kind .entry)) (now (index .entry)) (now (fixed .entry))) (u .0) (s .from .0) (r .at) ⌝ }
+{
+    let mut i = at;
+    let mut met = met;
+    while i > 0 {
+        let r = reservation_at(unit, start, end, kind, index, fixed, i - 1);
+        if r.unit != u.0 {
+            return WalkedLeft { at: i, met };
+        }
+        met = look(f_unit, f_point, f_value, weight, from, r, s, met);
+        if r.start < s.from.0 {
+            return WalkedLeft { at: i, met };
+        }
+        i -= 1;
+    }
+    WalkedLeft { at: i, met }
+}
+
+impl LeftWalker {
+    // One gap segment, in all units of the register.
+    pub fn take_segment(
+        mut self,
+        unit: &[u32],
+        start: &[u32],
+        end: &[u32],
+        kind: &[u32],
+        index: &[u32],
+        fixed: &[u32],
+        f_unit: &[u32],
+        f_point: &[u32],
+        f_value: &[u32],
+        weight: &[u32],
+        register: Register,
+        s: GapSegment,
+        heaviest: f32,
+    ) -> TookLeft
+        requires { ⌜ Ready (reservedOf (now unit) (now start) (now end) (now kind) (now index) (now fixed) (now «f_unit») (now «f_point») (now «f_value») (now weight)) ⌝ }
+        requires { ⌜ Known register × StandsLeft register (reservedOf (now unit) (now start) (now end) (now kind) (now index) (now fixed) (now «f_unit») (now «f_point») (now «f_value») (now weight)) (s .to .0) self ⌝ }
+        requires { ⌜ (s .from .0 < s .to .0) × Weight heaviest ⌝ }
+        ensures { λ r. ⌜ (r .fixed ≡ fixedMet register (reservedOf (now (unit .entry)) (now (start .entry)) (now (end .entry)) (now (kind .entry)) (now (index .entry)) (now (fixed .entry)) (now («f_unit» .entry)) (now («f_point» .entry)) (now («f_value» .entry)) (now (weight .entry))) s) × (r .heaviest ≡ heaviestMet register (reservedOf (now (unit .entry)) (now (start .entry)) (now (end .entry)) (now (kind .entry)) (now (index .entry)) (now (fixed .entry)) (now («f_unit» .entry)) (now («f_point» .entry)) (now («f_value» .entry)) (now (weight .entry))) s heaviest) × (r .walker .next ≡ self .next) × StandsLeft register (reservedOf (now (unit .entry)) (now (start .entry)) (now (end .entry)) (now (kind .entry)) (now (index .entry)) (now (fixed .entry)) (now («f_unit» .entry)) (now («f_point» .entry)) (now («f_value» .entry)) (now (weight .entry))) (s .from .0) (r .walker) ⌝ }
+    {
+        let mut at = self.at;
+        let uses = self.uses;
+        let mut met = Met {
+            fixed: false,
+            heaviest,
+        };
+        let mut v: u32 = 0;
+        while v < register.units {
+            let i = v as usize;
+            let w = walk_left(
+                unit,
+                start,
+                end,
+                kind,
+                index,
+                fixed,
+                f_unit,
+                f_point,
+                f_value,
+                weight,
+                Unit(register.first.0 + v),
+                at[i],
+                uses[i],
+                s,
+                met,
+            );
+            met = w.met;
+            at[i] = w.at;
+            v += 1;
+        }
+        self.at = at;
+        TookLeft {
+            fixed: met.fixed,
+            heaviest: met.heaviest,
+            walker: self,
+        }
+    }
+}

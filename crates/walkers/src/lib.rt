@@ -1,0 +1,4 @@
+// Walkers: what gap segments meet among one physical register's reservations, to the left and to the right.
+pub mod left;
+pub mod meeting;
+pub mod right;
