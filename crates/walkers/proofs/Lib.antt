@@ -4,3 +4,4 @@ pub mod Top
 pub mod Seen
 pub mod OneUnit
 pub mod AllUnits
+pub mod Begin

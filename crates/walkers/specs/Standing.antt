@@ -52,14 +52,23 @@ pub record Beyond (rows : List Reservation) (unit point at : ℕ) : Type 0 where
   pub begun : (k : ℕ) → at ≤ k → k < length rows → getD rows k noReservation .unit ≡ unit → point ≤ getD rows k noReservation .start
 
 -- a walker to the right is behind a point in each unit of the register, and knows where each unit's fixed uses begin; and one to the left
-pub record StandsRight (p : Register) (t : Reserved) (point : ℕ) (w : RightWalker) : Type 0 where
+pub record StandsRight (p : Register) (rows : List Reservation) (fixedUses : List FixedUse) (point : ℕ) (w : RightWalker) : Type 0 where
   pub eight : length (w .at) ≡ 8
   pub eight-uses : length (w .uses) ≡ 8
-  pub behind : (v : ℕ) → v < p .units → Behind (t .rows) (p .first .0 + v) point (getD (w .at) v 0)
-  pub from : (v : ℕ) → v < p .units → UsesFrom (t .fixedUses) (p .first .0 + v) (getD (w .uses) v 0)
+  pub behind : (v : ℕ) → v < p .units → Behind rows (p .first .0 + v) point (getD (w .at) v 0)
+  pub from : (v : ℕ) → v < p .units → UsesFrom fixedUses (p .first .0 + v) (getD (w .uses) v 0)
 
-pub record StandsLeft (p : Register) (t : Reserved) (point : ℕ) (w : LeftWalker) : Type 0 where
+pub record StandsLeft (p : Register) (rows : List Reservation) (fixedUses : List FixedUse) (point : ℕ) (w : LeftWalker) : Type 0 where
   pub eight : length (w .at) ≡ 8
   pub eight-uses : length (w .uses) ≡ 8
-  pub beyond : (v : ℕ) → v < p .units → Beyond (t .rows) (p .first .0 + v) point (getD (w .at) v 0)
-  pub from : (v : ℕ) → v < p .units → UsesFrom (t .fixedUses) (p .first .0 + v) (getD (w .uses) v 0)
+  pub beyond : (v : ℕ) → v < p .units → Beyond rows (p .first .0 + v) point (getD (w .at) v 0)
+  pub from : (v : ℕ) → v < p .units → UsesFrom fixedUses (p .first .0 + v) (getD (w .uses) v 0)
+
+-- ---- for contracts of private functions
+-- a unit's rows stand from one to before another
+pub record RowsOfUnit (rows : List Reservation) (unit from to : ℕ) : Type 0 where
+  pub order : from ≤ to
+  pub inside : to ≤ length rows
+  pub before : (k : ℕ) → k < from → getD rows k noReservation .unit < unit
+  pub own : (k : ℕ) → from ≤ k → k < to → getD rows k noReservation .unit ≡ unit
+  pub later : (k : ℕ) → to ≤ k → k < length rows → unit < getD rows k noReservation .unit

@@ -2,3 +2,4 @@
 pub mod left;
 pub mod meeting;
 pub mod right;
+pub mod units;
