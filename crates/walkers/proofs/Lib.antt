@@ -5,3 +5,4 @@ pub mod Seen
 pub mod OneUnit
 pub mod AllUnits
 pub mod Begin
+pub mod Checked
