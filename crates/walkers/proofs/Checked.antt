@@ -87,7 +87,7 @@ module _ (limits : Limits) (fixedUses : List FixedUse) (rows : List Reservation)
   apart i zero h l e = absurd (not-suc-le-zero h)
   apart i (suc k) h l e =
       let same : getD rows k noReservation .unit ≡ getD rows (suc k) noReservation .unit =
-          le-antisymm (units-rise k (suc k) (next k) l) (le-trans (le-of-eq (sym e)) (units-rise i k (le-of-suc-le-suc h) (pred k (length rows) l))) in
+      le-antisymm (units-rise k (suc k) (next k) l) (le-trans (le-of-eq (sym e)) (units-rise i k (le-of-suc-le-suc h) (pred k (length rows) l))) in
       let here = row-spanned (suc k) l .after (sym same) in
       ⊎-elim (λ m. le-trans (apart i k m (pred k (length rows) l) (e ∙ sym same)) (le-trans (le-of-lt (row-spanned k (pred k (length rows) l) .nonempty)) here))
       (λ m. le-trans (le-of-eq (ap (λ (j : ℕ). getD rows j noReservation .end) (le-antisymm (le-of-suc-le-suc h) m))) here) (split i k)
@@ -136,7 +136,7 @@ module _ (limits : Limits) (fixedUses : List FixedUse) (passed : (i : ℕ) → i
   points-rise i (suc k) h l e =
       ⊎-elim
       (λ m. let same : getD fixedUses k noFixedUse .unit ≡ getD fixedUses (suc k) noFixedUse .unit =
-          le-antisymm (use-units-rise k (suc k) (next k) l) (le-trans (le-of-eq (sym e)) (use-units-rise i k (le-of-suc-le-suc m) (pred k (length fixedUses) l))) in
+      le-antisymm (use-units-rise k (suc k) (next k) l) (le-trans (le-of-eq (sym e)) (use-units-rise i k (le-of-suc-le-suc m) (pred k (length fixedUses) l))) in
       le-trans (points-rise i k (le-of-suc-le-suc m) (pred k (length fixedUses) l) (e ∙ sym same)) (use-placed (suc k) l .after (sym same)))
       (λ m. le-of-eq (ap (λ (j : ℕ). getD fixedUses j noFixedUse .point) (le-antisymm h m))) (split i (suc k))
     where

@@ -6,3 +6,5 @@ pub mod OneUnit
 pub mod AllUnits
 pub mod Begin
 pub mod Checked
+pub mod GapSegments
+pub mod GapWalk

@@ -29,13 +29,13 @@ use Rattle.walkers.proofs.Top.{Top, top-only, top-none, top-more, top-a
 abbrev pub bit : Bool → ℕ
 bit b = cond b 1 0
 
-bit-or : (a b : Bool) → bit (a || b) ≡ max (bit a) (bit b)
+pub bit-or : (a b : Bool) → bit (a || b) ≡ max (bit a) (bit b)
 bit-or true true = refl
 bit-or true false = refl
 bit-or false true = refl
 bit-or false false = refl
 
-bit-only : (a b : Bool) → bit a ≡ bit b → a ≡ b
+pub bit-only : (a b : Bool) → bit a ≡ bit b → a ≡ b
 bit-only true true e = refl
 bit-only true false e = absurd (omega (arith, e))
 bit-only false true e = absurd (omega (arith, e))
@@ -144,7 +144,7 @@ apart-and true true c e = ⊎-elim (λ x. x) (λ x. x) (⊎-elim (λ x. inl (abs
 apart-and true false c e = refl
 apart-and false b c e = refl
 
-made : Bool → Float → Met
+unfoldable pub made : Bool → Float → Met
 made b x = record { fixed = b; heaviest = x }
 
 module _ (p : Register) (t : Reserved) (s : GapSegment) where
@@ -211,6 +211,11 @@ module _ (p : Register) (t : Reserved) (s : GapSegment) where
         fixed = top-all (All t) more (λ i l. ⊎-elim (λ x. inl x) (λ x. inr (apart-fixed i x)) (only i l)) (k .fixed);
         heaviest = top-all (All t) more (λ i l. ⊎-elim (λ x. inl x) (λ x. inr (apart-weight i x)) (only i l)) (k .heaviest);
       }
+
+  -- what is met are weights
+  pub met-weights : Weights (weightsMet p t s)
+  unfolding weightsMet
+  met-weights = where-weights (weighsAgainst p s) (t .weights) (t .rows)
 
   -- the definitions are what all rows count
   pub met-seen : (m : Met) → Weight (m .heaviest) → Seen p t s (All t) m (alsoMet p t s m)

@@ -1,9 +1,10 @@
 -- The largest of a number and of what the rows of a set count, in any order: the direction of a walk is the set of rows that it has passed
-use mathlib.Core.Path.{_≡_, refl, sym, ap, _∙_, subst, subst⁻¹}
+use mathlib.Core.Path.{_≡_, refl, ap, subst}
 use mathlib.Core.Logic.{_⊎_, inl, inr, ⊎-elim}
-use Prim.Native.Nat.{ℕ, _≤_, _<_, max}
-use native.Mathlib.Nat.{le-refl, le-trans, le-of-eq, le-antisymm}
+use Prim.Native.Nat.{ℕ, zero, suc, _≤_, _<_, max}
+use native.Mathlib.Nat.{le-refl, le-trans, le-antisymm, not-suc-le-zero}
 use native.Mathlib.Omega.{arith}
+use Rattle.links.proofs.Firsts.{split}
 
 pub record Top (count : ℕ → ℕ) (P : ℕ → Type 0) (h x : ℕ) : Type 0 where
   pub kept : h ≤ x
@@ -69,3 +70,26 @@ top-join {a} {b} {P} {h} {x} {y} count e s t =
 
     right : (a b c m : ℕ) → c ≡ max a b → c ≤ m → b ≤ m
     right a b c m e l = omega arith
+
+-- what is built row by row is the largest of all rows below n
+pub top-built : (count whole : ℕ → ℕ) → whole 0 ≡ 0 → ((n : ℕ) → whole (suc n) ≡ max (whole n) (count n)) → (n h x : ℕ) → x ≡ max h (whole n) → Top count (λ (k : ℕ). k < n) h x
+top-built count whole none next zero h x e =
+    subst (λ (y : ℕ). Top count (λ (k : ℕ). k < 0) h y) (kept h (whole 0) x none e) (top-none h (λ k l. absurd (not-suc-le-zero l)))
+  where
+    kept : (h z x : ℕ) → z ≡ 0 → x ≡ max h z → h ≡ x
+    kept h z x p q = omega arith
+top-built count whole none next (suc n) h x e =
+    top-more (λ (k : ℕ). k < suc n) n x (λ k l. ⊎-elim (λ y. inl y) (λ y. inr (same k n l y)) (split k n)) (λ k l. up k n l) (here n)
+    (joined h (whole n) (count n) (whole (suc n)) x (next n) e) (top-built count whole none next n h (max h (whole n)) refl)
+  where
+    same : (k n : ℕ) → k < suc n → n ≤ k → k ≡ n
+    same k n p q = omega arith
+
+    up : (k n : ℕ) → k < n → k < suc n
+    up k n l = omega arith
+
+    here : (n : ℕ) → n < suc n
+    here n = omega arith
+
+    joined : (h a c z x : ℕ) → z ≡ max a c → x ≡ max h z → x ≡ max (max h a) c
+    joined h a c z x p q = omega arith

@@ -119,7 +119,7 @@ fn counts_as_fixed(
     r.index != s.value.0
 }
 
-fn either(a: bool, b: bool) -> bool
+pub(crate) fn either(a: bool, b: bool) -> bool
     ensures { λ r. ⌜ r ≡ (a || b) ⌝ }
 {
     if a {

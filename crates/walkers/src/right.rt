@@ -1,7 +1,10 @@
 // To the right: gap segments come in rising order.
+use crate::gaps::is_of_gap;
+use crate::gaps::segment_at;
 use crate::meeting::GapSegment;
 use crate::meeting::Met;
 use crate::meeting::Register;
+use crate::meeting::either;
 use crate::meeting::look;
 use crate::units::first_use;
 use crate::units::rows_of_unit;
@@ -15,7 +18,8 @@ ghost use Prim.Native.Nat.{_+_, _<_, _≤_};
 ghost use lib.ListN.{length, getD};
 ghost use Rattle.numbers.specs.Weight.{Weight};
 ghost use Rattle.jobs.specs.Rows.{reservationsOf, fixedUsesOf};
-ghost use Rattle.walkers.specs.Meeting.{reservedOf, fixedMet, heaviestMet, alsoMet, oneUnit};
+ghost use Rattle.walkers.specs.Meeting.{reservedOf, fixedMet, fixedMetAny, heaviestMet, alsoMet, oneUnit};
+ghost use Rattle.walkers.specs.Gaps.{gapColumns, segmentsOfGap, heaviestInGap, OrderedGaps, RightAt};
 ghost use Rattle.walkers.specs.Standing.{OrderedRows, OrderedUses, Ready, Known, UsesFrom, Behind, StandsRight};
 
 // The next gap segment's row, and for each unit of the register, in turn, the first row that may meet it and where the fixed uses begin.
@@ -186,6 +190,71 @@ impl RightWalker {
             v += 1;
         }
         self.at = at;
+        TookRight {
+            fixed: met.fixed,
+            heaviest: met.heaviest,
+            walker: self,
+        }
+    }
+
+    // The gap segments of one gap, from the next row on.
+    pub fn take_gap(
+        mut self,
+        unit: &[u32],
+        start: &[u32],
+        end: &[u32],
+        kind: &[u32],
+        index: &[u32],
+        fixed: &[u32],
+        f_unit: &[u32],
+        f_point: &[u32],
+        f_value: &[u32],
+        weight: &[u32],
+        out_from: &[u32],
+        out_to: &[u32],
+        out_value: &[u32],
+        out_gap: &[u32],
+        used: usize,
+        register: Register,
+        gap: u32,
+        heaviest: f32,
+    ) -> TookRight
+        requires { ⌜ Ready (reservedOf (now unit) (now start) (now end) (now kind) (now index) (now fixed) (now «f_unit») (now «f_point») (now «f_value») (now weight)) ⌝ }
+        requires { ⌜ Known register × Weight heaviest ⌝ }
+        requires { ⌜ OrderedGaps (gapColumns (now «out_from») (now «out_to») (now «out_value») (now «out_gap») used) × RightAt register (reservationsOf (now unit) (now start) (now end) (now kind) (now index) (now fixed)) (fixedUsesOf (now «f_unit») (now «f_point») (now «f_value»)) (gapColumns (now «out_from») (now «out_to») (now «out_value») (now «out_gap») used) gap self ⌝ }
+        ensures { λ r. ⌜ (r .fixed ≡ fixedMetAny register (reservedOf (now (unit .entry)) (now (start .entry)) (now (end .entry)) (now (kind .entry)) (now (index .entry)) (now (fixed .entry)) (now («f_unit» .entry)) (now («f_point» .entry)) (now («f_value» .entry)) (now (weight .entry))) (segmentsOfGap (gapColumns (now («out_from» .entry)) (now («out_to» .entry)) (now («out_value» .entry)) (now («out_gap» .entry)) used) gap)) × (r .heaviest ≡ heaviestInGap register (reservedOf (now (unit .entry)) (now (start .entry)) (now (end .entry)) (now (kind .entry)) (now (index .entry)) (now (fixed .entry)) (now («f_unit» .entry)) (now («f_point» .entry)) (now («f_value» .entry)) (now (weight .entry))) (gapColumns (now («out_from» .entry)) (now («out_to» .entry)) (now («out_value» .entry)) (now («out_gap» .entry)) used) gap heaviest) × RightAt register (reservationsOf (now (unit .entry)) (now (start .entry)) (now (end .entry)) (now (kind .entry)) (now (index .entry)) (now (fixed .entry))) (fixedUsesOf (now («f_unit» .entry)) (now («f_point» .entry)) (now («f_value» .entry))) (gapColumns (now («out_from» .entry)) (now («out_to» .entry)) (now («out_value» .entry)) (now («out_gap» .entry)) used) (gap + 1) (r .walker) ⌝ }
+    {
+        let mut met = Met {
+            fixed: false,
+            heaviest,
+        };
+        let mut i = self.next;
+        while is_of_gap(out_gap, used, gap, i) {
+            let s = segment_at(out_from, out_to, out_value, i);
+            let t = self.take_segment(
+                unit,
+                start,
+                end,
+                kind,
+                index,
+                fixed,
+                f_unit,
+                f_point,
+                f_value,
+                weight,
+                register,
+                s,
+                met.heaviest,
+            );
+            met = Met {
+                fixed: either(met.fixed, t.fixed),
+                heaviest: t.heaviest,
+            };
+            let w = t.walker;
+            self = w;
+            i += 1;
+        }
+        self.next = i;
         TookRight {
             fixed: met.fixed,
             heaviest: met.heaviest,
