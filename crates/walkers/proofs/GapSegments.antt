@@ -47,11 +47,15 @@ module _ (p : Register) (t : Reserved) where
   all-append [] ys = refl
   all-append (x ∷ xs) ys = ap (λ (l : List Float). weightsMet p t x ++ l) (all-append xs ys) ∙ sym (append-assoc (weightsMet p t x) (weightsMetAll p t xs) (weightsMetAll p t ys))
 
+  pub fixed-append : (xs ys : List GapSegment) → fixedMetAny p t (xs ++ ys) ≡ (fixedMetAny p t xs || fixedMetAny p t ys)
+  unfolding fixedMetAny
+  fixed-append xs ys = any-append (fixedMet p t) xs ys
+
   -- in units: one gap segment, and two lists of them
-  abbrev heaviestAll : List GapSegment → ℕ
+  abbrev pub heaviestAll : List GapSegment → ℕ
   heaviestAll xs = unitsOf (heaviest (weightsMetAll p t xs))
 
-  units-append : (xs ys : List GapSegment) → heaviestAll (xs ++ ys) ≡ max (heaviestAll ys) (heaviestAll xs)
+  pub units-append : (xs ys : List GapSegment) → heaviestAll (xs ++ ys) ≡ max (heaviestAll ys) (heaviestAll xs)
   units-append xs ys =
       ap (λ (l : List Float). unitsOf (heaviest l)) (all-append xs ys)
       ∙ ap unitsOf (heaviest-append (weightsMetAll p t xs) (weightsMetAll p t ys) (all-weights xs) (all-weights ys))

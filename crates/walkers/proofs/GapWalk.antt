@@ -19,7 +19,7 @@ use Rattle.walkers.specs.declared.right.RightWalker.{RightWalker}
 use Rattle.walkers.specs.declared.left.LeftWalker.{LeftWalker}
 use Rattle.walkers.specs.Meeting.{Reserved, alsoMet}
 use Rattle.walkers.specs.Standing.{StandsRight, StandsLeft}
-use Rattle.walkers.specs.Gaps.{GapColumns, segmentIn, ofGap, OrderedGaps, GapsFrom, isOfGap, lastIsOfGap}
+use Rattle.walkers.specs.Gaps.{GapColumns, segmentIn, ofGap, OrderedGaps, GapsFrom, RightAt, LeftAt, isOfGap, lastIsOfGap}
 use Rattle.walkers.proofs.OneUnit.{behind-later, beyond-earlier}
 use Rattle.walkers.proofs.GapSegments.{SeenGap, gap-none, gap-more, gap-all}
 
@@ -35,6 +35,15 @@ right-moved n s = record { eight = s .eight; eight-uses = s .eight-uses; behind 
 
 pub left-moved : {p : Register} {rows : List Reservation} {fixedUses : List FixedUse} {a : ℕ} {w : LeftWalker} (n : ℕ) → StandsLeft p rows fixedUses a w → StandsLeft p rows fixedUses a (record { next = n; at = w .at; uses = w .uses })
 left-moved n s = record { eight = s .eight; eight-uses = s .eight-uses; beyond = s .beyond; from = s .from }
+
+-- a new walker stands at its gap, if the gap segments that come start at or past its point, or end at or before it
+pub right-begins : {p : Register} {rows : List Reservation} {fixedUses : List FixedUse} (g : GapColumns) (gap point : ℕ) (w : RightWalker)
+    → GapsFrom g gap (w .next) → (w .next < g .used → point ≤ getD (g .from) (w .next) 0) → StandsRight p rows fixedUses point w → RightAt p rows fixedUses g gap w
+right-begins g gap point w f h s = record { place = f; stands = λ l. right-later (h l) s }
+
+pub left-begins : {p : Register} {rows : List Reservation} {fixedUses : List FixedUse} (g : GapColumns) (gap point : ℕ) (w : LeftWalker)
+    → GapsFrom g gap (w .next) → (0 < w .next → getD (g .to) (w .next - 1) 0 ≤ point) → StandsLeft p rows fixedUses point w → LeftAt p rows fixedUses g gap w
+left-begins g gap point w f h s = record { place = f; stands = λ l. left-earlier (h l) s }
 
 -- ---- tests
 both-true : (a b : Bool) → (a && b) ≡ true → (a ≡ true) × (b ≡ true)

@@ -8,3 +8,4 @@ pub mod Begin
 pub mod Checked
 pub mod GapSegments
 pub mod GapWalk
+pub mod Cases
