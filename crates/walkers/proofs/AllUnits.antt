@@ -1,12 +1,13 @@
 -- The units of a register, one after the other: those before v have been walked, the others wait
-use mathlib.Core.Path.{_≡_, refl, sym, ap, _∙_, subst, subst⁻¹}
-use mathlib.Core.Logic.{_⊎_, inl, inr, ⊎-elim}
+use mathlib.Core.Path.{_≡_, subst⁻¹}
+use mathlib.Core.Logic.{_⊎_, ⊎-elim}
 use mathlib.Core.List.{List}
 use Prim.Native.Nat.{ℕ, _+_, _≤_, _<_}
 use native.Mathlib.Omega.{arith}
 use lib.ListN.{length, getD, set, length-set}
 use lib.Seq.{getD-set-same, getD-set-other}
 use Rattle.links.proofs.Firsts.{split}
+use Rattle.walkers.proofs.Steps.{next-only, past-next, below-ne, past-ne}
 
 -- Before and After say where a unit's walk may stand before the segment and behind it
 pub record Walked (units : ℕ) (Before After : ℕ → ℕ → Type 0) (at : List ℕ) (v : ℕ) : Type 0 where
@@ -22,23 +23,11 @@ walked-more {units} {Before} {After} {at} {v} x h few a k =
     record {
       eight = simp length-set (k .eight);
       walked = λ w l. ⊎-elim
-          (λ y. subst⁻¹ (λ (z : ℕ). After w z) (getD-set-other at v w x 0 (less w v y)) (k .walked w y))
-          (λ y. subst⁻¹ (λ (i : ℕ). After i (getD (set at v x) i 0)) (same w v l y) (subst⁻¹ (λ (z : ℕ). After v z) (getD-set-same at v x 0 inside) a))
+          (λ y. subst⁻¹ (λ (z : ℕ). After w z) (getD-set-other at v w x 0 (below-ne w v y)) (k .walked w y))
+          (λ y. subst⁻¹ (λ (i : ℕ). After i (getD (set at v x) i 0)) (next-only w v l y) (subst⁻¹ (λ (z : ℕ). After v z) (getD-set-same at v x 0 inside) a))
           (split w v);
-      waiting = λ w y l. subst⁻¹ (λ (z : ℕ). Before w z) (getD-set-other at v w x 0 (more w v y)) (k .waiting w (past v w y) l);
+      waiting = λ w y l. subst⁻¹ (λ (z : ℕ). Before w z) (getD-set-other at v w x 0 (past-ne w v y)) (k .waiting w (past-next v w y) l);
     }
   where
     inside : v < length at
     inside = omega (arith, k .eight, h, few)
-
-    less : (w v : ℕ) → w < v → w ≡ v → ⊥
-    less w v l e = omega arith
-
-    more : (w v : ℕ) → v + 1 ≤ w → w ≡ v → ⊥
-    more w v l e = omega arith
-
-    same : (w v : ℕ) → w < v + 1 → v ≤ w → w ≡ v
-    same w v p q = omega arith
-
-    past : (v w : ℕ) → v + 1 ≤ w → v ≤ w
-    past v w h = omega arith

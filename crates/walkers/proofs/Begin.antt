@@ -1,15 +1,14 @@
 -- Where a walk begins: the rows and the fixed uses of a unit stand together, and a search by halves in them finds the place
-use mathlib.Core.Path.{_≡_, refl, sym, ap, _∙_, subst}
-use mathlib.Core.Logic.{_⊎_, inl, inr, ⊎-elim}
-use mathlib.Core.Bool.{Bool, true, false}
+use mathlib.Core.Path.{_≡_, refl, sym, ap, _∙_}
+use mathlib.Core.Logic.{_⊎_, ⊎-elim}
 use mathlib.Core.List.{List, [], _∷_}
 use Prim.Native.Nat.{ℕ, _+_, _≤_, _<_, zero-le}
-use native.Mathlib.Nat.{le-refl, le-trans, le-of-eq, le-of-lt, lt-of-le-of-lt, lt-of-lt-of-le}
+use native.Mathlib.Nat.{le-refl, le-antisymm, le-trans, le-of-eq, le-of-lt, lt-of-le-of-lt, lt-of-lt-of-le}
 use native.Mathlib.Omega.{arith}
 use lib.Dec.{leb, lit<}
 use lib.ListN.{length, getD}
 use borrow.Author.Tests.{leb-true, leb-false}
-use Rattle.links.specs.Table.{table, shortest}
+use Rattle.links.specs.Table.{shortest}
 use Rattle.links.specs.First.{FirstIn, Searchable}
 use Rattle.links.proofs.Firsts.{split}
 use Rattle.links.proofs.Tables.{table-length, shortest-at-most}
@@ -18,6 +17,7 @@ use Rattle.jobs.specs.declared.rows.FixedUse.{FixedUse}
 use Rattle.jobs.specs.Rows.{reservationRow, reservationsOf, noReservation, fixedUseRow, fixedUsesOf, noFixedUse}
 use Rattle.jobs.proofs.Walk.{own-row}
 use Rattle.walkers.specs.Standing.{OrderedRows, OrderedUses, RowsOfUnit, UsesFrom, Behind, Beyond}
+use Rattle.walkers.proofs.Steps.{after-next, within, lt-ne}
 
 -- a column that holds a field of the rows
 pub record Holds {A : Type 0} (col : List ℕ) (rows : List A) (d : A) (field : A → ℕ) : Type 0 where
@@ -31,11 +31,8 @@ module _ {A : Type 0} (col : List ℕ) (rows : List A) (d : A) (field : A → �
       record {
         order = o;
         inside = le-trans n (h .long);
-        rising = λ i k p q r. le-trans (le-of-eq (h .at i (inner i k hi (length rows) q r n))) (le-trans (f i k p q r) (le-of-eq (sym (h .at k (lt-of-lt-of-le r n)))));
+        rising = λ i k p q r. le-trans (le-of-eq (h .at i (within i k hi (length rows) q r n))) (le-trans (f i k p q r) (le-of-eq (sym (h .at k (lt-of-lt-of-le r n)))));
       }
-    where
-      inner : (i k e n : ℕ) → i ≤ k → k < e → e ≤ n → i < n
-      inner i k e n p q r = omega arith
 
   pub passed : (x lo hi r : ℕ) → hi ≤ length rows → FirstIn (λ (k : ℕ). leb x (getD col k 0)) lo hi r → (k : ℕ) → lo ≤ k → k < r → field (getD rows k d) < x
   passed x lo hi r n f k p q =
@@ -83,21 +80,15 @@ module _ (rows : List Reservation) (ordered : OrderedRows rows) (u : ℕ) where
   starts-rise : (i k : ℕ) → i ≤ k → k < length rows → getD rows i noReservation .unit ≡ getD rows k noReservation .unit → getD rows i noReservation .start ≤ getD rows k noReservation .start
   starts-rise i k h l e =
       ⊎-elim (λ m. le-trans (le-of-lt (ordered .nonempty i (inner i k (length rows) h l))) (ordered .apart i k m l e))
-      (λ m. le-of-eq (ap (λ (j : ℕ). getD rows j noReservation .start) (same i k h m))) (split i k)
+      (λ m. le-of-eq (ap (λ (j : ℕ). getD rows j noReservation .start) (le-antisymm h m))) (split i k)
     where
       inner : (i k n : ℕ) → i ≤ k → k < n → i < n
       inner i k n p q = omega arith
 
-      same : (i k : ℕ) → i ≤ k → k ≤ i → i ≡ k
-      same i k p q = omega arith
-
   ends-rise : (i k : ℕ) → i ≤ k → k < length rows → getD rows i noReservation .unit ≡ getD rows k noReservation .unit → getD rows i noReservation .end ≤ getD rows k noReservation .end
   ends-rise i k h l e =
       ⊎-elim (λ m. le-trans (ordered .apart i k m l e) (le-of-lt (ordered .nonempty k l)))
-      (λ m. le-of-eq (ap (λ (j : ℕ). getD rows j noReservation .end) (same i k h m))) (split i k)
-    where
-      same : (i k : ℕ) → i ≤ k → k ≤ i → i ≡ k
-      same i k p q = omega arith
+      (λ m. le-of-eq (ap (λ (j : ℕ). getD rows j noReservation .end) (le-antisymm h m))) (split i k)
 
   module _ (unit : List ℕ) (h : Holds unit rows noReservation (λ (r : Reservation). r .unit)) where
     pub units-searchable : (lo : ℕ) → lo ≤ length rows → Searchable unit lo (length rows)
@@ -110,9 +101,9 @@ module _ (rows : List Reservation) (ordered : OrderedRows rows) (u : ℕ) where
           inside = g .to;
           before = λ k l. passed unit rows noReservation field h u 0 n from (le-refl n) f k zero-le l;
           own = λ k l m. both (getD rows k noReservation .unit) u
-              (le-trans (found unit rows noReservation field h u 0 n from (le-refl n) f (inner from k to n l m (g .to))) (ordered .units from k l (lt-of-lt-of-le m (g .to))))
+              (le-trans (found unit rows noReservation field h u 0 n from (le-refl n) f (within from k to n l m (g .to))) (ordered .units from k l (lt-of-lt-of-le m (g .to))))
               (passed unit rows noReservation field h (u + 1) from n to (le-refl n) g k l m);
-          later = λ k l m. above u (getD rows k noReservation .unit) (le-trans (found unit rows noReservation field h (u + 1) from n to (le-refl n) g (lt-of-le-of-lt l m)) (ordered .units to k l m));
+          later = λ k l m. after-next u (getD rows k noReservation .unit) (le-trans (found unit rows noReservation field h (u + 1) from n to (le-refl n) g (lt-of-le-of-lt l m)) (ordered .units to k l m));
         }
       where
         n : ℕ
@@ -123,12 +114,6 @@ module _ (rows : List Reservation) (ordered : OrderedRows rows) (u : ℕ) where
 
         both : (a u : ℕ) → u ≤ a → a < u + 1 → a ≡ u
         both a u p q = omega arith
-
-        above : (u a : ℕ) → u + 1 ≤ a → u < a
-        above u a h = omega arith
-
-        inner : (a k e n : ℕ) → a ≤ k → k < e → e ≤ n → a < n
-        inner a k e n p q r = omega arith
 
   module _ (from to : ℕ) (own : RowsOfUnit rows u from to) where
     -- rows of the unit
@@ -143,10 +128,7 @@ module _ (rows : List Reservation) (ordered : OrderedRows rows) (u : ℕ) where
 
     -- a row of the unit is one of these
     not-before : (k : ℕ) → getD rows k noReservation .unit ≡ u → from ≤ k
-    not-before k e = ⊎-elim (λ l. absurd (below (own .before k l) e)) (λ l. l) (split k from)
-      where
-        below : {a u : ℕ} → a < u → a ≡ u → ⊥
-        below {a} {u} p q = omega (arith, p, q)
+    not-before k e = ⊎-elim (λ l. absurd (lt-ne (own .before k l) e)) (λ l. l) (split k from)
 
     not-later : (k : ℕ) → k < length rows → getD rows k noReservation .unit ≡ u → k < to
     not-later k h e = ⊎-elim (λ l. l) (λ l. absurd (above (own .later k l h) e)) (split k to)

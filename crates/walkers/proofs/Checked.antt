@@ -1,10 +1,10 @@
 -- Tables that have passed lines 10 and 11 are as the walkers need them
-use mathlib.Core.Path.{_≡_, refl, sym, ap, _∙_, subst}
-use mathlib.Core.Logic.{_⊎_, inl, inr, ⊎-elim}
-use mathlib.Core.Bool.{Bool, true, false, not, _&&_, _||_, cond, true≢false}
+use mathlib.Core.Path.{_≡_, sym, ap, _∙_}
+use mathlib.Core.Logic.{_⊎_, ⊎-elim}
+use mathlib.Core.Bool.{Bool, true, false, not, _&&_, cond, true≢false}
 use mathlib.Core.List.{List}
-use Prim.Native.Nat.{ℕ, zero, suc, _+_, _-_, _%_, _≤_, _<_}
-use native.Mathlib.Nat.{le-refl, le-trans, le-of-eq, le-of-lt, le-antisymm, le-of-suc-le-suc, lt-of-lt-of-le, not-suc-le-zero}
+use Prim.Native.Nat.{ℕ, zero, suc, _-_, _%_, _≤_, _<_}
+use native.Mathlib.Nat.{le-trans, le-of-eq, le-of-lt, le-antisymm, le-of-suc-le-suc, lt-of-lt-of-le, not-suc-le-zero}
 use native.Mathlib.Omega.{arith}
 use lib.Dec.{leb, ltb, eqb}
 use lib.ListN.{length, getD}
@@ -18,18 +18,13 @@ use Rattle.jobs.specs.Lines.{rowBefore, fixedOf, noFixed, badSpan, badKind, bad
 use Rattle.jobs.proofs.Sound.{or-parts}
 use Rattle.walkers.specs.Meeting.{Reserved}
 use Rattle.walkers.specs.Standing.{OrderedRows, OrderedUses, Ready}
+use Rattle.walkers.proofs.Steps.{suc-inside, upto-suc, none-below}
 
 -- what does not fall from row to row does not fall
 rises : (f : ℕ → ℕ) (n : ℕ) → ((i : ℕ) → suc i < n → f i ≤ f (suc i)) → (i k : ℕ) → i ≤ k → k < n → f i ≤ f k
-rises f n step i zero h l = le-of-eq (ap f (none i h))
-  where
-    none : (i : ℕ) → i ≤ 0 → i ≡ 0
-    none i h = omega arith
+rises f n step i zero h l = le-of-eq (ap f (none-below i h))
 rises f n step i (suc k) h l =
-    ⊎-elim (λ m. le-trans (rises f n step i k (le-of-suc-le-suc m) (pred k n l)) (step k l)) (λ m. le-of-eq (ap f (le-antisymm h m))) (split i (suc k))
-  where
-    pred : (k n : ℕ) → suc k < n → k < n
-    pred k n h = omega arith
+    ⊎-elim (λ m. le-trans (rises f n step i k (le-of-suc-le-suc m) (suc-inside k n l)) (step k l)) (λ m. le-of-eq (ap f (le-antisymm h m))) (split i (suc k))
 
 -- a test that holds, and both of which fail
 then-false : (a b : Bool) → a ≡ true → (a && b) ≡ false → b ≡ false
@@ -87,16 +82,10 @@ module _ (limits : Limits) (fixedUses : List FixedUse) (rows : List Reservation)
   apart i zero h l e = absurd (not-suc-le-zero h)
   apart i (suc k) h l e =
       let same : getD rows k noReservation .unit ≡ getD rows (suc k) noReservation .unit =
-      le-antisymm (units-rise k (suc k) (next k) l) (le-trans (le-of-eq (sym e)) (units-rise i k (le-of-suc-le-suc h) (pred k (length rows) l))) in
+      le-antisymm (units-rise k (suc k) (upto-suc k) l) (le-trans (le-of-eq (sym e)) (units-rise i k (le-of-suc-le-suc h) (suc-inside k (length rows) l))) in
       let here = row-spanned (suc k) l .after (sym same) in
-      ⊎-elim (λ m. le-trans (apart i k m (pred k (length rows) l) (e ∙ sym same)) (le-trans (le-of-lt (row-spanned k (pred k (length rows) l) .nonempty)) here))
+      ⊎-elim (λ m. le-trans (apart i k m (suc-inside k (length rows) l) (e ∙ sym same)) (le-trans (le-of-lt (row-spanned k (suc-inside k (length rows) l) .nonempty)) here))
       (λ m. le-trans (le-of-eq (ap (λ (j : ℕ). getD rows j noReservation .end) (le-antisymm (le-of-suc-le-suc h) m))) here) (split i k)
-    where
-      next : (k : ℕ) → k ≤ suc k
-      next k = omega arith
-
-      pred : (k n : ℕ) → suc k < n → k < n
-      pred k n h = omega arith
 
   pub rows-ordered : OrderedRows rows
   rows-ordered = record { units = units-rise; nonempty = λ k h. row-spanned k h .nonempty; apart = apart }
@@ -129,22 +118,13 @@ module _ (limits : Limits) (fixedUses : List FixedUse) (passed : (i : ℕ) → i
   use-units-rise = rises (λ (i : ℕ). getD fixedUses i noFixedUse .unit) (length fixedUses) (λ i h. use-placed (suc i) h .rising)
 
   points-rise : (i k : ℕ) → i ≤ k → k < length fixedUses → getD fixedUses i noFixedUse .unit ≡ getD fixedUses k noFixedUse .unit → getD fixedUses i noFixedUse .point ≤ getD fixedUses k noFixedUse .point
-  points-rise i zero h l e = le-of-eq (ap (λ (j : ℕ). getD fixedUses j noFixedUse .point) (none i h))
-    where
-      none : (i : ℕ) → i ≤ 0 → i ≡ 0
-      none i h = omega arith
+  points-rise i zero h l e = le-of-eq (ap (λ (j : ℕ). getD fixedUses j noFixedUse .point) (none-below i h))
   points-rise i (suc k) h l e =
       ⊎-elim
       (λ m. let same : getD fixedUses k noFixedUse .unit ≡ getD fixedUses (suc k) noFixedUse .unit =
-      le-antisymm (use-units-rise k (suc k) (next k) l) (le-trans (le-of-eq (sym e)) (use-units-rise i k (le-of-suc-le-suc m) (pred k (length fixedUses) l))) in
-      le-trans (points-rise i k (le-of-suc-le-suc m) (pred k (length fixedUses) l) (e ∙ sym same)) (use-placed (suc k) l .after (sym same)))
+      le-antisymm (use-units-rise k (suc k) (upto-suc k) l) (le-trans (le-of-eq (sym e)) (use-units-rise i k (le-of-suc-le-suc m) (suc-inside k (length fixedUses) l))) in
+      le-trans (points-rise i k (le-of-suc-le-suc m) (suc-inside k (length fixedUses) l) (e ∙ sym same)) (use-placed (suc k) l .after (sym same)))
       (λ m. le-of-eq (ap (λ (j : ℕ). getD fixedUses j noFixedUse .point) (le-antisymm h m))) (split i (suc k))
-    where
-      next : (k : ℕ) → k ≤ suc k
-      next k = omega arith
-
-      pred : (k n : ℕ) → suc k < n → k < n
-      pred k n h = omega arith
 
   pub uses-ordered : OrderedUses fixedUses
   uses-ordered = record { units = use-units-rise; points = points-rise }

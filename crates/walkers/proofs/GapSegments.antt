@@ -1,28 +1,19 @@
 -- The gap segments of a gap, one after the other in either direction: what is known after some of them, and after all
-use mathlib.Core.Path.{_≡_, refl, sym, ap, ap₂, _∙_, subst}
+use mathlib.Core.Path.{_≡_, refl, sym, ap, ap₂, _∙_}
 use mathlib.Core.Logic.{_⊎_, inl, inr, ⊎-elim}
 use mathlib.Core.Bool.{Bool, true, false, _||_, cond}
 use mathlib.Core.List.{List, [], _∷_, _++_, append-assoc}
-use Prim.Native.Nat.{ℕ, zero, suc, _+_, _-_, _≤_, _<_, max, zero-le}
-use native.Mathlib.Nat.{le-refl, le-trans, le-of-eq, le-of-lt, lt-of-lt-of-le, lt-of-le-of-lt, not-suc-le-zero}
+use Prim.Native.Nat.{ℕ, suc, _+_, _-_, _<_, max}
 use native.Mathlib.Omega.{arith}
-use lib.Dec.{eqb}
 use lib.Ieee.{Float}
-use lib.ListN.{length, getD}
-use borrow.Author.Tests.{eq-eqb, ne-eqb}
-use Rattle.numbers.specs.Weight.{Weight, unitsOf, zeroWeight, heavier, heaviest}
+use Rattle.numbers.specs.Weight.{Weight, unitsOf, heaviest}
 use Rattle.numbers.proofs.Units.{units-inj, zero-units}
 use Rattle.numbers.proofs.Heaviest.{Weights, heavier-weight, heavier-units, heaviest-weight, weights-append, heaviest-append}
-use Rattle.links.proofs.Firsts.{split}
-use Rattle.jobs.specs.declared.rows.Reservation.{Reservation}
-use Rattle.jobs.specs.declared.rows.FixedUse.{FixedUse}
 use Rattle.walkers.specs.declared.meeting.GapSegment.{GapSegment}
 use Rattle.walkers.specs.declared.meeting.Register.{Register}
 use Rattle.walkers.specs.declared.meeting.Met.{Met}
-use Rattle.walkers.specs.declared.right.RightWalker.{RightWalker}
-use Rattle.walkers.specs.declared.left.LeftWalker.{LeftWalker}
 use Rattle.walkers.specs.Meeting.{Reserved, anyOf, fixedMet, weightsMet, fixedMetAny, weightsMetAll, alsoMet}
-use Rattle.walkers.specs.Gaps.{GapColumns, segmentIn, picked, ofGap, segmentsOfGap, OrderedGaps, GapsFrom, gapMet}
+use Rattle.walkers.specs.Gaps.{GapColumns, segmentIn, picked, ofGap, gapMet}
 use Rattle.walkers.proofs.Top.{Top, top-only, top-none, top-more, top-all, top-built}
 use Rattle.walkers.proofs.Seen.{bit, bit-or, bit-only, met-weights, made}
 

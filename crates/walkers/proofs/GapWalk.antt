@@ -4,10 +4,10 @@ use mathlib.Core.Logic.{_⊎_, inl, inr, ⊎-elim}
 use mathlib.Core.Bool.{Bool, true, false, _&&_, true≢false}
 use mathlib.Core.List.{List}
 use Prim.Native.Nat.{ℕ, _+_, _-_, _≤_, _<_}
-use native.Mathlib.Nat.{le-refl, le-trans, le-of-eq, le-of-lt, lt-of-lt-of-le, lt-of-le-of-lt}
+use native.Mathlib.Nat.{le-refl, le-of-eq, le-of-lt, lt-of-lt-of-le, lt-of-le-of-lt}
 use native.Mathlib.Omega.{arith}
 use lib.Dec.{ltb, eqb}
-use lib.ListN.{length, getD}
+use lib.ListN.{getD}
 use borrow.Author.Tests.{ne-eqb, eqb-true, eqb-false, ltb-true, lt-ltb}
 use Rattle.numbers.specs.Weight.{Weight}
 use Rattle.links.proofs.Firsts.{split}
@@ -20,6 +20,7 @@ use Rattle.walkers.specs.declared.left.LeftWalker.{LeftWalker}
 use Rattle.walkers.specs.Meeting.{Reserved, alsoMet}
 use Rattle.walkers.specs.Standing.{StandsRight, StandsLeft}
 use Rattle.walkers.specs.Gaps.{GapColumns, segmentIn, ofGap, OrderedGaps, GapsFrom, RightAt, LeftAt, isOfGap, lastIsOfGap}
+use Rattle.walkers.proofs.Steps.{next-only, next-inside, next-after, below-next, past-next, last-only, last-inside, last-upto, upto-last, below-last, below-ne, past-ne}
 use Rattle.walkers.proofs.OneUnit.{behind-later, beyond-earlier}
 use Rattle.walkers.proofs.GapSegments.{SeenGap, gap-none, gap-more, gap-all}
 
@@ -78,26 +79,17 @@ module _ (g : GapColumns) (gap : ℕ) where
   within-first i f = record { inside = f .inside; before = λ k l. le-of-lt (f .before k l); later = f .later }
 
   pub within-last : (i : ℕ) → GapsFrom g (gap + 1) i → Within g gap i
-  within-last i f = record { inside = f .inside; before = λ k l. down (getD (g .gap) k 0) gap (f .before k l); later = λ k l m. up gap (getD (g .gap) k 0) (f .later k l m) }
+  within-last i f = record { inside = f .inside; before = λ k l. down (getD (g .gap) k 0) gap (f .before k l); later = λ k l m. past-next gap (getD (g .gap) k 0) (f .later k l m) }
     where
       down : (a b : ℕ) → a < b + 1 → a ≤ b
       down a b h = omega arith
 
-      up : (a b : ℕ) → a + 1 ≤ b → a ≤ b
-      up a b h = omega arith
-
   -- rows before the first, and from behind the last on, are of other gaps
   pub before-other : (i : ℕ) → GapsFrom g gap i → (k : ℕ) → k < i → ofGap g gap k ≡ false
-  before-other i f k l = ne-eqb (getD (g .gap) k 0) gap (less (getD (g .gap) k 0) gap (f .before k l))
-    where
-      less : (a b : ℕ) → a < b → a ≡ b → ⊥
-      less a b h e = omega arith
+  before-other i f k l = ne-eqb (getD (g .gap) k 0) gap (below-ne (getD (g .gap) k 0) gap (f .before k l))
 
   pub later-other : (i : ℕ) → GapsFrom g (gap + 1) i → (k : ℕ) → i ≤ k → k < g .used → ofGap g gap k ≡ false
-  later-other i f k l m = ne-eqb (getD (g .gap) k 0) gap (more (getD (g .gap) k 0) gap (f .later k l m))
-    where
-      more : (a b : ℕ) → b + 1 ≤ a → a ≡ b → ⊥
-      more a b h e = omega arith
+  later-other i f k l m = ne-eqb (getD (g .gap) k 0) gap (past-ne (getD (g .gap) k 0) gap (f .later k l m))
 
   module _ (ordered : OrderedGaps g) where
     -- where the row is of another gap, the walk has come to its end
@@ -119,15 +111,12 @@ module _ (g : GapColumns) (gap : ℕ) where
     left-out i w ne =
         record {
           inside = w .inside;
-          before = λ k l. below (getD (g .gap) k 0) (getD (g .gap) (i - 1) 0) gap (ordered .gaps k (i - 1) (upto k i l) (inner k i (g .used) l (w .inside))) (w .before (i - 1) (last k i l)) (ne (some k i l));
+          before = λ k l. below (getD (g .gap) k 0) (getD (g .gap) (i - 1) 0) gap (ordered .gaps k (i - 1) (upto-last k i l) (inner k i (g .used) l (w .inside))) (w .before (i - 1) (last k i l)) (ne (some k i l));
           later = w .later;
         }
       where
         below : (a x b : ℕ) → a ≤ x → x ≤ b → (x ≡ b → ⊥) → a < b
         below a x b p q n = omega (arith, p, n, q)
-
-        upto : (k i : ℕ) → k < i → k ≤ i - 1
-        upto k i h = omega arith
 
         inner : (k i n : ℕ) → k < i → i ≤ n → i - 1 < n
         inner k i n p q = omega arith
@@ -142,36 +131,18 @@ module _ (g : GapColumns) (gap : ℕ) where
   pub right-step : (i : ℕ) → i < g .used → getD (g .gap) i 0 ≡ gap → Within g gap i → Within g gap (i + 1)
   right-step i h e w =
       record {
-        inside = up i (g .used) h;
-        before = λ k l. ⊎-elim (λ m. w .before k m) (λ m. le-of-eq (ap (λ (j : ℕ). getD (g .gap) j 0) (same k i l m) ∙ e)) (split k i);
-        later = λ k l m. w .later k (past i k l) m;
+        inside = next-inside i (g .used) h;
+        before = λ k l. ⊎-elim (λ m. w .before k m) (λ m. le-of-eq (ap (λ (j : ℕ). getD (g .gap) j 0) (next-only k i l m) ∙ e)) (split k i);
+        later = λ k l m. w .later k (past-next i k l) m;
       }
-    where
-      up : (i n : ℕ) → i < n → i + 1 ≤ n
-      up i n h = omega arith
-
-      past : (i k : ℕ) → i + 1 ≤ k → i ≤ k
-      past i k h = omega arith
-
-      same : (j i : ℕ) → j < i + 1 → i ≤ j → j ≡ i
-      same j i p q = omega arith
 
   pub left-step : (i : ℕ) → 0 < i → getD (g .gap) (i - 1) 0 ≡ gap → Within g gap i → Within g gap (i - 1)
   left-step i h e w =
       record {
-        inside = down i (g .used) (w .inside);
-        before = λ k l. w .before k (inner k i l);
-        later = λ k l m. ⊎-elim (λ x. le-of-eq (sym (ap (λ (j : ℕ). getD (g .gap) j 0) (same k i l x) ∙ e))) (λ x. w .later k x m) (split k i);
+        inside = last-upto i (g .used) (w .inside);
+        before = λ k l. w .before k (below-last k i l);
+        later = λ k l m. ⊎-elim (λ x. le-of-eq (sym (ap (λ (j : ℕ). getD (g .gap) j 0) (last-only k i l x) ∙ e))) (λ x. w .later k x m) (split k i);
       }
-    where
-      down : (i j : ℕ) → i ≤ j → i - 1 ≤ j
-      down i j p = omega arith
-
-      inner : (k i : ℕ) → k < i - 1 → k < i
-      inner k i p = omega arith
-
-      same : (j i : ℕ) → i - 1 ≤ j → j < i → j ≡ i - 1
-      same j i p q = omega arith
 
   -- ---- what was met: the rows before i, or from i on
   module _ (p : Register) (t : Reserved) where
@@ -180,16 +151,7 @@ module _ (g : GapColumns) (gap : ℕ) where
 
     pub right-more : (i : ℕ) (m₀ m : Met) → ofGap g gap i ≡ true → SeenGap p t g gap (λ (k : ℕ). k < i) m₀ m → SeenGap p t g gap (λ (k : ℕ). k < i + 1) m₀ (alsoMet p t (segmentIn g i) m)
     right-more i m₀ m e k =
-        gap-more p t g gap (λ (j : ℕ). j < i) (λ (j : ℕ). j < i + 1) i (λ j h. ⊎-elim (λ l. inl l) (λ l. inr (same j i h l)) (split j i)) (λ j h. more j i h) (here i) m₀ m e k
-      where
-        same : (j i : ℕ) → j < i + 1 → i ≤ j → j ≡ i
-        same j i p q = omega arith
-
-        more : (j i : ℕ) → j < i → j < i + 1
-        more j i p = omega arith
-
-        here : (i : ℕ) → i < i + 1
-        here i = omega arith
+        gap-more p t g gap (λ (j : ℕ). j < i) (λ (j : ℕ). j < i + 1) i (λ j h. ⊎-elim (λ l. inl l) (λ l. inr (next-only j i h l)) (split j i)) (λ j h. below-next j i h) (next-after i) m₀ m e k
 
     pub right-whole : (i : ℕ) (m₀ m : Met) → GapsFrom g (gap + 1) i → SeenGap p t g gap (λ (k : ℕ). k < i) m₀ m → SeenGap p t g gap (λ (k : ℕ). k < g .used) m₀ m
     right-whole i m₀ m f k = gap-all p t g gap (λ (j : ℕ). j < i) (λ j h. lt-of-lt-of-le h (f .inside)) (λ j h. ⊎-elim (λ l. inl l) (λ l. inr (later-other i f j l h)) (split j i)) m₀ m k
@@ -200,16 +162,7 @@ module _ (g : GapColumns) (gap : ℕ) where
     pub left-more : (i : ℕ) (m₀ m : Met) → 0 < i → i ≤ g .used → ofGap g gap (i - 1) ≡ true → SeenGap p t g gap (λ (k : ℕ). (i ≤ k) × (k < g .used)) m₀ m
         → SeenGap p t g gap (λ (k : ℕ). (i - 1 ≤ k) × (k < g .used)) m₀ (alsoMet p t (segmentIn g (i - 1)) m)
     left-more i m₀ m h n e k =
-        gap-more p t g gap (λ (j : ℕ). (i ≤ j) × (j < g .used)) (λ (j : ℕ). (i - 1 ≤ j) × (j < g .used)) (i - 1) (λ j q. ⊎-elim (λ l. inr (same j i (q .0) l)) (λ l. inl (l, q .1)) (split j i)) (λ j q. (down i j (q .0), q .1)) (le-refl (i - 1), inner i (g .used) h n) m₀ m e k
-      where
-        same : (j i : ℕ) → i - 1 ≤ j → j < i → j ≡ i - 1
-        same j i p q = omega arith
-
-        down : (i j : ℕ) → i ≤ j → i - 1 ≤ j
-        down i j p = omega arith
-
-        inner : (i n : ℕ) → 0 < i → i ≤ n → i - 1 < n
-        inner i n p q = omega arith
+        gap-more p t g gap (λ (j : ℕ). (i ≤ j) × (j < g .used)) (λ (j : ℕ). (i - 1 ≤ j) × (j < g .used)) (i - 1) (λ j q. ⊎-elim (λ l. inr (last-only j i (q .0) l)) (λ l. inl (l, q .1)) (split j i)) (λ j q. (last-upto i j (q .0), q .1)) (le-refl (i - 1), last-inside i (g .used) h n) m₀ m e k
 
     pub left-whole : (i : ℕ) (m₀ m : Met) → GapsFrom g gap i → SeenGap p t g gap (λ (k : ℕ). (i ≤ k) × (k < g .used)) m₀ m → SeenGap p t g gap (λ (k : ℕ). k < g .used) m₀ m
     left-whole i m₀ m f k = gap-all p t g gap (λ (j : ℕ). (i ≤ j) × (j < g .used)) (λ j h. h .1) (λ j h. ⊎-elim (λ l. inr (before-other i f j l)) (λ l. inl (l, h)) (split j i)) m₀ m k

@@ -1,4 +1,5 @@
 -- What the walkers share
+pub mod Steps
 pub mod Uses
 pub mod Top
 pub mod Seen
@@ -9,3 +10,4 @@ pub mod Checked
 pub mod GapSegments
 pub mod GapWalk
 pub mod Cases
+pub mod Sets

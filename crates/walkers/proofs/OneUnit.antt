@@ -1,23 +1,24 @@
 -- A walk over the rows of one unit, to the right and to the left: where it begins, one row more, and the ways out
-use mathlib.Core.Path.{_≡_, refl, sym, ap, _∙_}
+use mathlib.Core.Path.{_≡_, sym, ap, _∙_}
 use mathlib.Core.Logic.{_⊎_, inl, inr, ⊎-elim}
-use mathlib.Core.Bool.{Bool, true, false, _&&_}
+use mathlib.Core.Bool.{false}
 use mathlib.Core.List.{List}
 use Prim.Native.Nat.{ℕ, _+_, _-_, _≤_, _<_}
-use native.Mathlib.Nat.{le-refl, le-trans, le-of-eq, le-of-lt, lt-of-le-of-lt, lt-of-lt-of-le}
+use native.Mathlib.Nat.{le-refl, le-trans, le-of-eq, le-of-lt, lt-of-lt-of-le}
 use native.Mathlib.Omega.{arith}
 use lib.Dec.{ltb, eqb}
-use lib.ListN.{length, getD}
+use lib.ListN.{length}
 use borrow.Author.Tests.{le-ltb, eqb-true, eqb-false}
 use Rattle.numbers.specs.Weight.{Weight}
 use Rattle.links.proofs.Firsts.{split}
-use Rattle.jobs.specs.Rows.{noReservation}
 use Rattle.jobs.specs.declared.rows.Reservation.{Reservation}
+use Rattle.jobs.proofs.Walk.{and-first}
 use Rattle.walkers.specs.declared.meeting.GapSegment.{GapSegment}
 use Rattle.walkers.specs.declared.meeting.Met.{Met}
 use Rattle.walkers.specs.Meeting.{Reserved, meets, looked, oneUnit}
 use Rattle.walkers.specs.Standing.{OrderedRows, Behind, Beyond}
-use Rattle.walkers.proofs.Uses.{either-way, and-left-false, and-right-false}
+use Rattle.walkers.proofs.Steps.{next-only, next-inside, next-after, below-next, past-next, after-next, last-only, last-inside, last-before, last-upto, upto-last, below-last, between-same}
+use Rattle.walkers.proofs.Uses.{either-way, and-right-false}
 use Rattle.walkers.proofs.Seen.{Seen, All, Apart, rowOf, seen-none, seen-look, seen-all, unit-of, other-of}
 
 -- a row that ends before the segment, or starts past it, does not meet it
@@ -27,7 +28,7 @@ ends-before s r h = and-right-false (ltb (r .start) (s .to .0)) (ltb (s .from .0
 
 starts-past : (s : GapSegment) (r : Reservation) → s .to .0 ≤ r .start → meets s r ≡ false
 unfolding meets
-starts-past s r h = and-left-false (ltb (r .start) (s .to .0)) (ltb (s .from .0) (r .end)) (le-ltb (r .start) (s .to .0) h)
+starts-past s r h = and-first (ltb (r .start) (s .to .0)) (ltb (s .from .0) (r .end)) (le-ltb (r .start) (s .to .0) h)
 
 -- a row of another unit lies apart; one of the unit does if it does not meet the segment
 apart-by : (s : GapSegment) (u : ℕ) (r : Reservation) → (r .unit ≡ u → meets s r ≡ false) → Apart (oneUnit u) s r
@@ -50,34 +51,16 @@ module _ (t : Reserved) (ordered : OrderedRows (t .rows)) (s : GapSegment) (u : 
   right-begin at m w b = seen-none (oneUnit u) t s (Passed at) m w (λ k l. apart-by s u (rowOf t k) (λ e. ends-before s (rowOf t k) (b .ended k l e)))
 
   pub right-look : (i : ℕ) (m₀ m : Met) → rowOf t i .unit ≡ u → Seen (oneUnit u) t s (Passed i) m₀ m → Seen (oneUnit u) t s (Passed (i + 1)) m₀ (looked (t .fixedUses) (t .weights) s (rowOf t i) m)
-  right-look i m₀ m e k = seen-look (oneUnit u) t s (Passed i) (Passed (i + 1)) i (λ j h. ⊎-elim (λ l. inl l) (λ l. inr (same j i h l)) (split j i)) (λ j h. more j i h) (here i) m₀ m (unit-of u (rowOf t i) e) k
-    where
-      same : (j i : ℕ) → j < i + 1 → i ≤ j → j ≡ i
-      same j i p q = omega arith
-
-      more : (j i : ℕ) → j < i → j < i + 1
-      more j i p = omega arith
-
-      here : (i : ℕ) → i < i + 1
-      here i = omega arith
+  right-look i m₀ m e k = seen-look (oneUnit u) t s (Passed i) (Passed (i + 1)) i (λ j h. ⊎-elim (λ l. inl l) (λ l. inr (next-only j i h l)) (split j i)) (λ j h. below-next j i h) (next-after i) m₀ m (unit-of u (rowOf t i) e) k
 
   -- the next row, if this one does not reach past the segment
   pub right-next : (i : ℕ) → i < length (t .rows) → rowOf t i .end ≤ s .to .0 → Behind (t .rows) u (s .to .0) i → Behind (t .rows) u (s .to .0) (i + 1)
   right-next i h l b =
       record {
-        inside = up i (length (t .rows)) h;
-        later = λ k m n. b .later k (past i k m) n;
-        ended = λ k m e. ⊎-elim (λ x. b .ended k x e) (λ x. le-trans (le-of-eq (ap (λ (j : ℕ). rowOf t j .end) (same k i m x))) l) (split k i);
+        inside = next-inside i (length (t .rows)) h;
+        later = λ k m n. b .later k (past-next i k m) n;
+        ended = λ k m e. ⊎-elim (λ x. b .ended k x e) (λ x. le-trans (le-of-eq (ap (λ (j : ℕ). rowOf t j .end) (next-only k i m x))) l) (split k i);
       }
-    where
-      up : (i n : ℕ) → i < n → i + 1 ≤ n
-      up i n h = omega arith
-
-      past : (i k : ℕ) → i + 1 ≤ k → i ≤ k
-      past i k h = omega arith
-
-      same : (j i : ℕ) → j < i + 1 → i ≤ j → j ≡ i
-      same j i p q = omega arith
 
   -- out behind the last row, at a row of another unit, or behind a row that reaches past the segment
   pub right-end : (i : ℕ) (m₀ m : Met) → length (t .rows) ≤ i → i ≤ length (t .rows) → Seen (oneUnit u) t s (Passed i) m₀ m → Seen (oneUnit u) t s (All t) m₀ m
@@ -86,21 +69,15 @@ module _ (t : Reserved) (ordered : OrderedRows (t .rows)) (s : GapSegment) (u : 
   pub right-unit : (i : ℕ) (m₀ m : Met) → i < length (t .rows) → (rowOf t i .unit ≡ u → ⊥) → Behind (t .rows) u (s .to .0) i → Seen (oneUnit u) t s (Passed i) m₀ m → Seen (oneUnit u) t s (All t) m₀ m
   right-unit i m₀ m h ne b k =
       seen-all (oneUnit u) t s (Passed i) (λ j p. lt-of-lt-of-le p (le-of-lt h))
-      (λ j p. ⊎-elim (λ l. inl l) (λ l. inr (inl (other-of u (rowOf t j) (λ e. ne (same (b .later i (le-refl i) h) (ordered .units i j l p) e))))) (split j i)) m₀ m k
-    where
-      same : {a b u : ℕ} → u ≤ a → a ≤ b → b ≡ u → a ≡ u
-      same {a} {b} {u} p q e = omega (arith, p, q, e)
+      (λ j p. ⊎-elim (λ l. inl l) (λ l. inr (inl (other-of u (rowOf t j) (λ e. ne (between-same (b .later i (le-refl i) h) (ordered .units i j l p) e))))) (split j i)) m₀ m k
 
   pub right-past : (i : ℕ) (m₀ m : Met) → i < length (t .rows) → rowOf t i .unit ≡ u → s .to .0 < rowOf t i .end → Seen (oneUnit u) t s (Passed (i + 1)) m₀ m → Seen (oneUnit u) t s (All t) m₀ m
   right-past i m₀ m h e l k =
       seen-all (oneUnit u) t s (Passed (i + 1)) (λ j p. inner j i (length (t .rows)) p h)
-      (λ j p. ⊎-elim (λ q. inl q) (λ q. inr (apart-by s u (rowOf t j) (λ f. starts-past s (rowOf t j) (le-trans (le-of-lt l) (ordered .apart i j (after i j q) p (e ∙ sym f)))))) (split j (i + 1))) m₀ m k
+      (λ j p. ⊎-elim (λ q. inl q) (λ q. inr (apart-by s u (rowOf t j) (λ f. starts-past s (rowOf t j) (le-trans (le-of-lt l) (ordered .apart i j (after-next i j q) p (e ∙ sym f)))))) (split j (i + 1))) m₀ m k
     where
       inner : (j i n : ℕ) → j < i + 1 → i < n → j < n
       inner j i n p q = omega arith
-
-      after : (i j : ℕ) → i + 1 ≤ j → i < j
-      after i j h = omega arith
 
   -- ---- to the left: the rows from i on were passed
   abbrev pub PassedLeft : ℕ → ℕ → Type 0
@@ -112,34 +89,16 @@ module _ (t : Reserved) (ordered : OrderedRows (t .rows)) (s : GapSegment) (u : 
   pub left-look : (i : ℕ) (m₀ m : Met) → 0 < i → i ≤ length (t .rows) → rowOf t (i - 1) .unit ≡ u → Seen (oneUnit u) t s (PassedLeft i) m₀ m
       → Seen (oneUnit u) t s (PassedLeft (i - 1)) m₀ (looked (t .fixedUses) (t .weights) s (rowOf t (i - 1)) m)
   left-look i m₀ m h n e k =
-      seen-look (oneUnit u) t s (PassedLeft i) (PassedLeft (i - 1)) (i - 1) (λ j p. ⊎-elim (λ l. inr (same j i (p .0) l)) (λ l. inl (l, p .1)) (split j i)) (λ j p. (down i j (p .0), p .1)) (le-refl (i - 1), inner i (length (t .rows)) h n) m₀ m (unit-of u (rowOf t (i - 1)) e) k
-    where
-      same : (j i : ℕ) → i - 1 ≤ j → j < i → j ≡ i - 1
-      same j i p q = omega arith
-
-      down : (i j : ℕ) → i ≤ j → i - 1 ≤ j
-      down i j p = omega arith
-
-      inner : (i n : ℕ) → 0 < i → i ≤ n → i - 1 < n
-      inner i n p q = omega arith
+      seen-look (oneUnit u) t s (PassedLeft i) (PassedLeft (i - 1)) (i - 1) (λ j p. ⊎-elim (λ l. inr (last-only j i (p .0) l)) (λ l. inl (l, p .1)) (split j i)) (λ j p. (last-upto i j (p .0), p .1)) (le-refl (i - 1), last-inside i (length (t .rows)) h n) m₀ m (unit-of u (rowOf t (i - 1)) e) k
 
   -- the next row, if this one does not start before the segment
   pub left-next : (i : ℕ) → 0 < i → s .from .0 ≤ rowOf t (i - 1) .start → Beyond (t .rows) u (s .from .0) i → Beyond (t .rows) u (s .from .0) (i - 1)
   left-next i h l b =
       record {
-        inside = down i (length (t .rows)) (b .inside);
-        earlier = λ k m. b .earlier k (inner k i m);
-        begun = λ k m n e. ⊎-elim (λ x. le-trans l (le-of-eq (ap (λ (j : ℕ). rowOf t j .start) (sym (same k i m x))))) (λ x. b .begun k x n e) (split k i);
+        inside = last-upto i (length (t .rows)) (b .inside);
+        earlier = λ k m. b .earlier k (below-last k i m);
+        begun = λ k m n e. ⊎-elim (λ x. le-trans l (le-of-eq (ap (λ (j : ℕ). rowOf t j .start) (sym (last-only k i m x))))) (λ x. b .begun k x n e) (split k i);
       }
-    where
-      same : (j i : ℕ) → i - 1 ≤ j → j < i → j ≡ i - 1
-      same j i p q = omega arith
-
-      down : (i j : ℕ) → i ≤ j → i - 1 ≤ j
-      down i j p = omega arith
-
-      inner : (k i : ℕ) → k < i - 1 → k < i
-      inner k i p = omega arith
 
   -- out before the first row, at a row of another unit, or behind a row that starts before the segment
   pub left-end : (i : ℕ) (m₀ m : Met) → i ≤ 0 → Seen (oneUnit u) t s (PassedLeft i) m₀ m → Seen (oneUnit u) t s (All t) m₀ m
@@ -151,24 +110,12 @@ module _ (t : Reserved) (ordered : OrderedRows (t .rows)) (s : GapSegment) (u : 
   pub left-unit : (i : ℕ) (m₀ m : Met) → 0 < i → (rowOf t (i - 1) .unit ≡ u → ⊥) → Beyond (t .rows) u (s .from .0) i → Seen (oneUnit u) t s (PassedLeft i) m₀ m → Seen (oneUnit u) t s (All t) m₀ m
   left-unit i m₀ m h ne b k =
       seen-all (oneUnit u) t s (PassedLeft i) (λ j p. p .1)
-      (λ j p. ⊎-elim (λ l. inr (inl (other-of u (rowOf t j) (λ e. ne (same (b .earlier (i - 1) (last i h)) (ordered .units j (i - 1) (upto j i l) (inner i (length (t .rows)) h (b .inside))) e))))) (λ l. inl (l, p)) (split j i)) m₀ m k
+      (λ j p. ⊎-elim (λ l. inr (inl (other-of u (rowOf t j) (λ e. ne (same (b .earlier (i - 1) (last-before i h)) (ordered .units j (i - 1) (upto-last j i l) (last-inside i (length (t .rows)) h (b .inside))) e))))) (λ l. inl (l, p)) (split j i)) m₀ m k
     where
       same : {a b u : ℕ} → a ≤ u → b ≤ a → b ≡ u → a ≡ u
       same {a} {b} {u} p q e = omega (arith, p, q, e)
 
-      last : (i : ℕ) → 0 < i → i - 1 < i
-      last i h = omega arith
-
-      upto : (j i : ℕ) → j < i → j ≤ i - 1
-      upto j i h = omega arith
-
-      inner : (i n : ℕ) → 0 < i → i ≤ n → i - 1 < n
-      inner i n p q = omega arith
-
   pub left-past : (i : ℕ) (m₀ m : Met) → 0 < i → i ≤ length (t .rows) → rowOf t (i - 1) .unit ≡ u → rowOf t (i - 1) .start < s .from .0 → Seen (oneUnit u) t s (PassedLeft (i - 1)) m₀ m → Seen (oneUnit u) t s (All t) m₀ m
   left-past i m₀ m h n e l k =
       seen-all (oneUnit u) t s (PassedLeft (i - 1)) (λ j p. p .1)
-      (λ j p. ⊎-elim (λ q. inr (apart-by s u (rowOf t j) (λ f. ends-before s (rowOf t j) (le-trans (ordered .apart j (i - 1) q (inner i (length (t .rows)) h n) (f ∙ sym e)) (le-of-lt l))))) (λ q. inl (q, p)) (split j (i - 1))) m₀ m k
-    where
-      inner : (i n : ℕ) → 0 < i → i ≤ n → i - 1 < n
-      inner i n p q = omega arith
+      (λ j p. ⊎-elim (λ q. inr (apart-by s u (rowOf t j) (λ f. ends-before s (rowOf t j) (le-trans (ordered .apart j (i - 1) q (last-inside i (length (t .rows)) h n) (f ∙ sym e)) (le-of-lt l))))) (λ q. inl (q, p)) (split j (i - 1))) m₀ m k

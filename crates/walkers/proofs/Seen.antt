@@ -1,7 +1,7 @@
 -- What is known after some rows of a register were looked at, and that after all of them it is what the definitions say
-use mathlib.Core.Path.{_≡_, refl, sym, ap, ap₂, _∙_, subst, subst⁻¹}
+use mathlib.Core.Path.{_≡_, refl, sym, ap, ap₂, _∙_}
 use mathlib.Core.Logic.{_⊎_, inl, inr, ⊎-elim}
-use mathlib.Core.Bool.{Bool, true, false, not, _&&_, _||_, cond}
+use mathlib.Core.Bool.{Bool, true, false, _&&_, _||_, cond, true≢false}
 use mathlib.Core.List.{List, [], _∷_}
 use Prim.Native.Nat.{ℕ, zero, suc, _+_, _≤_, _<_, max, zero-le, suc-le-suc}
 use native.Mathlib.Nat.{le-refl, le-trans, le-of-eq, not-suc-le-zero, le-of-suc-le-suc, zero-lt-suc}
@@ -9,19 +9,19 @@ use native.Mathlib.Omega.{arith}
 use lib.Dec.{leb, ltb, eqb}
 use lib.Ieee.{Float}
 use lib.ListN.{length, getD}
-use borrow.Author.Tests.{lt-ltb, le-ltb, le-leb, lt-leb, ltb-true, ltb-false, leb-true, leb-false}
-use Rattle.numbers.specs.Weight.{Weight, finite, unitsOf, zeroWeight, weightLimit, valueOf, heavier, heaviest}
-use Rattle.numbers.proofs.Units.{units-inj, zero-finite, zero-units}
+use borrow.Author.Tests.{lt-ltb, le-ltb, le-leb, lt-leb, leb-true, leb-false}
+use Rattle.numbers.specs.Weight.{Weight, unitsOf, weightLimit, heavier, heaviest}
+use Rattle.numbers.proofs.Units.{units-inj, zero-units}
 use Rattle.numbers.proofs.Bits.{value-weight}
 use Rattle.numbers.proofs.Heaviest.{Weights, heavier-weight, heavier-units, heaviest-weight}
 use Rattle.links.proofs.Firsts.{split}
 use Rattle.jobs.specs.Rows.{noReservation}
 use Rattle.jobs.specs.declared.rows.Reservation.{Reservation}
-use Rattle.jobs.specs.declared.rows.FixedUse.{FixedUse}
 use Rattle.walkers.specs.declared.meeting.GapSegment.{GapSegment}
 use Rattle.walkers.specs.declared.meeting.Register.{Register}
 use Rattle.walkers.specs.declared.meeting.Met.{Met}
 use Rattle.walkers.specs.Meeting.{Reserved, anyOf, meets, countsAsFixed, weightOf, ofRegister, fixedAgainst, weighsAgainst, fixedMet, weightsWhere, weightsMet, alsoMet, looked, oneUnit}
+use Rattle.walkers.proofs.Steps.{max-left, max-right, max-least, max-none, none-max}
 use Rattle.walkers.proofs.Uses.{either-way, and-true}
 use Rattle.walkers.proofs.Top.{Top, top-only, top-none, top-more, top-all, top-join}
 
@@ -60,10 +60,7 @@ module _ {A : Type 0} (test : A → Bool) (d : A) where
   unfolding anyOf
   any-least [] m f = zero-le
   any-least (r ∷ rows) m f =
-      both (bit (test r)) (bit (anyOf test rows)) (bit (anyOf test (r ∷ rows))) m (bit-or (test r) (anyOf test rows)) (f 0 (zero-lt-suc (length rows))) (any-least rows m (λ k l. f (suc k) (suc-le-suc l)))
-    where
-      both : (a b c m : ℕ) → c ≡ max a b → a ≤ m → b ≤ m → c ≤ m
-      both a b c m e p q = omega arith
+      max-least (bit (test r)) (bit (anyOf test rows)) (bit (anyOf test (r ∷ rows))) m (bit-or (test r) (anyOf test rows)) (f 0 (zero-lt-suc (length rows))) (any-least rows m (λ k l. f (suc k) (suc-le-suc l)))
 
 pub weight-of-weight : (weights : List ℕ) (r : Reservation) → Weight (weightOf weights r)
 unfolding weightOf
@@ -87,12 +84,9 @@ module _ (test : Reservation → Bool) (weights : List ℕ) where
   unfolding weightsWhere
   where-next r rows = step (test r)
     where
-      nothing : (x : ℕ) → x ≡ max x 0
-      nothing x = omega arith
-
       step : (b : Bool) → unitsOf (heaviest (cond b (weightOf weights r ∷ weightsWhere test weights rows) (weightsWhere test weights rows))) ≡ max (unitsOf (heaviest (weightsWhere test weights rows))) (cond b (unitsOf (weightOf weights r)) 0)
       step true = heavier-units (heaviest-weight (weightsWhere test weights rows) (where-weights rows)) (weight-of-weight weights r)
-      step false = nothing (unitsOf (heaviest (weightsWhere test weights rows)))
+      step false = max-none (unitsOf (heaviest (weightsWhere test weights rows)))
 
   where-above : (rows : List Reservation) (k : ℕ) → k < length rows → heavy test weights (getD rows k noReservation) ≤ unitsOf (heaviest (weightsWhere test weights rows))
   where-above [] k h = absurd (not-suc-le-zero h)
@@ -110,10 +104,7 @@ module _ (test : Reservation → Bool) (weights : List ℕ) where
   unfolding weightsWhere
   where-least [] m f = le-trans (le-of-eq zero-units) zero-le
   where-least (r ∷ rows) m f =
-      both (unitsOf (heaviest (weightsWhere test weights rows))) (heavy test weights r) (unitsOf (heaviest (weightsWhere test weights (r ∷ rows)))) m (where-next r rows) (where-least rows m (λ k l. f (suc k) (suc-le-suc l))) (f 0 (zero-lt-suc (length rows)))
-    where
-      both : (a b c m : ℕ) → c ≡ max a b → a ≤ m → b ≤ m → c ≤ m
-      both a b c m e p q = omega arith
+      max-least (unitsOf (heaviest (weightsWhere test weights rows))) (heavy test weights r) (unitsOf (heaviest (weightsWhere test weights (r ∷ rows)))) m (where-next r rows) (where-least rows m (λ k l. f (suc k) (suc-le-suc l))) (f 0 (zero-lt-suc (length rows)))
 
 -- ---- the rows of a register
 abbrev pub rowOf : Reserved → ℕ → Reservation
@@ -140,7 +131,7 @@ abbrev pub Apart : Register → GapSegment → Reservation → Type 0
 Apart p s r = (ofRegister p r ≡ false) ⊎ (meets s r ≡ false)
 
 apart-and : (a b c : Bool) → (a ≡ false) ⊎ (b ≡ false) → (a && (b && c)) ≡ false
-apart-and true true c e = ⊎-elim (λ x. x) (λ x. x) (⊎-elim (λ x. inl (absurd (mathlib.Core.Bool.true≢false x))) (λ x. inl (absurd (mathlib.Core.Bool.true≢false x))) e)
+apart-and true true c e = ⊎-elim (λ x. x) (λ x. x) (⊎-elim (λ x. inl (absurd (true≢false x))) (λ x. inl (absurd (true≢false x))) e)
 apart-and true false c e = refl
 apart-and false b c e = refl
 
@@ -168,13 +159,10 @@ module _ (p : Register) (t : Reserved) (s : GapSegment) where
   looked-fixed k m e =
       step (ofRegister p (rowOf t k)) (meets s (rowOf t k)) (countsAsFixed (t .fixedUses) s (rowOf t k)) (cond (eqb (rowOf t k .kind) 0) (heavier (m .heaviest) (weightOf (t .weights) (rowOf t k))) (m .heaviest)) e
     where
-      nothing : (x : ℕ) → x ≡ max x 0
-      nothing x = omega arith
-
       step : (a b c : Bool) (x : Float) → a ≡ true → bit (cond b (record { fixed = m .fixed || c; heaviest = x }) m .fixed) ≡ max (bit (m .fixed)) (bit (a && (b && c)))
       step true true c x e = bit-or (m .fixed) c
-      step true false c x e = nothing (bit (m .fixed))
-      step false b c x e = absurd (mathlib.Core.Bool.true≢false (sym e))
+      step true false c x e = max-none (bit (m .fixed))
+      step false b c x e = absurd (true≢false (sym e))
 
   looked-weight : (k : ℕ) (m : Met) → Weight (m .heaviest) → ofRegister p (rowOf t k) ≡ true
       → Weight (looked (t .fixedUses) (t .weights) s (rowOf t k) m .heaviest) × (unitsOf (looked (t .fixedUses) (t .weights) s (rowOf t k) m .heaviest) ≡ max (unitsOf (m .heaviest)) (weightCount p t s k))
@@ -182,16 +170,13 @@ module _ (p : Register) (t : Reserved) (s : GapSegment) where
   looked-weight k m w e =
       step (ofRegister p (rowOf t k)) (meets s (rowOf t k)) (eqb (rowOf t k .kind) 0) (m .fixed || countsAsFixed (t .fixedUses) s (rowOf t k)) e
     where
-      nothing : (x : ℕ) → x ≡ max x 0
-      nothing x = omega arith
-
       step : (a b c : Bool) (f : Bool) → a ≡ true
           → Weight (cond b (record { fixed = f; heaviest = cond c (heavier (m .heaviest) (weightOf (t .weights) (rowOf t k))) (m .heaviest) }) m .heaviest)
           × (unitsOf (cond b (record { fixed = f; heaviest = cond c (heavier (m .heaviest) (weightOf (t .weights) (rowOf t k))) (m .heaviest) }) m .heaviest) ≡ max (unitsOf (m .heaviest)) (cond (a && (b && c)) (unitsOf (weightOf (t .weights) (rowOf t k))) 0))
       step true true true f e = (heavier-weight w (weight-of-weight (t .weights) (rowOf t k)), heavier-units w (weight-of-weight (t .weights) (rowOf t k)))
-      step true true false f e = (w, nothing (unitsOf (m .heaviest)))
-      step true false c f e = (w, nothing (unitsOf (m .heaviest)))
-      step false b c f e = absurd (mathlib.Core.Bool.true≢false (sym e))
+      step true true false f e = (w, max-none (unitsOf (m .heaviest)))
+      step true false c f e = (w, max-none (unitsOf (m .heaviest)))
+      step false b c f e = absurd (true≢false (sym e))
 
   pub seen-look : (P Q : ℕ → Type 0) (i : ℕ) → ((k : ℕ) → Q k → P k ⊎ (k ≡ i)) → ((k : ℕ) → P k → Q k) → Q i → (m₀ m : Met) → ofRegister p (rowOf t i) ≡ true
       → Seen p t s P m₀ m → Seen p t s Q m₀ (looked (t .fixedUses) (t .weights) s (rowOf t i) m)
@@ -229,25 +214,16 @@ module _ (p : Register) (t : Reserved) (s : GapSegment) where
       record {
         weight = heavier-weight w h;
         fixed = record {
-          kept = left (bit (m .fixed)) (bit (anyOf test (t .rows))) (bit (m .fixed || anyOf test (t .rows))) (bit (m .fixed)) b (le-refl (bit (m .fixed)));
-          above = λ k l. right (bit (m .fixed)) (bit (anyOf test (t .rows))) (bit (m .fixed || anyOf test (t .rows))) (fixedCount p t s k) b (any-above test noReservation (t .rows) k l);
-          least = λ n l f. both (bit (m .fixed)) (bit (anyOf test (t .rows))) (bit (m .fixed || anyOf test (t .rows))) n b l (any-least test noReservation (t .rows) n f);
+          kept = max-left (bit (m .fixed)) (bit (anyOf test (t .rows))) (bit (m .fixed || anyOf test (t .rows))) (bit (m .fixed)) b (le-refl (bit (m .fixed)));
+          above = λ k l. max-right (bit (m .fixed)) (bit (anyOf test (t .rows))) (bit (m .fixed || anyOf test (t .rows))) (fixedCount p t s k) b (any-above test noReservation (t .rows) k l);
+          least = λ n l f. max-least (bit (m .fixed)) (bit (anyOf test (t .rows))) (bit (m .fixed || anyOf test (t .rows))) n b l (any-least test noReservation (t .rows) n f);
         };
         heaviest = record {
-          kept = left (unitsOf (m .heaviest)) (unitsOf (heaviest ws)) (unitsOf (heavier (m .heaviest) (heaviest ws))) (unitsOf (m .heaviest)) u (le-refl (unitsOf (m .heaviest)));
-          above = λ k l. right (unitsOf (m .heaviest)) (unitsOf (heaviest ws)) (unitsOf (heavier (m .heaviest) (heaviest ws))) (weightCount p t s k) u (where-above (weighsAgainst p s) (t .weights) (t .rows) k l);
-          least = λ n l f. both (unitsOf (m .heaviest)) (unitsOf (heaviest ws)) (unitsOf (heavier (m .heaviest) (heaviest ws))) n u l (where-least (weighsAgainst p s) (t .weights) (t .rows) n f);
+          kept = max-left (unitsOf (m .heaviest)) (unitsOf (heaviest ws)) (unitsOf (heavier (m .heaviest) (heaviest ws))) (unitsOf (m .heaviest)) u (le-refl (unitsOf (m .heaviest)));
+          above = λ k l. max-right (unitsOf (m .heaviest)) (unitsOf (heaviest ws)) (unitsOf (heavier (m .heaviest) (heaviest ws))) (weightCount p t s k) u (where-above (weighsAgainst p s) (t .weights) (t .rows) k l);
+          least = λ n l f. max-least (unitsOf (m .heaviest)) (unitsOf (heaviest ws)) (unitsOf (heavier (m .heaviest) (heaviest ws))) n u l (where-least (weighsAgainst p s) (t .weights) (t .rows) n f);
         };
       }
-    where
-      left : (a b c x : ℕ) → c ≡ max a b → x ≤ a → x ≤ c
-      left a b c x e l = omega arith
-
-      right : (a b c x : ℕ) → c ≡ max a b → x ≤ b → x ≤ c
-      right a b c x e l = omega arith
-
-      both : (a b c m : ℕ) → c ≡ max a b → a ≤ m → b ≤ m → c ≤ m
-      both a b c m e p q = omega arith
 
   pub seen-is : (m₀ m : Met) → Weight (m₀ .heaviest) → Seen p t s (All t) m₀ m → m ≡ alsoMet p t s m₀
   unfolding made
@@ -301,10 +277,7 @@ or-and true true true = refl
 or-and true true false = refl
 or-and true false true = refl
 or-and true false false = refl
-or-and false b x = none (bit (b && x))
-  where
-    none : (n : ℕ) → n ≡ max 0 n
-    none n = omega arith
+or-and false b x = none-max (bit (b && x))
 
 or-weighs : (a b x : Bool) (w : ℕ) → cond ((a || b) && x) w 0 ≡ max (cond (a && x) w 0) (cond (b && x) w 0)
 or-weighs true b true w = first b
@@ -312,18 +285,12 @@ or-weighs true b true w = first b
     both : (w : ℕ) → w ≡ max w w
     both w = omega arith
 
-    one : (w : ℕ) → w ≡ max w 0
-    one w = omega arith
-
     first : (b : Bool) → w ≡ max w (cond (b && true) w 0)
     first true = both w
-    first false = one w
+    first false = max-none w
 or-weighs true true false w = refl
 or-weighs true false false w = refl
-or-weighs false b x w = none (cond (b && x) w 0)
-  where
-    none : (n : ℕ) → n ≡ max 0 n
-    none n = omega arith
+or-weighs false b x w = none-max (cond (b && x) w 0)
 
 module _ (p : Register) (t : Reserved) (s : GapSegment) where
   -- before the first unit nothing is known

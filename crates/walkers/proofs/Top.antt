@@ -5,6 +5,7 @@ use Prim.Native.Nat.{ℕ, zero, suc, _≤_, _<_, max}
 use native.Mathlib.Nat.{le-refl, le-trans, le-antisymm, not-suc-le-zero}
 use native.Mathlib.Omega.{arith}
 use Rattle.links.proofs.Firsts.{split}
+use Rattle.walkers.proofs.Steps.{max-left, max-least, zero-upto}
 
 pub record Top (count : ℕ → ℕ) (P : ℕ → Type 0) (h x : ℕ) : Type 0 where
   pub kept : h ≤ x
@@ -17,54 +18,39 @@ top-only p q = le-antisymm (p .least _ (q .kept) (q .above)) (q .least _ (p .kep
 
 -- rows that count nothing
 pub top-none : {count : ℕ → ℕ} {P : ℕ → Type 0} (h : ℕ) → ((k : ℕ) → P k → count k ≡ 0) → Top count P h h
-top-none {count} h e = record { kept = le-refl h; above = λ k p. nothing (count k) h (e k p); least = λ m l _. l }
-  where
-    nothing : (c h : ℕ) → c ≡ 0 → c ≤ h
-    nothing c h e = omega arith
+top-none {count} h e = record { kept = le-refl h; above = λ k p. zero-upto (count k) h (e k p); least = λ m l _. l }
 
 -- one row more
 pub top-more : {count : ℕ → ℕ} {P : ℕ → Type 0} {h x : ℕ} (Q : ℕ → Type 0) (i y : ℕ) → ((k : ℕ) → Q k → P k ⊎ (k ≡ i)) → ((k : ℕ) → P k → Q k) → Q i
     → y ≡ max x (count i) → Top count P h x → Top count Q h y
 top-more {count} {P} {h} {x} Q i y only more here e t =
     record {
-      kept = left x (count i) y h e (t .kept);
-      above = λ k q. ⊎-elim (λ p. left x (count i) y (count k) e (t .above k p)) (λ f. right x (count i) y (count k) e (ap count f)) (only k q);
-      least = λ m l f. both x (count i) y m e (t .least m l (λ k p. f k (more k p))) (f i here);
+      kept = max-left x (count i) y h e (t .kept);
+      above = λ k q. ⊎-elim (λ p. max-left x (count i) y (count k) e (t .above k p)) (λ f. right x (count i) y (count k) e (ap count f)) (only k q);
+      least = λ m l f. max-least x (count i) y m e (t .least m l (λ k p. f k (more k p))) (f i here);
     }
   where
-    left : (x c y a : ℕ) → y ≡ max x c → a ≤ x → a ≤ y
-    left x c y a e l = omega arith
-
     right : (x c y a : ℕ) → y ≡ max x c → a ≡ c → a ≤ y
     right x c y a e l = omega arith
-
-    both : (x c y m : ℕ) → y ≡ max x c → x ≤ m → c ≤ m → y ≤ m
-    both x c y m e p q = omega arith
 
 -- all rows, where those left count nothing
 pub top-all : {count : ℕ → ℕ} {P : ℕ → Type 0} {h x : ℕ} (Q : ℕ → Type 0) → ((k : ℕ) → P k → Q k) → ((k : ℕ) → Q k → P k ⊎ (count k ≡ 0)) → Top count P h x → Top count Q h x
 top-all {count} {P} {h} {x} Q more only t =
     record {
       kept = t .kept;
-      above = λ k q. ⊎-elim (λ p. t .above k p) (λ e. nothing (count k) x e) (only k q);
+      above = λ k q. ⊎-elim (λ p. t .above k p) (λ e. zero-upto (count k) x e) (only k q);
       least = λ m l f. t .least m l (λ k p. f k (more k p));
     }
-  where
-    nothing : (c h : ℕ) → c ≡ 0 → c ≤ h
-    nothing c h e = omega arith
 
 -- two walks over the same rows, of which each counts a part
 pub top-join : {a b : ℕ → ℕ} {P : ℕ → Type 0} {h x y : ℕ} (count : ℕ → ℕ) → ((k : ℕ) → P k → count k ≡ max (a k) (b k)) → Top a P h x → Top b P x y → Top count P h y
 top-join {a} {b} {P} {h} {x} {y} count e s t =
     record {
       kept = le-trans (s .kept) (t .kept);
-      above = λ k p. both (a k) (b k) (count k) y (e k p) (le-trans (s .above k p) (t .kept)) (t .above k p);
+      above = λ k p. max-least (a k) (b k) (count k) y (e k p) (le-trans (s .above k p) (t .kept)) (t .above k p);
       least = λ m l f. t .least m (s .least m l (λ k p. left (a k) (b k) (count k) m (e k p) (f k p))) (λ k p. right (a k) (b k) (count k) m (e k p) (f k p));
     }
   where
-    both : (a b c m : ℕ) → c ≡ max a b → a ≤ m → b ≤ m → c ≤ m
-    both a b c m e p q = omega arith
-
     left : (a b c m : ℕ) → c ≡ max a b → c ≤ m → a ≤ m
     left a b c m e l = omega arith
 

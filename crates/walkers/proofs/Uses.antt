@@ -1,10 +1,10 @@
 -- The fixed uses of a unit: their row numbers, which of them count for a reservation, and from where on none does
-use mathlib.Core.Path.{_≡_, refl, sym, ap, _∙_, subst}
+use mathlib.Core.Path.{_≡_, refl, sym, ap, _∙_}
 use mathlib.Core.Logic.{_⊎_, inl, inr, ⊎-elim}
 use mathlib.Core.Bool.{Bool, true, false, not, _&&_, _||_, cond}
 use mathlib.Core.List.{List}
 use Prim.Native.Nat.{ℕ, zero, suc, _+_, _-_, _≤_, _<_}
-use native.Mathlib.Nat.{add-zero, add-suc, le-refl, le-trans, le-of-eq, lt-irrefl, not-suc-le-zero}
+use native.Mathlib.Nat.{add-zero, add-suc, le-refl, le-trans, not-suc-le-zero}
 use native.Mathlib.Omega.{arith}
 use lib.Dec.{leb, ltb, eqb}
 use lib.ListN.{length, getD}
@@ -14,17 +14,16 @@ use Rattle.jobs.specs.Rows.{noFixedUse}
 use Rattle.jobs.specs.Lines.{countBelow}
 use Rattle.jobs.specs.declared.rows.Reservation.{Reservation}
 use Rattle.jobs.specs.declared.rows.FixedUse.{FixedUse}
+use Rattle.jobs.proofs.Walk.{or-first, or-none, and-first}
 use Rattle.walkers.specs.declared.meeting.GapSegment.{GapSegment}
 use Rattle.walkers.specs.Meeting.{anyBelow, clashes, rowNumber, useCounts}
 use Rattle.walkers.specs.Standing.{OrderedUses, UsesFrom}
+use Rattle.walkers.proofs.Steps.{lt-ne, between-same}
 
 -- a test fails or holds
 pub either-way : (b : Bool) → (b ≡ true) ⊎ (b ≡ false)
 either-way true = inl refl
 either-way false = inr refl
-
-pub and-left-false : (a b : Bool) → a ≡ false → (a && b) ≡ false
-and-left-false a b p = rw p
 
 pub and-right-false : (a b : Bool) → b ≡ false → (a && b) ≡ false
 and-right-false true b p = p
@@ -32,12 +31,6 @@ and-right-false false b p = refl
 
 pub and-true : (a b : Bool) → a ≡ true → b ≡ true → (a && b) ≡ true
 and-true a b p q = rw p q
-
-or-false : (a b : Bool) → a ≡ false → b ≡ false → (a || b) ≡ false
-or-false a b p q = rw p q
-
-pub or-left : (a b : Bool) → a ≡ true → (a || b) ≡ true
-or-left a b p = rw p
 
 pub or-right : (a b : Bool) → b ≡ true → (a || b) ≡ true
 or-right true b p = refl
@@ -47,13 +40,13 @@ or-right false b p = p
 pub any-none : (test : ℕ → Bool) (n : ℕ) → ((k : ℕ) → k < n → test k ≡ false) → anyBelow test n ≡ false
 unfolding anyBelow
 any-none test zero h = refl
-any-none test (suc n) h = or-false (anyBelow test n) (test n) (any-none test n (λ k l. h k (omega (arith, l)))) (h n (le-refl (suc n)))
+any-none test (suc n) h = or-none (any-none test n (λ k l. h k (omega (arith, l)))) (h n (le-refl (suc n)))
 
 pub any-hit : (test : ℕ → Bool) (n k : ℕ) → k < n → test k ≡ true → anyBelow test n ≡ true
 unfolding anyBelow
 any-hit test zero k h e = absurd (not-suc-le-zero h)
 any-hit test (suc n) k h e =
-    ⊎-elim (λ l. or-left (anyBelow test n) (test n) (any-hit test n k l e))
+    ⊎-elim (λ l. or-first (anyBelow test n) (test n) (any-hit test n k l e))
     (λ l. or-right (anyBelow test n) (test n) (ap test (same n k h l) ∙ e)) (split k n)
   where
     same : (n k : ℕ) → k < suc n → n ≤ k → n ≡ k
@@ -95,14 +88,11 @@ module _ (fixedUses : List FixedUse) (ordered : OrderedUses fixedUses) (r : Rese
       let test : ℕ → Bool = λ k. eqb (getD fixedUses k noFixedUse .unit) (r .unit) in
       ap (countBelow test) (joined from j h)
       ∙ count-from test from d
-      (λ k m. ne-eqb (getD fixedUses k noFixedUse .unit) (r .unit) (below (begin .before k m)))
-      (λ k m q. eq-eqb (getD fixedUses k noFixedUse .unit) (r .unit) (same (begin .later k m (inner from j k h q l)) (ordered .units k j (upto from j k h q) l) e))
+      (λ k m. ne-eqb (getD fixedUses k noFixedUse .unit) (r .unit) (lt-ne (begin .before k m)))
+      (λ k m q. eq-eqb (getD fixedUses k noFixedUse .unit) (r .unit) (between-same (begin .later k m (inner from j k h q l)) (ordered .units k j (upto from j k h q) l) e))
     where
       joined : (a b : ℕ) → a ≤ b → b ≡ a + (b - a)
       joined a b h = omega arith
-
-      below : {a b : ℕ} → a < b → a ≡ b → ⊥
-      below {a} {b} h e = omega (arith, h, e)
 
       inner : (a b k : ℕ) → a ≤ b → k < a + (b - a) → b < length fixedUses → k < length fixedUses
       inner a b k h q l = omega arith
@@ -110,15 +100,12 @@ module _ (fixedUses : List FixedUse) (ordered : OrderedUses fixedUses) (r : Rese
       upto : (a b k : ℕ) → a ≤ b → k < a + (b - a) → k ≤ b
       upto a b k h q = omega arith
 
-      same : {a b u : ℕ} → u ≤ a → a ≤ b → b ≡ u → a ≡ u
-      same {a} {b} {u} p q e = omega (arith, p, q, e)
-
   -- one of another unit does not count
   other-unit : (j : ℕ) → (getD fixedUses j noFixedUse .unit ≡ r .unit → ⊥) → useCounts fixedUses s r j ≡ false
   unfolding useCounts
   other-unit j h =
-      and-left-false (eqb (getD fixedUses j noFixedUse .unit) (r .unit) && leb (r .fixed) (rowNumber fixedUses (r .unit) j)) (clashes s (getD fixedUses j noFixedUse))
-      (and-left-false (eqb (getD fixedUses j noFixedUse .unit) (r .unit)) (leb (r .fixed) (rowNumber fixedUses (r .unit) j)) (ne-eqb (getD fixedUses j noFixedUse .unit) (r .unit) h))
+      and-first (eqb (getD fixedUses j noFixedUse .unit) (r .unit) && leb (r .fixed) (rowNumber fixedUses (r .unit) j)) (clashes s (getD fixedUses j noFixedUse))
+      (and-first (eqb (getD fixedUses j noFixedUse .unit) (r .unit)) (leb (r .fixed) (rowNumber fixedUses (r .unit) j)) (ne-eqb (getD fixedUses j noFixedUse .unit) (r .unit) h))
 
   -- what holds of those of the unit, and of all others, holds
   by-unit : (j : ℕ) → (getD fixedUses j noFixedUse .unit ≡ r .unit → useCounts fixedUses s r j ≡ false) → useCounts fixedUses s r j ≡ false
@@ -135,16 +122,13 @@ module _ (fixedUses : List FixedUse) (ordered : OrderedUses fixedUses) (r : Rese
   pub too-early : (j : ℕ) → j < from + r .fixed → j < length fixedUses → useCounts fixedUses s r j ≡ false
   unfolding useCounts
   too-early j h l =
-      ⊎-elim (λ b. other-unit j (below (begin .before j b)))
+      ⊎-elim (λ b. other-unit j (lt-ne (begin .before j b)))
       (λ b. by-unit j (λ e.
-      and-left-false (eqb (getD fixedUses j noFixedUse .unit) (r .unit) && leb (r .fixed) (rowNumber fixedUses (r .unit) j)) (clashes s (getD fixedUses j noFixedUse))
+      and-first (eqb (getD fixedUses j noFixedUse .unit) (r .unit) && leb (r .fixed) (rowNumber fixedUses (r .unit) j)) (clashes s (getD fixedUses j noFixedUse))
       (and-right-false (eqb (getD fixedUses j noFixedUse .unit) (r .unit)) (leb (r .fixed) (rowNumber fixedUses (r .unit) j))
       (lt-leb (r .fixed) (rowNumber fixedUses (r .unit) j) (less from j (r .fixed) (rowNumber fixedUses (r .unit) j) b h (number j b l e))))))
       (split j from)
     where
-      below : {a b : ℕ} → a < b → a ≡ b → ⊥
-      below {a} {b} h e = omega (arith, h, e)
-
       less : (a j f x : ℕ) → a ≤ j → j < a + f → x ≡ j - a → x < f
       less a j f x p q e = omega arith
 
@@ -166,16 +150,13 @@ module _ (fixedUses : List FixedUse) (ordered : OrderedUses fixedUses) (r : Rese
   -- behind one of another unit, and behind one past the segment, none counts
   pub past-unit : (i j : ℕ) → from ≤ i → i ≤ j → j < length fixedUses → (getD fixedUses i noFixedUse .unit ≡ r .unit → ⊥) → useCounts fixedUses s r j ≡ false
   past-unit i j h m l ne =
-      other-unit j (λ e. ne (same (begin .later i h (inner i j m l)) (ordered .units i j m l) e))
+      other-unit j (λ e. ne (between-same (begin .later i h (inner i j m l)) (ordered .units i j m l) e))
     where
       inner : (i j : ℕ) → i ≤ j → j < length fixedUses → i < length fixedUses
       inner i j p q = omega arith
 
-      same : {a b u : ℕ} → u ≤ a → a ≤ b → b ≡ u → a ≡ u
-      same {a} {b} {u} p q e = omega (arith, p, q, e)
-
   pub past-point : (i j : ℕ) → i ≤ j → j < length fixedUses → getD fixedUses i noFixedUse .unit ≡ r .unit → s .to .0 ≤ getD fixedUses i noFixedUse .point → useCounts fixedUses s r j ≡ false
   unfolding clashes
   past-point i j m l e p =
-      by-unit j (λ f. no-clash j (and-left-false (ltb (getD fixedUses j noFixedUse .point) (s .to .0) && ltb (s .from .0) (getD fixedUses j noFixedUse .point + 2)) (not (eqb (getD fixedUses j noFixedUse .value) (s .value .0)))
-      (and-left-false (ltb (getD fixedUses j noFixedUse .point) (s .to .0)) (ltb (s .from .0) (getD fixedUses j noFixedUse .point + 2)) (le-ltb (getD fixedUses j noFixedUse .point) (s .to .0) (le-trans p (ordered .points i j m l (e ∙ sym f)))))))
+      by-unit j (λ f. no-clash j (and-first (ltb (getD fixedUses j noFixedUse .point) (s .to .0) && ltb (s .from .0) (getD fixedUses j noFixedUse .point + 2)) (not (eqb (getD fixedUses j noFixedUse .value) (s .value .0)))
+      (and-first (ltb (getD fixedUses j noFixedUse .point) (s .to .0)) (ltb (s .from .0) (getD fixedUses j noFixedUse .point + 2)) (le-ltb (getD fixedUses j noFixedUse .point) (s .to .0) (le-trans p (ordered .points i j m l (e ∙ sym f)))))))

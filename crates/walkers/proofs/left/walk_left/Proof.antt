@@ -2,9 +2,8 @@
 use mathlib.Core.Path.{_≡_, sym, ap, _∙_, subst}
 use mathlib.Core.List.{[], _∷_}
 use Prim.Native.Nat.{ℕ, _-_, _≤_, _<_}
-use native.Mathlib.Nat.{lt-of-lt-of-le, lt-of-le-of-lt, le-trans, le-of-eq, le-of-lt}
+use native.Mathlib.Nat.{lt-of-le-of-lt, le-trans, le-of-eq, le-of-lt}
 use native.Mathlib.Omega.{arith}
-use borrow.Author.Needs.{needs}
 use lib.ListN.{length}
 use Rattle.links.specs.Table.{shortest}
 use Rattle.jobs.specs.declared.rows.Reservation.{Reservation}
@@ -13,6 +12,7 @@ use Rattle.jobs.proofs.Walk.{own-row}
 use Rattle.walkers.specs.declared.meeting.Met.{Met}
 use Rattle.walkers.specs.Meeting.{Reserved, reservedOf, looked, alsoMet, oneUnit}
 use Rattle.walkers.specs.Standing.{Beyond, UsesFrom}
+use Rattle.walkers.proofs.Steps.{last-inside}
 use Rattle.walkers.proofs.Seen.{Seen, All, rowOf, seen-is}
 use Rattle.walkers.proofs.OneUnit.{beyond-earlier, left-begin, left-look, left-next, left-end, left-unit, left-past}
 use Rattle.walkers.proofs.left.walk_left.Statement.{statement}
@@ -35,10 +35,7 @@ abbrev begin : tie.In-loop Inv-loop μ-loop → tie.Start Inv-loop μ-loop
 begin c = c .before .before .before .before .before .before .before .before .before .before .before .before
 
 in-list : (c : tie.In-loop Inv-loop μ-loop) → c .before .loop .i - 1 < length (table (begin c) .rows)
-in-list c = inner (c .before .loop .i) (length (table (begin c) .rows)) (c .loop-test .taken) (c .before .loop .inv .0 .inside)
-  where
-    inner : (i n : ℕ) → 0 < i → i ≤ n → i - 1 < n
-    inner i n p q = omega arith
+in-list c = last-inside (c .before .loop .i) (length (table (begin c) .rows)) (c .loop-test .taken) (c .before .loop .inv .0 .inside)
 
 -- the row that was read is the table's
 row : (d : tie.After-reservation-at Inv-loop μ-loop) → d .reservation-at .result ≡ rowOf (table (begin (d .before))) (d .before .before .loop .i - 1)

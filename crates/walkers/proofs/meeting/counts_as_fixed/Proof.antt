@@ -1,7 +1,6 @@
 -- `counts_as_fixed` goes by the kind
-use mathlib.Core.Path.{_≡_, refl, sym, ap, _∙_}
-use mathlib.Core.Bool.{Bool, true, false, not, _&&_, cond}
-use borrow.Author.Needs.{needs}
+use mathlib.Core.Path.{refl, sym, ap}
+use mathlib.Core.Bool.{not}
 use borrow.Author.Tests.{eq-eqb, ne-eqb}
 use Rattle.jobs.proofs.Walk.{pick-first, pick-second, and-both, and-first}
 use Rattle.walkers.specs.Meeting.{countsAsFixed}

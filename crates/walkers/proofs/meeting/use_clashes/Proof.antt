@@ -16,6 +16,7 @@ use Rattle.jobs.specs.declared.rows.FixedUse.{FixedUse}
 use Rattle.jobs.specs.Rows.{fixedUseRow, fixedUsesOf, noFixedUse}
 use Rattle.jobs.proofs.Walk.{own-row}
 use Rattle.walkers.specs.Meeting.{anyBelow, clashes, useCounts}
+use Rattle.walkers.proofs.Steps.{next-only}
 use Rattle.walkers.proofs.Uses.{any-none, any-hit, too-early, past-unit, past-point, no-clash, one-counts}
 use Rattle.walkers.proofs.meeting.use_clashes.Statement.{statement}
 use Rattle.walkers.proofs.meeting.use_clashes.Tie as tie
@@ -113,14 +114,11 @@ loop-again c =
     let b = c .before .before .before .before .before .before .before .before .before .before .before .before .before .before .before .before in
     let i = c .before .before .before .before .before .before .before .before .before .before .loop .i in (
       up (b .args .from + b .args .r .fixed) i (c .before .before .before .before .before .before .before .before .before .before .loop .inv .0),
-      λ k h l. ⊎-elim (λ m. c .before .before .before .before .before .before .before .before .before .before .loop .inv .1 k m l) (λ m. ap (test b) (same k i h m) ∙ no-clash (uses b) (b .pre .0) (b .args .r) (b .args .s) (b .args .from) (b .pre .1) i (tested (c .before) false (c .if3 .left))) (split k i),
+      λ k h l. ⊎-elim (λ m. c .before .before .before .before .before .before .before .before .before .before .loop .inv .1 k m l) (λ m. ap (test b) (next-only k i h m) ∙ no-clash (uses b) (b .pre .0) (b .args .r) (b .args .s) (b .args .from) (b .pre .1) i (tested (c .before) false (c .if3 .left))) (split k i),
     )
   where
     up : (a i : ℕ) → a ≤ i → a ≤ i + 1
     up a i h = omega arith
-
-    same : (k i : ℕ) → k < i + 1 → i ≤ k → k ≡ i
-    same k i p q = omega arith
 
 returns-4 : tie.Need-returns-4 Inv-loop μ-loop
 returns-4 c = sym (none (c .before) (λ j m l. absurd (never (c .before .before .before .fixed-use-count .result) (c .before .loop .i) j (length (uses (c .before .before .before .before .before .before .before))) (c .loop-test .left) (c .before .before .before .fixed-use-count .ensures) m l)))

@@ -1,9 +1,9 @@
 -- `first_use` searches the column of units, which does not fall
-use mathlib.Core.Path.{_≡_, sym, subst}
+use mathlib.Core.Path.{sym, subst}
 use mathlib.Core.List.{List}
 use Prim.Native.Nat.{ℕ}
 use lib.Dec.{leb}
-use lib.ListN.{length, getD}
+use lib.ListN.{getD}
 use borrow.Author.Needs.{needs}
 use Rattle.links.specs.First.{FirstIn, Searchable}
 use Rattle.jobs.specs.declared.rows.FixedUse.{FixedUse}

@@ -1,11 +1,11 @@
 -- `rows_of_unit` searches the column of units, which does not fall, for the unit and for the next
-use mathlib.Core.Path.{_≡_, sym, subst}
+use mathlib.Core.Path.{sym, subst}
 use mathlib.Core.List.{List}
 use Prim.Native.Nat.{ℕ, _+_, zero-le}
 use native.Mathlib.Nat.{le-trans, le-of-eq}
 use native.Mathlib.Omega.{arith}
 use lib.Dec.{leb}
-use lib.ListN.{length, getD}
+use lib.ListN.{getD}
 use borrow.Author.Needs.{needs}
 use Rattle.links.specs.First.{FirstIn, Searchable}
 use Rattle.jobs.specs.declared.rows.Reservation.{Reservation}

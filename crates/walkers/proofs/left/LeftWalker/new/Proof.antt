@@ -1,16 +1,15 @@
 -- `new` finds the place in each unit: the walkers of the units before v stand
-use mathlib.Core.Path.{_≡_, refl}
+use mathlib.Core.Path.{refl}
 use mathlib.Core.List.{List}
 use Prim.Native.Nat.{ℕ, _+_, _-_, _≤_, _<_, zero-le}
-use native.Mathlib.Nat.{le-refl}
 use native.Mathlib.Omega.{arith}
 use borrow.Author.Needs.{needs}
-use lib.ListN.{length}
 use Rattle.jobs.specs.declared.rows.Reservation.{Reservation}
 use Rattle.jobs.specs.declared.rows.FixedUse.{FixedUse}
 use Rattle.jobs.specs.Rows.{reservationsOf, fixedUsesOf}
 use Rattle.walkers.specs.declared.meeting.Register.{Register}
 use Rattle.walkers.specs.Standing.{UsesFrom, Beyond}
+use Rattle.walkers.proofs.Steps.{next-inside, below-upto}
 use Rattle.walkers.proofs.AllUnits.{Walked, walked-none, walked-more}
 use Rattle.walkers.proofs.left.LeftWalker.new.Statement.{statement}
 use Rattle.walkers.proofs.left.LeftWalker.new.Tie as tie
@@ -79,10 +78,7 @@ loop-again c =
     let l = c .before .before .before .before .before .loop in
     let v = c .before .before .before .if1 .taken in
     let few = b .pre .1 .1 .few in
-    (next (l .v) (b .args .register .units) v, walked-more (c .before .end-row .result) v few (c .before .end-row .ensures) (l .inv .1), walked-more (c .first-use .result) v few (c .first-use .ensures) (l .inv .2))
-  where
-    next : (v n : ℕ) → v < n → v + 1 ≤ n
-    next v n h = omega arith
+    (next-inside (l .v) (b .args .register .units) v, walked-more (c .before .end-row .result) v few (c .before .end-row .ensures) (l .inv .1), walked-more (c .first-use .result) v few (c .first-use .ensures) (l .inv .2))
 
 returns : tie.Need-returns Inv-loop μ-loop
 returns c =
@@ -92,13 +88,10 @@ returns c =
       record {
         eight = l .inv .1 .eight;
         eight-uses = l .inv .2 .eight;
-        beyond = λ v h. l .inv .1 .walked v (within v n (l .v) h (c .if1 .left));
-        from = λ v h. l .inv .2 .walked v (within v n (l .v) h (c .if1 .left));
+        beyond = λ v h. l .inv .1 .walked v (below-upto v n (l .v) h (c .if1 .left));
+        from = λ v h. l .inv .2 .walked v (below-upto v n (l .v) h (c .if1 .left));
       },
     )
-  where
-    within : (v n x : ℕ) → v < n → n ≤ x → v < x
-    within v n x p q = omega arith
 
 pub new-spec : {M : Type 1} → statement M
 new-spec =

@@ -1,17 +1,12 @@
 -- `take_gap` takes the gap's rows one by one, from the last down: what is known is what the rows from i on meet
-use mathlib.Core.Path.{_≡_, refl, sym, ap, ap₂, _∙_, subst}
-use mathlib.Core.Bool.{Bool, true, false, _||_}
-use mathlib.Core.List.{List}
-use Prim.Native.Nat.{ℕ, _+_, _-_, _≤_, _<_}
-use native.Mathlib.Nat.{le-trans, le-of-eq, lt-of-lt-of-le, lt-of-le-of-lt}
+use mathlib.Core.Path.{_≡_, sym, ap, ap₂, _∙_, subst}
+use mathlib.Core.Bool.{Bool, false, _||_}
+use Prim.Native.Nat.{ℕ, _-_, _≤_, _<_}
+use native.Mathlib.Nat.{le-trans, le-of-eq, lt-of-lt-of-le}
 use native.Mathlib.Omega.{arith}
 use borrow.Author.Needs.{needs}
 use borrow.Author.Tests.{eq-eqb}
-use lib.Ieee.{Float}
-use lib.ListN.{length, getD}
-use Rattle.jobs.specs.declared.rows.Reservation.{Reservation}
-use Rattle.jobs.specs.declared.rows.FixedUse.{FixedUse}
-use Rattle.jobs.specs.Rows.{reservationsOf, fixedUsesOf}
+use lib.ListN.{getD}
 use Rattle.walkers.specs.declared.meeting.Met.{Met}
 use Rattle.walkers.specs.declared.meeting.GapSegment.{GapSegment}
 use Rattle.walkers.specs.declared.meeting.Register.{Register}
@@ -19,6 +14,7 @@ use Rattle.walkers.specs.declared.left.LeftWalker.{LeftWalker}
 use Rattle.walkers.specs.Meeting.{Reserved, reservedOf, fixedMet, heaviestMet, alsoMet}
 use Rattle.walkers.specs.Standing.{StandsLeft}
 use Rattle.walkers.specs.Gaps.{GapColumns, gapColumns, segmentIn}
+use Rattle.walkers.proofs.Steps.{last-inside, last-before}
 use Rattle.walkers.proofs.Seen.{made}
 use Rattle.walkers.proofs.GapSegments.{SeenGap, gap-is}
 use Rattle.walkers.proofs.GapWalk.{Within, within-last, left-earlier, left-moved, last-of-gap-true, last-of-gap-false, left-out, left-step, left-first, left-more, left-whole}
@@ -66,10 +62,7 @@ of-gap c =
     last-of-gap-true (b .args .out-gap .now) (b .args .gap) (c .before .before .loop .i) (sym (c .before .last-is-of-gap .ensures) ∙ c .if1 .taken)
 
 inside : (c : tie.Then1 Inv-loop μ-loop) → c .before .before .loop .i - 1 < c .before .before .before .before .before .before .before .before .before .before .before .before .before .before .before .before .before .args .used
-inside c = inner (c .before .before .loop .i) (c .before .before .before .before .before .before .before .before .before .before .before .before .before .before .before .before .before .args .used) (of-gap c .0) (c .before .before .loop .inv .0 .inside)
-  where
-    inner : (i n : ℕ) → 0 < i → i ≤ n → i - 1 < n
-    inner i n p q = omega arith
+inside c = last-inside (c .before .before .loop .i) (c .before .before .before .before .before .before .before .before .before .before .before .before .before .before .before .before .before .args .used) (of-gap c .0) (c .before .before .loop .inv .0 .inside)
 
 sub-segment-at : tie.Need-sub-segment-at Inv-loop μ-loop
 sub-segment-at c = omega (arith, of-gap c .0)
@@ -122,13 +115,10 @@ loop-again c =
     let g = columns b in
     let h = of-gap (c .before .before .before .before) in (
       left-step g (b .args .gap) (l .i) (h .0) (h .1) (l .inv .0),
-      (λ n. left-earlier (le-trans (b .pre .1 .1 .0 .apart (l .i - 1 - 1) (l .i - 1) (before (l .i - 1) n) (inside (c .before .before .before .before))) (le-of-eq (ap (λ (s : GapSegment). s .from .0) (sym (c .before .before .before .segment-at .ensures))))) (c .before .before .take-segment .ensures .3)),
+      (λ n. left-earlier (le-trans (b .pre .1 .1 .0 .apart (l .i - 1 - 1) (l .i - 1) (last-before (l .i - 1) n) (inside (c .before .before .before .before))) (le-of-eq (ap (λ (s : GapSegment). s .from .0) (sym (c .before .before .before .segment-at .ensures))))) (c .before .before .take-segment .ensures .3)),
       subst (λ (m : Met). SeenGap (b .args .register) (table b) g (b .args .gap) (λ (k : ℕ). (l .i - 1 ≤ k) × (k < g .used)) (first b) m) (sym (met-more (c .before)))
           (left-more g (b .args .gap) (b .args .register) (table b) (l .i) (first b) (l .met) (h .0) (l .inv .0 .inside) (eq-eqb _ _ (h .1)) (l .inv .2)),
     )
-  where
-    before : (i : ℕ) → 0 < i → i - 1 < i
-    before i h = omega arith
 
 returns : tie.Need-returns Inv-loop μ-loop
 returns c =

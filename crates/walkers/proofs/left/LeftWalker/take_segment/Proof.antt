@@ -1,17 +1,17 @@
 -- `take_segment` walks the register's units one after the other: what is known is what the units before v count
-use mathlib.Core.Path.{_≡_, refl, sym, ap, _∙_, subst}
+use mathlib.Core.Path.{refl, sym, ap, subst}
 use mathlib.Core.Bool.{false}
 use mathlib.Core.List.{List}
 use Prim.Native.Nat.{ℕ, _+_, _-_, _≤_, _<_, zero-le}
 use native.Mathlib.Nat.{le-refl, le-antisymm}
 use native.Mathlib.Omega.{arith}
 use borrow.Author.Needs.{needs}
-use lib.ListN.{length, getD}
 use Rattle.walkers.specs.declared.meeting.Met.{Met}
 use Rattle.walkers.specs.declared.meeting.GapSegment.{GapSegment}
 use Rattle.walkers.specs.declared.meeting.Register.{Register}
-use Rattle.walkers.specs.Meeting.{Reserved, reservedOf, alsoMet, oneUnit}
+use Rattle.walkers.specs.Meeting.{Reserved, reservedOf}
 use Rattle.walkers.specs.Standing.{Beyond}
+use Rattle.walkers.proofs.Steps.{next-inside, below-upto}
 use Rattle.walkers.proofs.Seen.{Seen, All, firstUnits, units-none, units-more, seen-is}
 use Rattle.walkers.proofs.AllUnits.{Walked, walked-none, walked-more}
 use Rattle.walkers.proofs.left.LeftWalker.take_segment.Statement.{statement}
@@ -93,13 +93,10 @@ loop-again c =
     let l = c .before .before .before .before .before .loop in
     let v = c .before .before .before .if1 .taken in
     let k = c .before .walk-left in (
-      next (l .v) (b .args .register .units) v,
+      next-inside (l .v) (b .args .register .units) v,
       walked-more (k .result .at) v (b .pre .1 .0 .0 .few) (k .ensures .1) (l .inv .1),
       subst (λ (m : Met). Seen (firstUnits (b .args .register) (l .v + 1)) (table b) (b .args .s) (All (table b)) (first b) m) (sym (k .ensures .0)) (units-more (b .args .register) (table b) (b .args .s) (l .v) (first b) (l .met) (l .inv .2)),
     )
-  where
-    next : (v n : ℕ) → v < n → v + 1 ≤ n
-    next v n h = omega arith
 
 returns : tie.Need-returns Inv-loop μ-loop
 returns c =
@@ -110,11 +107,8 @@ returns c =
       ap (λ (x : Met). x .fixed) m,
       ap (λ (x : Met). x .heaviest) m,
       refl,
-      record { eight = l .inv .1 .eight; eight-uses = b .pre .1 .0 .1 .eight-uses; beyond = λ v h. l .inv .1 .walked v (within v (b .args .register .units) (l .v) h (c .if1 .left)); from = b .pre .1 .0 .1 .from },
+      record { eight = l .inv .1 .eight; eight-uses = b .pre .1 .0 .1 .eight-uses; beyond = λ v h. l .inv .1 .walked v (below-upto v (b .args .register .units) (l .v) h (c .if1 .left)); from = b .pre .1 .0 .1 .from },
     )
-  where
-    within : (v n x : ℕ) → v < n → n ≤ x → v < x
-    within v n x p q = omega arith
 
 pub take-segment-spec : {M : Type 1} → statement M
 take-segment-spec =

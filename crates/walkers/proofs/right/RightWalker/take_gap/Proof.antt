@@ -1,17 +1,12 @@
 -- `take_gap` takes the gap's rows one by one: what is known is what the rows before i meet
-use mathlib.Core.Path.{_≡_, refl, sym, ap, ap₂, _∙_, subst}
-use mathlib.Core.Bool.{Bool, true, false, _||_}
-use mathlib.Core.List.{List}
-use Prim.Native.Nat.{ℕ, _+_, _-_, _≤_, _<_}
-use native.Mathlib.Nat.{le-trans, le-of-eq, lt-of-lt-of-le, lt-of-le-of-lt}
+use mathlib.Core.Path.{_≡_, sym, ap, ap₂, _∙_, subst}
+use mathlib.Core.Bool.{Bool, false, _||_}
+use Prim.Native.Nat.{ℕ, _+_, _-_, _<_}
+use native.Mathlib.Nat.{le-trans, le-of-eq, lt-of-lt-of-le}
 use native.Mathlib.Omega.{arith}
 use borrow.Author.Needs.{needs}
 use borrow.Author.Tests.{eq-eqb}
-use lib.Ieee.{Float}
-use lib.ListN.{length, getD}
-use Rattle.jobs.specs.declared.rows.Reservation.{Reservation}
-use Rattle.jobs.specs.declared.rows.FixedUse.{FixedUse}
-use Rattle.jobs.specs.Rows.{reservationsOf, fixedUsesOf}
+use lib.ListN.{getD}
 use Rattle.walkers.specs.declared.meeting.Met.{Met}
 use Rattle.walkers.specs.declared.meeting.GapSegment.{GapSegment}
 use Rattle.walkers.specs.declared.meeting.Register.{Register}
@@ -19,6 +14,7 @@ use Rattle.walkers.specs.declared.right.RightWalker.{RightWalker}
 use Rattle.walkers.specs.Meeting.{Reserved, reservedOf, fixedMet, heaviestMet, alsoMet}
 use Rattle.walkers.specs.Standing.{StandsRight}
 use Rattle.walkers.specs.Gaps.{GapColumns, gapColumns, segmentIn}
+use Rattle.walkers.proofs.Steps.{next-after}
 use Rattle.walkers.proofs.Seen.{made}
 use Rattle.walkers.proofs.GapSegments.{SeenGap, gap-is}
 use Rattle.walkers.proofs.GapWalk.{Within, within-first, right-later, right-moved, of-gap-true, of-gap-false, right-out, right-step, right-first, right-more, right-whole}
@@ -116,13 +112,10 @@ loop-again c =
     let g = columns b in
     let h = of-gap (c .before .before .before .before) in (
       right-step g (b .args .gap) (l .i) (h .0) (h .1) (l .inv .0),
-      (λ n. right-later (le-trans (le-of-eq (ap (λ (s : GapSegment). s .to .0) (c .before .before .before .segment-at .ensures))) (b .pre .1 .1 .0 .apart (l .i) (l .i + 1) (next (l .i)) n)) (c .before .before .take-segment .ensures .3)),
+      (λ n. right-later (le-trans (le-of-eq (ap (λ (s : GapSegment). s .to .0) (c .before .before .before .segment-at .ensures))) (b .pre .1 .1 .0 .apart (l .i) (l .i + 1) (next-after (l .i)) n)) (c .before .before .take-segment .ensures .3)),
       subst (λ (m : Met). SeenGap (b .args .register) (table b) g (b .args .gap) (λ (k : ℕ). k < l .i + 1) (first b) m) (sym (met-more (c .before)))
           (right-more g (b .args .gap) (b .args .register) (table b) (l .i) (first b) (l .met) (eq-eqb _ _ (h .1)) (l .inv .2)),
     )
-  where
-    next : (i : ℕ) → i < i + 1
-    next i = omega arith
 
 returns : tie.Need-returns Inv-loop μ-loop
 returns c =
