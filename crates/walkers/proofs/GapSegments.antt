@@ -13,7 +13,7 @@ use Rattle.walkers.specs.declared.meeting.GapSegment.{GapSegment}
 use Rattle.walkers.specs.declared.meeting.Register.{Register}
 use Rattle.walkers.specs.declared.meeting.Met.{Met}
 use Rattle.walkers.specs.Meeting.{Reserved, anyOf, fixedMet, weightsMet, fixedMetAny, weightsMetAll, alsoMet}
-use Rattle.walkers.specs.Gaps.{GapColumns, segmentIn, picked, ofGap, gapMet}
+use Rattle.walkers.specs.Gaps.{GapColumns, segmentIn, picked, ofGap, segmentsOfGap, gapMet}
 use Rattle.walkers.proofs.Top.{Top, top-only, top-none, top-more, top-all, top-built}
 use Rattle.walkers.proofs.Seen.{bit, bit-or, bit-only, met-weights, made}
 
@@ -59,6 +59,34 @@ module _ (p : Register) (t : Reserved) where
       end : (l : List Float) → (l ++ []) ≡ l
       end [] = refl
       end (w ∷ l) = ap (λ (m : List Float). w ∷ m) (end l)
+
+-- ---- what is picked by a test, row by row
+module _ (p : Register) (t : Reserved) (at : ℕ → GapSegment) where
+  pub fixed-next : (test : ℕ → Bool) (n : ℕ) → bit (fixedMetAny p t (picked test at (suc n))) ≡ max (bit (fixedMetAny p t (picked test at n))) (cond (test n) (bit (fixedMet p t (at n))) 0)
+  unfolding fixedMetAny picked anyOf
+  fixed-next test n =
+      ap bit (any-append (fixedMet p t) (picked test at n) (cond (test n) (at n ∷ []) [])) ∙ bit-or (anyOf (fixedMet p t) (picked test at n)) (anyOf (fixedMet p t) (cond (test n) (at n ∷ []) []))
+      ∙ ap (max (bit (anyOf (fixedMet p t) (picked test at n)))) (one (test n))
+    where
+      or-none : (b : Bool) → bit (b || false) ≡ bit b
+      or-none true = refl
+      or-none false = refl
+
+      one : (b : Bool) → bit (anyOf (fixedMet p t) (cond b (at n ∷ []) [])) ≡ cond b (bit (fixedMet p t (at n))) 0
+      one true = or-none (fixedMet p t (at n))
+      one false = refl
+
+  pub weight-next : (test : ℕ → Bool) (n : ℕ) → heaviestAll p t (picked test at (suc n)) ≡ max (heaviestAll p t (picked test at n)) (cond (test n) (unitsOf (heaviest (weightsMet p t (at n)))) 0)
+  unfolding picked weightsMetAll
+  weight-next test n =
+      units-append p t (picked test at n) (cond (test n) (at n ∷ []) []) ∙ turned (heaviestAll p t (cond (test n) (at n ∷ []) [])) (heaviestAll p t (picked test at n)) ∙ ap (max (heaviestAll p t (picked test at n))) (one (test n))
+    where
+      turned : (a b : ℕ) → max a b ≡ max b a
+      turned a b = omega arith
+
+      one : (b : Bool) → heaviestAll p t (cond b (at n ∷ []) []) ≡ cond b (unitsOf (heaviest (weightsMet p t (at n)))) 0
+      one true = units-one p t (at n)
+      one false = zero-units
 
 -- ---- the rows of a gap
 abbrev pub gapFixed : Register → Reserved → GapColumns → ℕ → ℕ → ℕ
@@ -110,44 +138,15 @@ module _ (p : Register) (t : Reserved) (g : GapColumns) (gap : ℕ) where
         heaviest = top-all Used more (λ i l. ⊎-elim (λ x. inl x) (λ x. inr (other-weight i x)) (only i l)) (k .heaviest);
       }
 
-  -- the definitions, row by row
-  abbrev upto : ℕ → List GapSegment
-  upto n = picked (ofGap g gap) (segmentIn g) n
-
-  fixed-next : (n : ℕ) → bit (fixedMetAny p t (upto (suc n))) ≡ max (bit (fixedMetAny p t (upto n))) (gapFixed p t g gap n)
-  unfolding fixedMetAny picked anyOf
-  fixed-next n =
-      ap bit (any-append (fixedMet p t) (upto n) (cond (ofGap g gap n) (segmentIn g n ∷ []) [])) ∙ bit-or (anyOf (fixedMet p t) (upto n)) (anyOf (fixedMet p t) (cond (ofGap g gap n) (segmentIn g n ∷ []) []))
-      ∙ ap (max (bit (anyOf (fixedMet p t) (upto n)))) (one (ofGap g gap n))
-    where
-      or-none : (b : Bool) → bit (b || false) ≡ bit b
-      or-none true = refl
-      or-none false = refl
-
-      one : (b : Bool) → bit (anyOf (fixedMet p t) (cond b (segmentIn g n ∷ []) [])) ≡ cond b (bit (fixedMet p t (segmentIn g n))) 0
-      one true = or-none (fixedMet p t (segmentIn g n))
-      one false = refl
-
-  weight-next : (n : ℕ) → heaviestAll p t (upto (suc n)) ≡ max (heaviestAll p t (upto n)) (gapWeight p t g gap n)
-  unfolding picked weightsMetAll
-  weight-next n =
-      units-append p t (upto n) (cond (ofGap g gap n) (segmentIn g n ∷ []) []) ∙ turned (heaviestAll p t (cond (ofGap g gap n) (segmentIn g n ∷ []) [])) (heaviestAll p t (upto n)) ∙ ap (max (heaviestAll p t (upto n))) (one (ofGap g gap n))
-    where
-      turned : (a b : ℕ) → max a b ≡ max b a
-      turned a b = omega arith
-
-      one : (b : Bool) → heaviestAll p t (cond b (segmentIn g n ∷ []) []) ≡ cond b (unitsOf (heaviest (weightsMet p t (segmentIn g n)))) 0
-      one true = units-one p t (segmentIn g n)
-      one false = zero-units
-
+  -- the definitions are what all rows meet
   pub gap-met : (m : Met) → Weight (m .heaviest) → SeenGap p t g gap (λ (k : ℕ). k < g .used) m (gapMet p t g gap m)
   unfolding picked fixedMetAny weightsMetAll anyOf
   gap-met m w =
-      let h = heaviest-weight (weightsMetAll p t (upto (g .used))) (all-weights p t (upto (g .used))) in
+      let h = heaviest-weight (weightsMetAll p t (segmentsOfGap g gap)) (all-weights p t (segmentsOfGap g gap)) in
       record {
         weight = heavier-weight w h;
-        fixed = top-built (gapFixed p t g gap) (λ (n : ℕ). bit (fixedMetAny p t (upto n))) refl fixed-next (g .used) (bit (m .fixed)) (bit (gapMet p t g gap m .fixed)) (bit-or (m .fixed) (fixedMetAny p t (upto (g .used))));
-        heaviest = top-built (gapWeight p t g gap) (λ (n : ℕ). heaviestAll p t (upto n)) zero-units weight-next (g .used) (unitsOf (m .heaviest)) (unitsOf (gapMet p t g gap m .heaviest)) (heavier-units w h);
+        fixed = top-built (gapFixed p t g gap) (λ (n : ℕ). bit (fixedMetAny p t (picked (ofGap g gap) (segmentIn g) n))) refl (fixed-next p t (segmentIn g) (ofGap g gap)) (g .used) (bit (m .fixed)) (bit (gapMet p t g gap m .fixed)) (bit-or (m .fixed) (fixedMetAny p t (segmentsOfGap g gap)));
+        heaviest = top-built (gapWeight p t g gap) (λ (n : ℕ). heaviestAll p t (picked (ofGap g gap) (segmentIn g) n)) zero-units (weight-next p t (segmentIn g) (ofGap g gap)) (g .used) (unitsOf (m .heaviest)) (unitsOf (gapMet p t g gap m .heaviest)) (heavier-units w h);
       }
 
   pub gap-is : (m₀ m : Met) → Weight (m₀ .heaviest) → SeenGap p t g gap (λ (k : ℕ). k < g .used) m₀ m → m ≡ gapMet p t g gap m₀

@@ -11,3 +11,4 @@ pub mod GapSegments
 pub mod GapWalk
 pub mod Cases
 pub mod Sets
+pub mod Regions

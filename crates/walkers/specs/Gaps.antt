@@ -2,7 +2,7 @@
 use Prim.Native.Nat.{ℕ, zero, suc, _+_, _-_, _≤_, _<_}
 use mathlib.Core.Bool.{Bool, _&&_, _||_, cond}
 use mathlib.Core.List.{List, [], _∷_, _++_}
-use lib.Dec.{ltb, eqb}
+use lib.Dec.{leb, ltb, eqb}
 use lib.Ieee.{Float}
 use lib.ListN.{length, getD}
 use Rattle.numbers.specs.Weight.{heavier, heaviest}
@@ -46,6 +46,13 @@ ofGap g gap i = eqb (getD (g .gap) i 0) gap
 -- the gap segments of a gap
 abbrev pub segmentsOfGap : GapColumns → ℕ → List GapSegment
 segmentsOfGap g gap = picked (ofGap g gap) (segmentIn g) (g .used)
+
+-- the gap segments of a region: of the gaps from one to before another
+abbrev pub inGaps : GapColumns → ℕ → ℕ → ℕ → Bool
+inGaps g from to i = leb from (getD (g .gap) i 0) && ltb (getD (g .gap) i 0) to
+
+abbrev pub segmentsOfGaps : GapColumns → ℕ → ℕ → List GapSegment
+segmentsOfGaps g from to = picked (inGaps g from to) (segmentIn g) (g .used)
 
 -- rows in order: gaps do not fall, and the gap segments are nonempty, ordered and disjoint
 pub record OrderedGaps (g : GapColumns) : Type 0 where
