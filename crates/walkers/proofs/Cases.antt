@@ -78,7 +78,8 @@ pub case-g-before : fixedMetAny register (reserved (row 0 2 1 0 0 ∷ []) []) (s
 unfolding fixedMetAny fixedMet anyOf fixedAgainst ofRegister meets countsAsFixed
 case-g-before = refl
 
--- ---- fixed uses of another value, about a row on 8 to 10 that a segment 4 to 14 meets: past its end, before its start, before its fixed row
+-- ---- fixed uses of another value, and a row on 8 to 10 that a segment 4 to 14 meets: past the row's end, before its start, before
+-- its fixed row
 pub use-past-end : fixedMet register (reserved (row 8 10 0 0 0 ∷ []) (fixedUse 12 1 ∷ [])) (segment 4 14 0) ≡ true
 unfolding fixedMet anyOf fixedAgainst ofRegister meets countsAsFixed anyBelow useCounts rowNumber countBelow clashes
 use-past-end = refl

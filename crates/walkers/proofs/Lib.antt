@@ -1,4 +1,5 @@
--- What the walkers share
+-- What the walkers share. For the layer above: Checked (lines 10 and 11 give what walkers rely on), GapWalk (where new walkers stand),
+-- Regions (a region that grows by one gap), Sets (the definitions as sets), Cases
 pub mod Steps
 pub mod Uses
 pub mod Top
@@ -9,6 +10,6 @@ pub mod Begin
 pub mod Checked
 pub mod GapSegments
 pub mod GapWalk
-pub mod Cases
-pub mod Sets
 pub mod Regions
+pub mod Sets
+pub mod Cases

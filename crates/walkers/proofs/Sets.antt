@@ -1,4 +1,4 @@
--- The definitions as sets: something fixed is met exactly if some row counts, and the weights met are exactly those of the rows that weigh
+-- The definitions as sets: something fixed is met exactly if some row counts so, and the weights met are those of the rows that weigh
 use mathlib.Core.Path.{_≡_, refl, sym}
 use mathlib.Core.Logic.{_⊎_, inl, inr, ⊎-elim}
 use mathlib.Core.Bool.{Bool, true, false, _||_, cond, true≢false}

@@ -1,4 +1,4 @@
--- The largest of a number and of what the rows of a set count, in any order: the direction of a walk is the set of rows that it has passed
+-- The largest of a number and of what the rows of a set count, in any order: a walk's direction is the set of rows it has passed
 use mathlib.Core.Path.{_≡_, refl, ap, subst}
 use mathlib.Core.Logic.{_⊎_, inl, inr, ⊎-elim}
 use Prim.Native.Nat.{ℕ, zero, suc, _≤_, _<_, max}

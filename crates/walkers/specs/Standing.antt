@@ -51,7 +51,8 @@ pub record Beyond (rows : List Reservation) (unit point at : ℕ) : Type 0 where
   pub earlier : (k : ℕ) → k < at → getD rows k noReservation .unit ≤ unit
   pub begun : (k : ℕ) → at ≤ k → k < length rows → getD rows k noReservation .unit ≡ unit → point ≤ getD rows k noReservation .start
 
--- a walker to the right is behind a point in each unit of the register, and knows where each unit's fixed uses begin; and one to the left
+-- a walker to the right stands at a point: it is behind it in each unit of the register, and has where the unit's fixed uses begin;
+-- and one to the left, beyond it
 pub record StandsRight (p : Register) (rows : List Reservation) (fixedUses : List FixedUse) (point : ℕ) (w : RightWalker) : Type 0 where
   pub eight : length (w .at) ≡ 8
   pub eight-uses : length (w .uses) ≡ 8

@@ -21,8 +21,8 @@ ghost use Rattle.walkers.specs.Meeting.{reservedOf, fixedMet, fixedMetAn
 ghost use Rattle.walkers.specs.Gaps.{gapColumns, segmentsOfGap, heaviestInGap, OrderedGaps, LeftAt};
 ghost use Rattle.walkers.specs.Standing.{OrderedRows, OrderedUses, Ready, Known, UsesFrom, Beyond, StandsLeft};
 
-// The row after the next gap segment's, and for each unit of the register, in turn, the row after the last that may meet it and where the
-// fixed uses begin.
+// The row after the next gap segment's; and for each unit of the register, in turn, the row after the last that may meet it, and
+// where the fixed uses begin.
 pub struct LeftWalker {
     pub next: usize,
     pub at: [usize; 8],

@@ -59,8 +59,8 @@ fn clashes(s: GapSegment, f: FixedUse) -> bool
     f.value != s.value.0
 }
 
-// A fixed use of the reservation's unit, from its fixed row on, clashes with the segment. The unit's fixed uses begin at `from`; they
-// are in order, so the rest lies past the segment once one does.
+// A fixed use of the reservation's unit, from its fixed row on, clashes with the segment. The unit's fixed uses begin at `from`. They
+// are in order: once one lies past the segment, the rest does.
 fn use_clashes(
     f_unit: &[u32],
     f_point: &[u32],

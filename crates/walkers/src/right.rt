@@ -21,7 +21,8 @@ ghost use Rattle.walkers.specs.Meeting.{reservedOf, fixedMet, fixedMetAn
 ghost use Rattle.walkers.specs.Gaps.{gapColumns, segmentsOfGap, heaviestInGap, OrderedGaps, RightAt};
 ghost use Rattle.walkers.specs.Standing.{OrderedRows, OrderedUses, Ready, Known, UsesFrom, Behind, StandsRight};
 
-// The next gap segment's row, and for each unit of the register, in turn, the first row that may meet it and where the fixed uses begin.
+// The next gap segment's row; and for each unit of the register, in turn, the first row that may meet it, and where the fixed uses
+// begin.
 pub struct RightWalker {
     pub next: usize,
     pub at: [usize; 8],
