@@ -3,13 +3,14 @@ use mathlib.Core.Path.{_≡_, refl, sym, ap, _∙_}
 use mathlib.Core.Logic.{_⊎_, inl, inr, ⊎-elim}
 use mathlib.Core.Bool.{Bool, true, false, _&&_, true≢false}
 use mathlib.Core.List.{List}
-use Prim.Native.Nat.{ℕ, _+_, _-_, _≤_, _<_}
-use native.Mathlib.Nat.{le-refl, le-of-eq, le-of-lt, lt-of-lt-of-le, lt-of-le-of-lt}
+use Prim.Native.Nat.{ℕ, _+_, _-_, _≤_, _<_, zero-le}
+use native.Mathlib.Nat.{le-refl, le-of-eq, le-of-lt, lt-of-lt-of-le, lt-of-le-of-lt, le-trans}
 use native.Mathlib.Omega.{arith}
-use lib.Dec.{ltb, eqb}
+use lib.Dec.{leb, ltb, eqb}
 use lib.ListN.{getD}
-use borrow.Author.Tests.{ne-eqb, eqb-true, eqb-false, ltb-true, lt-ltb}
+use borrow.Author.Tests.{leb-true, leb-false, ne-eqb, eqb-true, eqb-false, ltb-true, lt-ltb}
 use Rattle.numbers.specs.Weight.{Weight}
+use Rattle.links.specs.First.{FirstIn, Searchable}
 use Rattle.links.proofs.Firsts.{split}
 use Rattle.jobs.specs.declared.rows.Reservation.{Reservation}
 use Rattle.jobs.specs.declared.rows.FixedUse.{FixedUse}
@@ -45,6 +46,19 @@ right-begins g gap point w f h s = record { place = f; stands = λ l. right-late
 pub left-begins : {p : Register} {rows : List Reservation} {fixedUses : List FixedUse} (g : GapColumns) (gap point : ℕ) (w : LeftWalker)
     → GapsFrom g gap (w .next) → (0 < w .next → getD (g .to) (w .next - 1) 0 ≤ point) → StandsLeft p rows fixedUses point w → LeftAt p rows fixedUses g gap w
 left-begins g gap point w f h s = record { place = f; stands = λ l. left-earlier (h l) s }
+
+-- the first row of the gaps from one on, by a search in the column of gaps
+module _ (g : GapColumns) (ordered : OrderedGaps g) where
+  pub gaps-searchable : Searchable (g .gap) 0 (g .used)
+  gaps-searchable = record { order = zero-le; inside = ordered .gap-long; rising = λ i k _ q r. ordered .gaps i k q r }
+
+  pub gaps-found : (gap next : ℕ) → FirstIn (λ (k : ℕ). leb gap (getD (g .gap) k 0)) 0 (g .used) next → GapsFrom g gap next
+  gaps-found gap next f =
+      record {
+        inside = f .to;
+        before = λ k l. leb-false gap (getD (g .gap) k 0) (f .passed k zero-le l);
+        later = λ k l m. le-trans (leb-true gap (getD (g .gap) next 0) (f .found (lt-of-le-of-lt l m))) (ordered .gaps next k l m);
+      }
 
 -- ---- tests
 both-true : (a b : Bool) → (a && b) ≡ true → (a ≡ true) × (b ≡ true)

@@ -52,7 +52,7 @@ unfoldable pub useCounts : List FixedUse → GapSegment → Reservation → ℕ 
 useCounts fixedUses s r j =
     eqb (getD fixedUses j noFixedUse .unit) (r .unit) && leb (r .fixed) (rowNumber fixedUses (r .unit) j) && clashes s (getD fixedUses j noFixedUse)
 
--- a reservation that meets a gap segment counts as fixed: kind 0 by a fixed use, kind 1 always, kind 2 if the segment's value is another
+-- a reservation that meets a gap segment counts as fixed: kind 0 by a fixed use, kind 1 always, kind 2 of another value
 unfoldable pub countsAsFixed : List FixedUse → GapSegment → Reservation → Bool
 countsAsFixed fixedUses s r =
     cond (eqb (r .kind) 0) (not (eqb (r .fixed) noFixed) && anyBelow (useCounts fixedUses s r) (length fixedUses))
