@@ -1,0 +1,4 @@
+-- The laws of growth, demand 3, and why evictions end
+pub mod Tries
+pub mod Spans
+pub mod Meetings

@@ -1,0 +1,2 @@
+-- Evictions
+use Rattle.numbers.proofs.Heaviest.{Weights, Among}

@@ -1,0 +1,231 @@
+-- Growth from the best use's gap, and the proposal, over what growth sees of a job's gaps
+use Prim.Native.Nat.{ℕ, zero, suc, _+_, _-_, _^_, _≤_, _<_}
+use mathlib.Core.Path.{_≡_}
+use mathlib.Core.Bool.{Bool, true, false, not, _&&_, cond}
+use mathlib.Core.List.{List, [], _∷_, _++_}
+use lib.Dec.{T, leb, eqb}
+use lib.Ieee.{Float, binary32, add, lt}
+use Rattle.numbers.specs.Weight.{Weight, zeroWeight, heaviest}
+use Rattle.numbers.specs.Normal.{normalised, exceeds}
+use Rattle.numbers.specs.declared.MaybeInst.{MaybeInst}
+use Rattle.numbers.specs.declared.MaybeInst.the-variants as MaybeInst·is
+use Rattle.numbers.proofs.Heaviest.{Weights}
+use Rattle.links.specs.declared.lower.Side.{Side}
+use Rattle.links.specs.declared.lower.Side.the-variants.{Previous, Next}
+use Rattle.region.specs.declared.proposal.SplitProposal.{SplitProposal}
+use Rattle.region.specs.declared.proposal.Region.{Region}
+use Rattle.region.specs.declared.proposal.Region.the-variants as Region·is
+
+-- what growth sees: how many gaps, which is the best use's own, of each gap its first instruction, weight, live instructions and frequency, whether it meets a fixed one, the weights it meets; the adjustment k; the weight test's numerator over 2048
+pub record GapsSeen : Type 0 where
+  pub count : ℕ
+  pub own : ℕ
+  pub first : ℕ → ℕ
+  pub weight : ℕ → Float
+  pub live : ℕ → ℕ
+  pub freq : ℕ → Float
+  pub fixed : ℕ → Bool
+  pub met : ℕ → List Float
+  pub k : ℕ
+  pub numerator : ℕ
+
+-- a region: the gaps from left to before right, its use weight and its live instructions
+pub record Span : Type 0 where
+  pub left : ℕ
+  pub right : ℕ
+  pub weight : Float
+  pub insts : ℕ
+
+-- the region of the best use's own gap alone, with 1 instruction
+abbrev pub ownSpan : GapsSeen → Span
+ownSpan seen = record { left = seen .own; right = seen .own + 1; weight = seen .weight (seen .own); insts = 1 }
+
+-- n numbers from a on
+unfoldable pub numbersFrom : ℕ → ℕ → List ℕ
+numbersFrom a zero = []
+numbersFrom a (suc n) = a ∷ numbersFrom (suc a) n
+
+-- the numbers from a to before b
+abbrev pub between : ℕ → ℕ → List ℕ
+between a b = numbersFrom a (b - a)
+
+-- the gaps of a region
+abbrev pub gapsOf : Span → List ℕ
+gapsOf s = between (s .left) (s .right)
+
+-- the weights that gaps meet
+unfoldable pub weightsMet : (ℕ → List Float) → List ℕ → List Float
+weightsMet met [] = []
+weightsMet met (g ∷ gs) = met g ++ weightsMet met gs
+
+-- the heaviest weight that a region meets, zero if none
+abbrev pub heaviestMet : GapsSeen → Span → Float
+heaviestMet seen s = heaviest (weightsMet (seen .met) (gapsOf s))
+
+-- the normalised weight of a region
+abbrev pub normalisedOf : GapsSeen → Span → Float
+normalisedOf seen s = normalised (s .weight) (s .insts) (seen .k)
+
+-- the weight test of a region
+unfoldable pub weightTest : GapsSeen → Span → Bool
+weightTest seen s = exceeds (seen .numerator) (normalisedOf seen s) (heaviestMet seen s)
+
+-- what holds left and what holds right
+abbrev pub onSide : {A : Type 0} → Side → A → A → A
+onSide Previous left right = left
+onSide Next left right = right
+
+-- the gap just outside a region on a side
+abbrev pub outside : Side → Span → ℕ
+outside side s = onSide side (s .left - 1) (s .right)
+
+-- a side is used up: no gap of n is left there
+abbrev pub usedUp : Side → ℕ → Span → Bool
+usedUp side n s = onSide side (eqb (s .left) 0) (leb n (s .right))
+
+-- the region with one more gap on a side: its weight is added to the weight so far, its live instructions too
+abbrev pub withGap : Side → GapsSeen → Span → Span
+withGap side seen s =
+    record {
+      left = onSide side (s .left - 1) (s .left);
+      right = onSide side (s .right) (s .right + 1);
+      weight = add binary32 (s .weight) (seen .weight (outside side s));
+      insts = s .insts + seen .live (outside side s);
+    }
+
+-- a gap tried passes: it meets no fixed one, and the weight test holds of the region with it
+unfoldable pub passes : GapsSeen → ℕ → Span → Bool
+passes seen gap with-it = not (seen .fixed gap) && weightTest seen with-it
+
+-- growth so far: the region, and whether the left and the right side are barred
+pub record State : Type 0 where
+  pub region : Span
+  pub left-barred : Bool
+  pub right-barred : Bool
+
+-- growth starts at the best use's own gap, with no side barred
+abbrev pub start : GapsSeen → State
+start seen = record { region = ownSpan seen; left-barred = false; right-barred = false }
+
+-- a side is open: neither barred nor used up
+unfoldable pub isOpen : Side → GapsSeen → State → Bool
+isOpen side seen st = not (onSide side (st .left-barred) (st .right-barred)) && not (usedUp side (seen .count) (st .region))
+
+-- of two frequencies the higher is taken; on equal ones left if its live instructions are at least the right's
+unfoldable pub leftFirst : Float → Float → ℕ → ℕ → Bool
+leftFirst left-freq right-freq left-live right-live =
+    cond (lt right-freq left-freq) true (cond (lt left-freq right-freq) false (leb right-live left-live))
+
+-- with both sides open, whether left is taken
+abbrev pub prefersLeft : (ℕ → Float) → (ℕ → ℕ) → Span → Bool
+prefersLeft freq live s = leftFirst (freq (outside Previous s)) (freq (outside Next s)) (live (outside Previous s)) (live (outside Next s))
+
+-- growth with a side barred for good
+abbrev pub barred : Side → State → State
+barred side st = record { region = st .region; left-barred = onSide side true (st .left-barred); right-barred = onSide side (st .right-barred) true }
+
+-- growth with one more gap on a side
+abbrev pub grows : Side → GapsSeen → State → State
+grows side seen st = record { region = withGap side seen (st .region); left-barred = st .left-barred; right-barred = st .right-barred }
+
+-- the gap on a side passes
+abbrev pub passesOn : Side → GapsSeen → Span → Bool
+passesOn side seen s = passes seen (outside side s) (withGap side seen s)
+
+-- a try on a side: it grows by the gap there, or the side is barred
+unfoldable pub tryOn : Side → GapsSeen → State → State
+tryOn side seen st = cond (passesOn side seen (st .region)) (grows side seen st) (barred side st)
+
+-- one try: on the open side, with both open on the one taken; with none open nothing changes
+unfoldable pub try : GapsSeen → State → State
+try seen st =
+    cond (isOpen Previous seen st)
+    (cond (isOpen Next seen st) (cond (prefersLeft (seen .freq) (seen .live) (st .region)) (tryOn Previous seen st) (tryOn Next seen st)) (tryOn Previous seen st))
+    (cond (isOpen Next seen st) (tryOn Next seen st) st)
+
+-- growth after n tries
+unfoldable pub growth : GapsSeen → ℕ → State
+growth seen zero = start seen
+growth seen (suc n) = try seen (growth seen n)
+
+-- the region with which growth ends: each gap is grown or bars a side at most once, so these tries suffice
+unfoldable pub grown : GapsSeen → Span
+grown seen = growth seen (seen .count + 1) .region
+
+-- the frequency of the gap just outside on a side, zero where there is none
+abbrev pub freqOutside : Side → ℕ → (ℕ → Float) → Span → Float
+freqOutside side n freq s = cond (usedUp side n s) zeroWeight (freq (outside side s))
+
+-- split cost: the frequencies of the gaps just outside, added
+unfoldable pub splitCost : ℕ → (ℕ → Float) → Span → Float
+splitCost n freq s = add binary32 (freqOutside Previous n freq s) (freqOutside Next n freq s)
+
+-- an end of a proposal: the first instruction of the gap there, absent at the table's ends
+unfoldable pub endOf : Side → ℕ → (ℕ → ℕ) → Span → MaybeInst
+endOf side n first s = cond (usedUp side n s) MaybeInst·is.Absent (MaybeInst·is.At (record { 0 = first (onSide side (s .left) (s .right)) }))
+
+-- the proposal that a region is, with the heaviest weight it meets
+unfoldable pub proposalWith : ℕ → (ℕ → ℕ) → (ℕ → Float) → Span → Float → SplitProposal
+proposalWith n first freq s heaviest =
+    record {
+      left = endOf Previous n first s;
+      right = endOf Next n first s;
+      «use_weight» = s .weight;
+      «live_insts» = s .insts;
+      «interference_weight» = heaviest;
+      «split_cost» = splitCost n freq s;
+    }
+
+abbrev pub proposalOf : GapsSeen → Span → SplitProposal
+proposalOf seen s = proposalWith (seen .count) (seen .first) (seen .freq) s (heaviestMet seen s)
+
+-- the answer: nothing if the best use's own gap fails, else the proposal of the region with which growth ends
+unfoldable pub regionOf : GapsSeen → Region
+regionOf seen = cond (passes seen (seen .own) (ownSpan seen)) (Region·is.Found (proposalOf seen (grown seen))) Region·is.Nothing
+
+-- ---- in what the laws are stated
+-- a region around the best use's own gap, inside the table
+pub record Around (seen : GapsSeen) (s : Span) : Type 0 where
+  pub left : s .left ≤ seen .own
+  pub own : seen .own < s .right
+  pub right : s .right ≤ seen .count
+
+-- growth has ended: no side is open
+pub record Ended (seen : GapsSeen) (st : State) : Type 0 where
+  pub left : T (not (isOpen Previous seen st))
+  pub right : T (not (isOpen Next seen st))
+
+-- a gap of a region
+abbrev pub In : Span → ℕ → Type 0
+In s g = (s .left ≤ g) × (g < s .right)
+
+-- a region meets a fixed one: some gap of it does
+abbrev pub MeetsFixed : GapsSeen → Span → Type 0
+MeetsFixed seen s = (g : ℕ) × In s g × T (seen .fixed g)
+
+-- a sum over gaps
+unfoldable pub sumOver : (ℕ → ℕ) → List ℕ → ℕ
+sumOver f [] = 0
+sumOver f (g ∷ gs) = f g + sumOver f gs
+
+-- weights added to a weight one after the other
+unfoldable pub addedTo : Float → (ℕ → Float) → List ℕ → Float
+addedTo w weight [] = w
+addedTo w weight (g ∷ gs) = addedTo (add binary32 w (weight g)) weight gs
+
+-- the gaps that a larger region has more than a smaller one: those left of it and those right of it
+abbrev pub gapsBeside : Span → Span → List ℕ
+gapsBeside small large = between (large .left) (small .left) ++ between (small .right) (large .right)
+
+-- the gaps grown in n tries, in their order
+unfoldable pub gapsGrown : GapsSeen → ℕ → List ℕ
+gapsGrown seen zero = []
+gapsGrown seen (suc n) = gapsGrown seen n ++ gapsBeside (growth seen n .region) (growth seen (suc n) .region)
+
+-- what a checked job's gaps satisfy: the own gap is one of them, weights and frequencies are weights, and the live instructions with k are few enough to be floats
+pub record SoundGaps (seen : GapsSeen) : Type 0 where
+  pub inside : seen .own < seen .count
+  pub weights : (g : ℕ) → g < seen .count → Weight (seen .weight g)
+  pub freqs : (g : ℕ) → g < seen .count → Weight (seen .freq g)
+  pub met : (g : ℕ) → g < seen .count → Weights (seen .met g)
+  pub few : sumOver (seen .live) (between 0 (seen .count)) + seen .k < 2 ^ 24

@@ -1,0 +1,3 @@
+-- What the region layer computes: growth and the proposal, and what is said of evictions
+pub mod Growth
+pub mod Evictions
