@@ -2,3 +2,4 @@
 pub mod Tries
 pub mod Spans
 pub mod Meetings
+pub mod Proposals

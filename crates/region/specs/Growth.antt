@@ -1,15 +1,16 @@
 -- Growth from the best use's gap, and the proposal, over what growth sees of a job's gaps
 use Prim.Native.Nat.{ℕ, zero, suc, _+_, _-_, _^_, _≤_, _<_}
 use mathlib.Core.Path.{_≡_}
+use mathlib.Core.Logic.{_⊎_}
 use mathlib.Core.Bool.{Bool, true, false, not, _&&_, cond}
 use mathlib.Core.List.{List, [], _∷_, _++_}
 use lib.Dec.{T, leb, eqb}
 use lib.Ieee.{Float, binary32, add, lt}
-use Rattle.numbers.specs.Weight.{Weight, zeroWeight, heaviest}
+use Rattle.numbers.specs.Weight.{Finite, Weight, unitsOf, zeroWeight, heaviest}
 use Rattle.numbers.specs.Normal.{normalised, exceeds}
 use Rattle.numbers.specs.declared.MaybeInst.{MaybeInst}
 use Rattle.numbers.specs.declared.MaybeInst.the-variants as MaybeInst·is
-use Rattle.numbers.proofs.Heaviest.{Weights}
+use Rattle.numbers.proofs.Heaviest.{Weights, Among}
 use Rattle.links.specs.declared.lower.Side.{Side}
 use Rattle.links.specs.declared.lower.Side.the-variants.{Previous, Next}
 use Rattle.region.specs.declared.proposal.SplitProposal.{SplitProposal}
@@ -229,3 +230,20 @@ pub record SoundGaps (seen : GapsSeen) : Type 0 where
   pub freqs : (g : ℕ) → g < seen .count → Weight (seen .freq g)
   pub met : (g : ℕ) → g < seen .count → Weights (seen .met g)
   pub few : sumOver (seen .live) (between 0 (seen .count)) + seen .k < 2 ^ 24
+
+-- demand 3 of a proposal, with growth as it stands where the proposal is made
+pub record Demand3 (seen : GapsSeen) (st : State) (p : SplitProposal) : Type 0 where
+  -- it is the proposal of the region grown
+  pub is-grown : p ≡ proposalOf seen (st .region)
+  -- its region meets nothing that counts as fixed
+  pub no-fixed : MeetsFixed seen (st .region) → ⊥
+  -- its interference weight is zero or met by a gap of its region
+  pub heaviest-met : (p .«interference_weight» ≡ zeroWeight) ⊎ ((g : ℕ) × In (st .region) g × Among (p .«interference_weight») (seen .met g))
+  -- and no gap of its region meets a heavier one
+  pub none-heavier : (g : ℕ) → In (st .region) g → (w : Float) → Among w (seen .met g) → unitsOf w ≤ unitsOf (p .«interference_weight»)
+  -- its normalised weight is finite
+  pub finite : Finite (normalised (p .«use_weight») (p .«live_insts») (seen .k))
+  -- times the fraction, rounded once, it strictly exceeds the interference weight
+  pub strict : T (exceeds (seen .numerator) (normalised (p .«use_weight») (p .«live_insts») (seen .k)) (p .«interference_weight»))
+  -- use weight, interference weight and split cost are weights, none is a NaN
+  pub weights : Weight (p .«use_weight») × Weight (p .«interference_weight») × Weight (p .«split_cost»)
