@@ -3,3 +3,4 @@ pub mod Tries
 pub mod Spans
 pub mod Meetings
 pub mod Proposals
+pub mod Evictions

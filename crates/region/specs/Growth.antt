@@ -223,13 +223,14 @@ unfoldable pub gapsGrown : GapsSeen → ℕ → List ℕ
 gapsGrown seen zero = []
 gapsGrown seen (suc n) = gapsGrown seen n ++ gapsBeside (growth seen n .region) (growth seen (suc n) .region)
 
--- what a checked job's gaps satisfy: the own gap is one of them, weights and frequencies are weights, and the live instructions with k are few enough to be floats
+-- what a checked job's gaps satisfy: the own gap is one of them, weights and frequencies are weights, the live instructions with k are few enough to be floats, the numerator is at most 2048
 pub record SoundGaps (seen : GapsSeen) : Type 0 where
   pub inside : seen .own < seen .count
   pub weights : (g : ℕ) → g < seen .count → Weight (seen .weight g)
   pub freqs : (g : ℕ) → g < seen .count → Weight (seen .freq g)
   pub met : (g : ℕ) → g < seen .count → Weights (seen .met g)
   pub few : sumOver (seen .live) (between 0 (seen .count)) + seen .k < 2 ^ 24
+  pub fraction : seen .numerator ≤ 2048
 
 -- demand 3 of a proposal, with growth as it stands where the proposal is made
 pub record Demand3 (seen : GapsSeen) (st : State) (p : SplitProposal) : Type 0 where
