@@ -4,3 +4,4 @@ pub mod Spans
 pub mod Meetings
 pub mod Proposals
 pub mod Evictions
+pub mod Steps

@@ -1,4 +1,9 @@
-// Growth, one gap at a time.
+// The steps of growth: which side is tried, and whether a gap passes.
+ghost use mathlib.Core.Path.{_≡_};
+ghost use Prim.Native.Nat.{_+_, _≤_, _<_};
+ghost use lib.ListN.{length};
+ghost use Rattle.region.specs.Growth.{prefersLeft};
+ghost use Rattle.region.specs.Columns.{numbers, floats, spanOf, Between, testedOf};
 
 // A region: the gaps from left to before right, their use weight and live instructions, and the heaviest weight met.
 pub struct Grown {
@@ -13,4 +18,60 @@ pub struct Grown {
 pub enum Tried {
     Grows(Grown),
     Fails,
+}
+
+// With both sides open, whether the left one is tried: the one of higher frequency. On equal ones it is the gap with more
+// instructions, and left if both have as many.
+pub fn prefers_left(freq: &[f32], live: &[u32], gaps: usize, g: Grown) -> bool
+    requires { ⌜ Between gaps g ⌝ }
+    requires { ⌜ gaps ≤ length (now freq) ⌝ }
+    requires { ⌜ gaps ≤ length (now live) ⌝ }
+    ensures { λ r. ⌜ r ≡ prefersLeft (floats (now (freq .entry))) (numbers (now (live .entry))) (spanOf g) ⌝ }
+{
+    let left = g.left - 1;
+    let right = g.right;
+    let left_freq = freq[left];
+    let right_freq = freq[right];
+    if right_freq < left_freq {
+        return true;
+    }
+    if left_freq < right_freq {
+        return false;
+    }
+    live[right] <= live[left]
+}
+
+// The region with one more gap, which makes it reach from left to before right. The gap must be free of fixed interference, and
+// the region must be able to evict the heaviest weight that it then meets.
+pub fn tested(
+    free: bool,
+    g: Grown,
+    weight: f32,
+    insts: u32,
+    heaviest: f32,
+    k: u32,
+    left: usize,
+    right: usize,
+) -> Tried
+    requires { ⌜ g .insts + insts < 4294967296 ⌝ }
+    ensures { λ r. ⌜ r ≡ testedOf free g weight insts heaviest k left right ⌝ }
+{
+    if !free {
+        return Tried::Fails;
+    }
+    let w = g.weight + weight;
+    let n = g.insts + insts;
+    if numbers::normal::strictly_exceeds(
+        numbers::normal::normalize_spill_weight(w, n, k),
+        heaviest,
+    ) {
+        return Tried::Grows(Grown {
+            left,
+            right,
+            weight: w,
+            insts: n,
+            heaviest,
+        });
+    }
+    Tried::Fails
 }
