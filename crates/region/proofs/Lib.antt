@@ -5,3 +5,4 @@ pub mod Meetings
 pub mod Proposals
 pub mod Evictions
 pub mod Steps
+pub mod Cases
