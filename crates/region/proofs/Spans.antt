@@ -188,7 +188,7 @@ module _ (seen : GapsSeen) where
   try-adds st a =
       try-cases seen (λ (t : State). Adds (st .region) (t .region) (gapsBeside (st .region) (t .region))) st
       (λ side o _. subst (Adds (st .region) (withGap side seen (st .region))) (sym (beside-one st side o)) (adds-one st side o a))
-      (λ side o. same) (λ _. same)
+      (λ side o _. same) (λ _. same)
     where
       same : Adds (st .region) (st .region) (gapsBeside (st .region) (st .region))
       same = subst (Adds (st .region) (st .region)) (sym (beside-none (st .region))) (adds-none (st .region))

@@ -1,19 +1,101 @@
--- The steps of the code are those of growth: the test of one more gap, and the heaviest weight with it
+-- The steps of the code are those of growth: the side that is tried, the test of one more gap, the proposal
 use mathlib.Core.Path.{_≡_, refl, sym, ap, _∙_}
-use Prim.Native.Nat.{ℕ, _+_}
+use mathlib.Core.Logic.{⊎-elim}
+use Prim.Native.Nat.{ℕ, _+_, _<_}
+use native.Mathlib.Nat.{le-of-lt}
+use native.Mathlib.Omega.{arith}
 use mathlib.Core.Bool.{Bool, true, false, not, _&&_, cond}
-use lib.Dec.{T}
+use lib.Dec.{leb, ltb, eqb}
+use borrow.Author.Tests.{lt-ltb, le-ltb, le-leb, lt-leb, leb-false, eqb-false}
 use lib.Ieee.{Float, binary32, add}
 use Rattle.numbers.specs.declared.MaybeInst.{MaybeInst}
 use Rattle.numbers.specs.Normal.{normalised, exceeds}
 use Rattle.numbers.proofs.Tests.{cond-true, cond-false}
+use Rattle.links.proofs.Firsts.{split}
 use Rattle.links.specs.declared.lower.Side.{Side}
 use Rattle.links.specs.declared.lower.Side.the-variants.{Previous, Next}
-use Rattle.region.specs.Growth.{GapsSeen, Span, heaviestMet, weightTest, onSide, outside, withGap, passes, passesOn, endOf, splitCost, proposalWith}
+use Rattle.region.specs.Growth.{GapsSeen, Span, heaviestMet, weightTest, outside, withGap, sideOpen, prefersLeft, sideTried, passes, passesOn, endOf, splitCost, proposalWith}
 use Rattle.region.specs.declared.proposal.SplitProposal.{SplitProposal}
-use Rattle.region.specs.Columns.{grownOf, triedOf, testedOf}
+use Rattle.region.specs.Columns.{spanOf, stateOf, openWith, Inside, Between, grownOf, triedOf, testedOf}
 use Rattle.region.specs.declared.growth.Grown.{Grown}
 use Rattle.region.specs.declared.growth.Tried.the-variants.{Grows, Fails}
+use Rattle.region.specs.declared.growth.Turn.{Turn}
+use Rattle.region.specs.declared.growth.Turn.the-variants.{Try, End}
+
+-- ---- an open side
+pub open-unbarred : (barred used-up : Bool) → barred ≡ false → not used-up ≡ openWith barred used-up
+open-unbarred true u e = cc
+open-unbarred false u e = refl
+
+pub below-not : (a b : ℕ) → ltb a b ≡ not (leb b a)
+below-not a b = ⊎-elim (λ l. lt-ltb a b l ∙ ap not (sym (lt-leb b a l))) (λ l. le-ltb a b l ∙ ap not (sym (le-leb b a l))) (split a b)
+
+-- ---- the side that is tried, by the outcomes of the code's tests
+module _ (n : ℕ) (freq : ℕ → Float) (live : ℕ → ℕ) (g : Grown) (left-barred right-barred l r : Bool) (left-is : l ≡ openWith left-barred (eqb (g .left) 0)) (right-is : r ≡ openWith right-barred (leb n (g .right))) where
+  tried : Turn
+  tried = sideTried n freq live (stateOf g left-barred right-barred)
+
+  picked : Bool → Bool → Bool → Turn
+  picked l r p = cond l (cond r (cond p (Try Previous) (Try Next)) (Try Previous)) (cond r (Try Next) End)
+
+  picked-is : picked l r (prefersLeft freq live (spanOf g)) ≡ tried
+  unfolding tried picked sideTried sideOpen
+  picked-is = rw (left-is, right-is)
+
+  picked-none : (l r p : Bool) → not l ≡ true → r ≡ false → End ≡ picked l r p
+  unfolding picked
+  picked-none true r p e f = cc
+  picked-none false r p e f = sym (cond-false (Try Next) End f)
+
+  picked-right : (l r p : Bool) → not l ≡ true → r ≡ true → Try Next ≡ picked l r p
+  unfolding picked
+  picked-right true r p e f = cc
+  picked-right false r p e f = sym (cond-true (Try Next) End f)
+
+  picked-left : (l r p : Bool) → not l ≡ false → not r ≡ true → Try Previous ≡ picked l r p
+  unfolding picked
+  picked-left false r p e f = cc
+  picked-left true true p e f = cc
+  picked-left true false p e f = refl
+
+  picked-both : (l r p : Bool) → not l ≡ false → not r ≡ false → cond p (Try Previous) (Try Next) ≡ picked l r p
+  unfolding picked
+  picked-both false r p e f = cc
+  picked-both true false p e f = cc
+  picked-both true true p e f = refl
+
+  pub turn-none : not l ≡ true → r ≡ false → End ≡ sideTried n freq live (stateOf g left-barred right-barred)
+  unfolding tried
+  turn-none e f = picked-none l r (prefersLeft freq live (spanOf g)) e f ∙ picked-is
+
+  pub turn-right : not l ≡ true → r ≡ true → Try Next ≡ sideTried n freq live (stateOf g left-barred right-barred)
+  unfolding tried
+  turn-right e f = picked-right l r (prefersLeft freq live (spanOf g)) e f ∙ picked-is
+
+  pub turn-left : not l ≡ false → not r ≡ true → Try Previous ≡ sideTried n freq live (stateOf g left-barred right-barred)
+  unfolding tried
+  turn-left e f = picked-left l r (prefersLeft freq live (spanOf g)) e f ∙ picked-is
+
+  pub turn-preferred : not l ≡ false → not r ≡ false → (p : Bool) → p ≡ prefersLeft freq live (spanOf g) → cond p (Try Previous) (Try Next) ≡ sideTried n freq live (stateOf g left-barred right-barred)
+  unfolding tried
+  turn-preferred e f p h = ap (λ (b : Bool). cond b (Try Previous) (Try Next)) h ∙ picked-both l r (prefersLeft freq live (spanOf g)) e f ∙ picked-is
+
+  -- with both sides open a gap lies on each side
+  pub both-between : Inside n g → not l ≡ false → not r ≡ false → Between n g
+  both-between i e f =
+      record {
+        left = above (g .left) (eqb-false (g .left) 0 (used left-barred (eqb (g .left) 0) (ap not (sym left-is) ∙ e)));
+        order = le-of-lt (i .some);
+        right = leb-false n (g .right) (used right-barred (leb n (g .right)) (ap not (sym right-is) ∙ f));
+      }
+    where
+      used : (b u : Bool) → not (openWith b u) ≡ false → u ≡ false
+      used true u e = cc
+      used false true e = cc
+      used false false e = refl
+
+      above : (a : ℕ) → (a ≡ 0 → ⊥) → 0 < a
+      above a h = omega arith
 
 -- ---- the outcomes of the test of one more gap
 module _ (free : Bool) (g : Grown) (weight : Float) (insts : ℕ) (heaviest : Float) (k left right : ℕ) where

@@ -10,7 +10,9 @@ use lib.Ieee.Fits.{and-l, and-r}
 use Rattle.numbers.proofs.Tests.{cond-both, cond-true, cond-false}
 use Rattle.links.specs.declared.lower.Side.{Side}
 use Rattle.links.specs.declared.lower.Side.the-variants.{Previous, Next}
-use Rattle.region.specs.Growth.{GapsSeen, Span, State, ownSpan, onSide, outside, usedUp, withGap, passesOn, start, isOpen, prefersLeft, barred, grows, tryOn, try, growth, Around, Ended}
+use Rattle.region.specs.Growth.{GapsSeen, Span, State, ownSpan, onSide, outside, usedUp, withGap, passesOn, start, sideOpen, isOpen, prefersLeft, sideTried, barred, grows, tryOn, tryAt, try, growth, Around, Ended}
+use Rattle.region.specs.declared.growth.Turn.{Turn}
+use Rattle.region.specs.declared.growth.Turn.the-variants.{Try, End}
 
 -- a test that does not hold is false
 pub not-is : (t : Bool) → T (not t) → t ≡ false
@@ -24,11 +26,11 @@ is-true false p = absurd p
 module _ (seen : GapsSeen) where
   -- ---- what an open side has
   pub open-free : (side : Side) (st : State) → T (isOpen side seen st) → T (not (onSide side (st .left-barred) (st .right-barred)))
-  unfolding isOpen
+  unfolding sideOpen
   open-free side st o = and-l (not (onSide side (st .left-barred) (st .right-barred))) (not (usedUp side (seen .count) (st .region))) o
 
   pub open-left : (st : State) → T (isOpen Previous seen st) → 0 < st .region .left
-  unfolding isOpen
+  unfolding sideOpen
   open-left st o = above (st .region .left) (and-r (not (st .left-barred)) (not (eqb (st .region .left) 0)) o)
     where
       above : (n : ℕ) → T (not (eqb n 0)) → 0 < n
@@ -36,27 +38,28 @@ module _ (seen : GapsSeen) where
       above (suc n) t = omega arith
 
   pub open-right : (st : State) → T (isOpen Next seen st) → st .region .right < seen .count
-  unfolding isOpen
+  unfolding sideOpen
   open-right st o = nleb→lt (seen .count) (st .region .right) (and-r (not (st .right-barred)) (not (leb (seen .count) (st .region .right))) o)
 
-  -- ---- a try grows by a gap on an open side, or bars an open side, or there is none and nothing changes
+  -- ---- the side that is tried is open, and none only if none is
+  turn-cases : (P : Turn → Type 0) (st : State) → ((side : Side) → T (isOpen side seen st) → P (Try side)) → (Ended seen st → P End) → P (sideTried (seen .count) (seen .freq) (seen .live) st)
+  unfolding sideTried
+  turn-cases P st t e =
+      let prefers = prefersLeft (seen .freq) (seen .live) (st .region) in
+      cond-both P (isOpen Previous seen st) (cond (isOpen Next seen st) (cond prefers (Try Previous) (Try Next)) (Try Previous)) (cond (isOpen Next seen st) (Try Next) End)
+      (λ p. cond-both P (isOpen Next seen st) (cond prefers (Try Previous) (Try Next)) (Try Previous) (λ q. cond-both P prefers (Try Previous) (Try Next) (λ _. t Previous p) (λ _. t Next q)) (λ _. t Previous p))
+      (λ p. cond-both P (isOpen Next seen st) (Try Next) End (t Next) (λ q. e (record { left = p; right = q })))
+
+  -- a try grows by a gap on an open side that passes, or bars an open side on which none passes, or there is none and nothing changes
   pub try-cases : (P : State → Type 0) (st : State)
       → ((side : Side) → T (isOpen side seen st) → T (passesOn side seen (st .region)) → P (grows side seen st))
-      → ((side : Side) → T (isOpen side seen st) → P (barred side st))
+      → ((side : Side) → T (isOpen side seen st) → T (not (passesOn side seen (st .region))) → P (barred side st))
       → (Ended seen st → P st)
       → P (try seen st)
   unfolding try tryOn
   try-cases P st g b e =
-      cond-both P (isOpen Previous seen st)
-      (cond (isOpen Next seen st) (cond (prefersLeft (seen .freq) (seen .live) (st .region)) (tryOn Previous seen st) (tryOn Next seen st)) (tryOn Previous seen st))
-      (cond (isOpen Next seen st) (tryOn Next seen st) st)
-      (λ p. cond-both P (isOpen Next seen st) (cond (prefersLeft (seen .freq) (seen .live) (st .region)) (tryOn Previous seen st) (tryOn Next seen st)) (tryOn Previous seen st)
-      (λ q. cond-both P (prefersLeft (seen .freq) (seen .live) (st .region)) (tryOn Previous seen st) (tryOn Next seen st) (λ _. on Previous p) (λ _. on Next q))
-      (λ _. on Previous p))
-      (λ p. cond-both P (isOpen Next seen st) (tryOn Next seen st) st (on Next) (λ q. e (record { left = p; right = q })))
-    where
-      on : (side : Side) → T (isOpen side seen st) → P (cond (passesOn side seen (st .region)) (grows side seen st) (barred side st))
-      on side o = cond-both P (passesOn side seen (st .region)) (grows side seen st) (barred side st) (g side o) (λ _. b side o)
+      turn-cases (λ (t : Turn). P (tryAt t seen st)) st
+      (λ side o. cond-both P (passesOn side seen (st .region)) (grows side seen st) (barred side st) (g side o) (b side o)) e
 
   -- what holds at the start and is kept by each growing and each barring holds of growth
   pub growth-keeps : (P : State → Type 0) → P (start seen)
@@ -67,7 +70,7 @@ module _ (seen : GapsSeen) where
   growth-keeps P p g b zero = p
   growth-keeps P p g b (suc n) =
       let h = growth-keeps P p g b n in
-      try-cases P (growth seen n) (λ side o t. g (growth seen n) side o t h) (λ side o. b (growth seen n) side o h) (λ _. h)
+      try-cases P (growth seen n) (λ side o t. g (growth seen n) side o t h) (λ side o _. b (growth seen n) side o h) (λ _. h)
 
   -- ---- growth never leaves the table, and never its own gap
   pub around-grows : (st : State) (side : Side) → T (isOpen side seen st) → Around seen (st .region) → Around seen (withGap side seen (st .region))
@@ -96,11 +99,8 @@ module _ (seen : GapsSeen) where
 
   -- ---- an ended growth stays as it is
   pub ended-stays : (st : State) → Ended seen st → try seen st ≡ st
-  unfolding try
-  ended-stays st e =
-      cond-false (cond (isOpen Next seen st) (cond (prefersLeft (seen .freq) (seen .live) (st .region)) (tryOn Previous seen st) (tryOn Next seen st)) (tryOn Previous seen st))
-      (cond (isOpen Next seen st) (tryOn Next seen st) st) (not-is (isOpen Previous seen st) (e .left))
-      ∙ cond-false (tryOn Next seen st) st (not-is (isOpen Next seen st) (e .right))
+  unfolding try sideTried
+  ended-stays st e = ap (λ (t : Turn). tryAt t seen st) (cond-false _ _ (not-is (isOpen Previous seen st) (e .left)) ∙ cond-false _ _ (not-is (isOpen Next seen st) (e .right)))
 
   -- ---- what is left to try: the gaps outside and the sides not barred
   abbrev unbarred : Bool → ℕ
@@ -135,7 +135,7 @@ module _ (seen : GapsSeen) where
 
   -- with nothing left to try both sides are barred
   nothing-left : (st : State) → leftToTry st ≡ 0 → Ended seen st
-  unfolding isOpen
+  unfolding sideOpen
   nothing-left st e =
       let c = st .region .left + (seen .count - st .region .right) in
       record {
@@ -159,7 +159,7 @@ module _ (seen : GapsSeen) where
   -- each try leaves fewer, or growth has ended
   fewer-left : (st : State) → (leftToTry (try seen st) < leftToTry st) ⊎ Ended seen st
   fewer-left st =
-      try-cases (λ (s : State). (leftToTry s < leftToTry st) ⊎ Ended seen st) st (λ side o _. inl (fewer-grown st side o)) (λ side o. inl (fewer-barred st side o)) inr
+      try-cases (λ (s : State). (leftToTry s < leftToTry st) ⊎ Ended seen st) st (λ side o _. inl (fewer-grown st side o)) (λ side o _. inl (fewer-barred st side o)) inr
 
   tries-left : (n : ℕ) → (leftToTry (growth seen n) + n ≤ leftToTry (start seen)) ⊎ Ended seen (growth seen n)
   unfolding growth

@@ -1,11 +1,11 @@
 -- For contracts of private functions: gaps in their lent columns, and a region as the code holds it
 use Prim.Native.Nat.{ℕ, _+_, _≤_, _<_}
-use mathlib.Core.Bool.{Bool, _&&_, cond}
+use mathlib.Core.Bool.{Bool, not, _&&_, cond}
 use mathlib.Core.List.{List}
 use lib.Ieee.{Float, nan, binary32, add}
 use lib.ListN.{getD}
 use Rattle.numbers.specs.Normal.{normalised, exceeds}
-use Rattle.region.specs.Growth.{GapsSeen, Span, heaviestMet}
+use Rattle.region.specs.Growth.{GapsSeen, Span, State, heaviestMet}
 use Rattle.region.specs.declared.growth.Grown.{Grown}
 use Rattle.region.specs.declared.growth.Tried.{Tried}
 use Rattle.region.specs.declared.growth.Tried.the-variants.{Grows, Fails}
@@ -36,6 +36,14 @@ seenIn froms weights lives freqs count own fixed met k =
 -- the region that the code holds, without the heaviest weight
 abbrev pub spanOf : Grown → Span
 spanOf g = record { left = g .left; right = g .right; weight = g .weight; insts = g .insts }
+
+-- growth as the code holds it
+abbrev pub stateOf : Grown → Bool → Bool → State
+stateOf g left-barred right-barred = record { region = spanOf g; left-barred = left-barred; right-barred = right-barred }
+
+-- a side is open
+abbrev pub openWith : Bool → Bool → Bool
+openWith barred used-up = not barred && not used-up
 
 -- the code holds a region with the heaviest weight it meets
 abbrev pub grownOf : GapsSeen → Span → Grown

@@ -13,6 +13,8 @@ use Rattle.numbers.specs.declared.MaybeInst.the-variants as MaybeInst·is
 use Rattle.numbers.proofs.Heaviest.{Weights, Among}
 use Rattle.links.specs.declared.lower.Side.{Side}
 use Rattle.links.specs.declared.lower.Side.the-variants.{Previous, Next}
+use Rattle.region.specs.declared.growth.Turn.{Turn}
+use Rattle.region.specs.declared.growth.Turn.the-variants as Turn·is
 use Rattle.region.specs.declared.proposal.SplitProposal.{SplitProposal}
 use Rattle.region.specs.declared.proposal.Region.{Region}
 use Rattle.region.specs.declared.proposal.Region.the-variants as Region·is
@@ -109,8 +111,11 @@ abbrev pub start : GapsSeen → State
 start seen = record { region = ownSpan seen; left-barred = false; right-barred = false }
 
 -- a side is open: neither barred nor used up
-unfoldable pub isOpen : Side → GapsSeen → State → Bool
-isOpen side seen st = not (onSide side (st .left-barred) (st .right-barred)) && not (usedUp side (seen .count) (st .region))
+unfoldable pub sideOpen : Side → ℕ → State → Bool
+sideOpen side n st = not (onSide side (st .left-barred) (st .right-barred)) && not (usedUp side n (st .region))
+
+abbrev pub isOpen : Side → GapsSeen → State → Bool
+isOpen side seen st = sideOpen side (seen .count) st
 
 -- of two frequencies the higher is taken; on equal ones left if its live instructions are at least the right's
 unfoldable pub leftFirst : Float → Float → ℕ → ℕ → Bool
@@ -120,6 +125,13 @@ leftFirst left-freq right-freq left-live right-live =
 -- with both sides open, whether left is taken
 abbrev pub prefersLeft : (ℕ → Float) → (ℕ → ℕ) → Span → Bool
 prefersLeft freq live s = leftFirst (freq (outside Previous s)) (freq (outside Next s)) (live (outside Previous s)) (live (outside Next s))
+
+-- the side that is tried: the open one, with both open the one taken, none if none is open
+unfoldable pub sideTried : ℕ → (ℕ → Float) → (ℕ → ℕ) → State → Turn
+sideTried n freq live st =
+    cond (sideOpen Previous n st)
+    (cond (sideOpen Next n st) (cond (prefersLeft freq live (st .region)) (Turn·is.Try Previous) (Turn·is.Try Next)) (Turn·is.Try Previous))
+    (cond (sideOpen Next n st) (Turn·is.Try Next) Turn·is.End)
 
 -- growth with a side barred for good
 abbrev pub barred : Side → State → State
@@ -137,12 +149,14 @@ passesOn side seen s = passes seen (outside side s) (withGap side seen s)
 unfoldable pub tryOn : Side → GapsSeen → State → State
 tryOn side seen st = cond (passesOn side seen (st .region)) (grows side seen st) (barred side st)
 
--- one try: on the open side, with both open on the one taken; with none open nothing changes
+-- a try on the side whose turn it is; with none nothing changes
+abbrev pub tryAt : Turn → GapsSeen → State → State
+tryAt (Turn·is.Try side) seen st = tryOn side seen st
+tryAt Turn·is.End seen st = st
+
+-- one try
 unfoldable pub try : GapsSeen → State → State
-try seen st =
-    cond (isOpen Previous seen st)
-    (cond (isOpen Next seen st) (cond (prefersLeft (seen .freq) (seen .live) (st .region)) (tryOn Previous seen st) (tryOn Next seen st)) (tryOn Previous seen st))
-    (cond (isOpen Next seen st) (tryOn Next seen st) st)
+try seen st = tryAt (sideTried (seen .count) (seen .freq) (seen .live) st) seen st
 
 -- growth after n tries
 unfoldable pub growth : GapsSeen → ℕ → State

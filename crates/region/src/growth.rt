@@ -2,8 +2,10 @@
 ghost use mathlib.Core.Path.{_≡_};
 ghost use Prim.Native.Nat.{_+_, _≤_, _<_};
 ghost use lib.ListN.{length};
-ghost use Rattle.region.specs.Growth.{prefersLeft};
-ghost use Rattle.region.specs.Columns.{numbers, floats, spanOf, Between, testedOf};
+ghost use lib.Dec.{leb, eqb};
+ghost use Rattle.region.specs.Growth.{prefersLeft, sideTried};
+ghost use Rattle.region.specs.Columns.{numbers, floats, spanOf, stateOf, openWith, Inside, Between, testedOf};
+use links::lower::Side;
 
 // A region: the gaps from left to before right, their use weight and live instructions, and the heaviest weight met.
 pub struct Grown {
@@ -20,9 +22,15 @@ pub enum Tried {
     Fails,
 }
 
+// The side that is tried next, or the end of growth.
+pub enum Turn {
+    Try(Side),
+    End,
+}
+
 // With both sides open, whether the left one is tried: the one of higher frequency. On equal ones it is the gap with more
 // instructions, and left if both have as many.
-pub fn prefers_left(freq: &[f32], live: &[u32], gaps: usize, g: Grown) -> bool
+fn prefers_left(freq: &[f32], live: &[u32], gaps: usize, g: Grown) -> bool
     requires { ⌜ Between gaps g ⌝ }
     requires { ⌜ gaps ≤ length (now freq) ⌝ }
     requires { ⌜ gaps ≤ length (now live) ⌝ }
@@ -39,6 +47,56 @@ pub fn prefers_left(freq: &[f32], live: &[u32], gaps: usize, g: Grown) -> bool
         return false;
     }
     live[right] <= live[left]
+}
+
+// Whether a region can still grow left, and right.
+fn can_grow_left(g: Grown, barred: bool) -> bool
+    ensures { λ r. ⌜ r ≡ openWith barred (eqb (g .left) 0) ⌝ }
+{
+    if barred {
+        return false;
+    }
+    g.left != 0
+}
+
+fn can_grow_right(gaps: usize, g: Grown, barred: bool) -> bool
+    ensures { λ r. ⌜ r ≡ openWith barred (leb gaps (g .right)) ⌝ }
+{
+    if barred {
+        return false;
+    }
+    g.right < gaps
+}
+
+// Whether growth goes on, and on which side.
+pub fn grow_next(
+    freq: &[f32],
+    live: &[u32],
+    gaps: usize,
+    g: Grown,
+    left_barred: bool,
+    right_barred: bool,
+) -> Turn
+    requires { ⌜ Inside gaps g ⌝ }
+    requires { ⌜ gaps ≤ length (now freq) ⌝ }
+    requires { ⌜ gaps ≤ length (now live) ⌝ }
+    ensures { λ r. ⌜ r ≡ sideTried gaps (floats (now (freq .entry))) (numbers (now (live .entry))) (stateOf g «left_barred» «right_barred») ⌝ }
+{
+    let left = can_grow_left(g, left_barred);
+    let right = can_grow_right(gaps, g, right_barred);
+    if !left {
+        if right {
+            return Turn::Try(Side::Next);
+        }
+        return Turn::End;
+    }
+    if !right {
+        return Turn::Try(Side::Previous);
+    }
+    if prefers_left(freq, live, gaps, g) {
+        return Turn::Try(Side::Previous);
+    }
+    Turn::Try(Side::Next)
 }
 
 // The region with one more gap, which makes it reach from left to before right. The gap must be free of fixed interference, and
