@@ -155,17 +155,23 @@ evictions-end ps kept evicts =
     }
 
 -- ---- the promises of growth are kept: of each proposal before growth is finished, and of what is found
-pub early-kept : (seen : GapsSeen) → SoundGaps seen → T (passes seen (seen .own) (ownSpan seen)) → (n : ℕ) → Kept (promiseOf seen (growth seen n .region) (proposalOf seen (growth seen n .region)))
+pub early-kept : (seen : GapsSeen) → SoundGaps seen → T (passes seen (seen .own) (ownSpan seen)) → (n : ℕ) → Kept (promiseOf seen (proposalOf seen (growth seen n .region)))
 unfolding proposalWith
 early-kept seen sound t n =
     let d = early-demand3 seen sound n t in
-    record { finite = d .finite; weights = growth-met seen sound n; exact = refl; strict = d .strict; fraction = sound .fraction }
+    let e = sym (ap (weightsMet (seen .met)) (d .covered)) in
+    record {
+      finite = d .finite;
+      weights = subst Weights e (growth-met seen sound n);
+      exact = ap heaviest e;
+      strict = d .strict;
+      fraction = sound .fraction;
+    }
 
 pub found-kept : (g : Given) → IsFound g → Kept (promised g)
-unfolding grown
 found-kept g f =
     let seen = g .seen in
-    subst (λ (p : SplitProposal). Kept (promiseOf seen (growth seen (seen .count + 1) .region) p)) (sym (found-is-grown seen (g .proposal) (f .found)))
+    subst (λ (p : SplitProposal). Kept (promiseOf seen p)) (sym (found-is-grown seen (g .proposal) (f .found)))
     (early-kept seen (f .sound) (found-own-passes seen (g .proposal) (f .found)) (seen .count + 1))
 
 each-kept : (gs : List Given) → Each IsFound gs → Each Kept (map promised gs)

@@ -18,13 +18,15 @@ use Rattle.numbers.proofs.Normalised.{normalised-finite}
 use Rattle.numbers.proofs.Heaviest.{Weights, Among, heaviest-weight, heaviest-among, heaviest-above}
 use Rattle.links.specs.declared.lower.Side.{Side}
 use Rattle.links.specs.declared.lower.Side.the-variants.{Previous, Next}
-use Rattle.region.specs.Growth.{GapsSeen, Span, State, ownSpan, numbersFrom, gapsOf, weightsMet, heaviestMet, normalisedOf, weightTest, onSide, outside, usedUp, withGap, passes, passesOn, start, isOpen, grows, barred, growth, grown, freqOutside, splitCost, proposalWith, proposalOf, regionOf, Around, Ended, In, MeetsFixed, sumOver, addedTo, gapsBeside, gapsGrown, SoundGaps, Demand3}
+use Rattle.region.specs.Growth.{GapsSeen, Span, State, ownSpan, numbersFrom, gapsOf, weightsMet, heaviestMet, normalisedOf, weightTest, onSide, outside, usedUp, withGap, passes, passesOn, start, isOpen, grows, barred, growth, grown, freqOutside, splitCost, proposalWith, proposalOf, regionOf, Around, Ended, In, MeetsFixed, sumOver, addedTo, gapsBeside, gapsGrown, FailedBefore, SoundGaps, Demand3}
 use Rattle.region.specs.declared.proposal.SplitProposal.{SplitProposal}
 use Rattle.region.specs.declared.proposal.Region.{Region}
 use Rattle.region.specs.declared.proposal.Region.the-variants.{Found, Nothing}
 use Rattle.region.proofs.Tries.{not-is, is-true, open-left, open-right, growth-keeps, growth-around, around-grows, growth-ends}
 use Rattle.region.proofs.Spans.{outside-inside, weight-in-order, insts-of-gaps, insts-some, insts-few}
 use Rattle.region.proofs.Meetings.{met-weights, met-of-gap, gap-of-met}
+use Rattle.region.proofs.Ends.{covered-gaps}
+use Rattle.region.proofs.Barred.{shut-why}
 
 -- ---- growth at every try
 module _ (seen : GapsSeen) where
@@ -124,6 +126,7 @@ module _ (seen : GapsSeen) where
     early-demand3 t =
         record {
           is-grown = refl;
+          covered = covered-gaps seen (sound .rising) (growth seen n .region) around;
           no-fixed = growth-no-fixed t n;
           heaviest-met = growth-heaviest-met;
           none-heavier = growth-none-heavier;
@@ -177,6 +180,11 @@ module _ (seen : GapsSeen) where
       -- no side is open there
       pub found-ended : Ended seen (growth seen (seen .count + 1))
       found-ended = growth-ends seen (sound .inside) (seen .count + 1) (le-refl (seen .count + 1))
+
+      -- on each side the table is used up, or the gap just outside failed when it was tried
+      pub found-side-ends : (side : Side) → T (usedUp side (seen .count) (growth seen (seen .count + 1) .region)) ⊎ FailedBefore seen side (seen .count + 1) (growth seen (seen .count + 1) .region)
+      found-side-ends Previous = shut-why seen Previous (seen .count + 1) (found-ended .left)
+      found-side-ends Next = shut-why seen Next (seen .count + 1) (found-ended .right)
 
       -- demand 3 of what is found
       pub found-demand3 : Demand3 seen (growth seen (seen .count + 1)) p

@@ -42,7 +42,7 @@ module _ (seen : GapsSeen) where
   open-right st o = nleb→lt (seen .count) (st .region .right) (and-r (not (st .right-barred)) (not (leb (seen .count) (st .region .right))) o)
 
   -- ---- the side that is tried is open, and none only if none is
-  turn-cases : (P : Turn → Type 0) (st : State) → ((side : Side) → T (isOpen side seen st) → P (Try side)) → (Ended seen st → P End) → P (sideTried (seen .count) (seen .freq) (seen .live) st)
+  pub turn-cases : (P : Turn → Type 0) (st : State) → ((side : Side) → T (isOpen side seen st) → P (Try side)) → (Ended seen st → P End) → P (sideTried (seen .count) (seen .freq) (seen .live) st)
   unfolding sideTried
   turn-cases P st t e =
       let prefers = prefersLeft (seen .freq) (seen .live) (st .region) in
@@ -103,17 +103,17 @@ module _ (seen : GapsSeen) where
   ended-stays st e = ap (λ (t : Turn). tryAt t seen st) (cond-false _ _ (not-is (isOpen Previous seen st) (e .left)) ∙ cond-false _ _ (not-is (isOpen Next seen st) (e .right)))
 
   -- ---- what is left to try: the gaps outside and the sides not barred
-  abbrev unbarred : Bool → ℕ
+  abbrev pub unbarred : Bool → ℕ
   unbarred t = cond t 0 1
 
-  abbrev leftToTry : State → ℕ
+  abbrev pub leftToTry : State → ℕ
   leftToTry st = st .region .left + (seen .count - st .region .right) + (unbarred (st .left-barred) + unbarred (st .right-barred))
 
   free-one : (t : Bool) → T (not t) → unbarred t ≡ 1
   free-one true f = absurd f
   free-one false f = refl
 
-  fewer-grown : (st : State) (side : Side) → T (isOpen side seen st) → leftToTry (grows side seen st) < leftToTry st
+  pub fewer-grown : (st : State) (side : Side) → T (isOpen side seen st) → leftToTry (grows side seen st) < leftToTry st
   fewer-grown st Previous o = less (st .region .left) (seen .count - st .region .right) (unbarred (st .left-barred) + unbarred (st .right-barred)) (open-left st o)
     where
       less : (l c u : ℕ) → 0 < l → l - 1 + c + u < l + c + u
@@ -123,7 +123,7 @@ module _ (seen : GapsSeen) where
       less : (l c r u : ℕ) → r < c → l + (c - (r + 1)) + u < l + (c - r) + u
       less l c r u h = omega arith
 
-  fewer-barred : (st : State) (side : Side) → T (isOpen side seen st) → leftToTry (barred side st) < leftToTry st
+  pub fewer-barred : (st : State) (side : Side) → T (isOpen side seen st) → leftToTry (barred side st) < leftToTry st
   fewer-barred st Previous o = less (st .region .left + (seen .count - st .region .right)) (unbarred (st .left-barred)) (unbarred (st .right-barred)) (free-one (st .left-barred) (open-free Previous st o))
     where
       less : (c a b : ℕ) → a ≡ 1 → c + (0 + b) < c + (a + b)

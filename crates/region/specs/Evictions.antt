@@ -11,7 +11,7 @@ use Rattle.numbers.specs.Chain.{longest}
 use Rattle.numbers.proofs.Heaviest.{Weights, Among}
 use Rattle.region.specs.declared.proposal.SplitProposal.{SplitProposal}
 use Rattle.region.specs.declared.proposal.Region.the-variants.{Found}
-use Rattle.region.specs.Growth.{GapsSeen, Span, gapsOf, weightsMet, grown, regionOf, SoundGaps}
+use Rattle.region.specs.Growth.{GapsSeen, weightsMet, gapsCovered, regionOf, SoundGaps}
 
 -- what a proposal promises: its normalised weight, its interference weight, the weights that its region meets, and the numerator of its weight test
 pub record Promise : Type 0 where
@@ -57,13 +57,13 @@ pub record EvictionsEnd (ps : List Promise) : Type 0 where
   pub few : Each (λ (p : Promise). p .numerator ≤ 2007) ps → length ps ≤ 10000
   pub few-above-zero : Each (λ (p : Promise). p .numerator ≤ 2007) ps → 0 < unitsOf (member ps 0 .weight) → length ps ≤ longest
 
--- what a proposal of a region of growth promises
-abbrev pub promiseOf : GapsSeen → Span → SplitProposal → Promise
-promiseOf seen s p =
+-- what a proposal promises, in what growth sees of its job
+abbrev pub promiseOf : GapsSeen → SplitProposal → Promise
+promiseOf seen p =
     record {
       weight = normalised (p .«use_weight») (p .«live_insts») (seen .k);
       interference = p .«interference_weight»;
-      met = weightsMet (seen .met) (gapsOf s);
+      met = weightsMet (seen .met) (gapsCovered seen p);
       numerator = seen .numerator;
     }
 
@@ -79,4 +79,4 @@ pub record IsFound (g : Given) : Type 0 where
 
 -- what it promises
 abbrev pub promised : Given → Promise
-promised g = promiseOf (g .seen) (grown (g .seen)) (g .proposal)
+promised g = promiseOf (g .seen) (g .proposal)

@@ -4,7 +4,7 @@ use mathlib.Core.Path.{_≡_}
 use mathlib.Core.Logic.{_⊎_}
 use mathlib.Core.Bool.{Bool, true, false, not, _&&_, cond}
 use mathlib.Core.List.{List, [], _∷_, _++_}
-use lib.Dec.{T, leb, eqb}
+use lib.Dec.{T, leb, ltb, eqb}
 use lib.Ieee.{Float, binary32, add, lt}
 use Rattle.numbers.specs.Weight.{Finite, Weight, unitsOf, zeroWeight, heaviest}
 use Rattle.numbers.specs.Normal.{normalised, exceeds}
@@ -198,6 +198,28 @@ proposalOf seen s = proposalWith (seen .count) (seen .first) (seen .freq) s (hea
 unfoldable pub regionOf : GapsSeen → Region
 regionOf seen = cond (passes seen (seen .own) (ownSpan seen)) (Region·is.Found (proposalOf seen (grown seen))) Region·is.Nothing
 
+-- an instruction is not before a left end, and before a right end; an absent end sets no bound
+abbrev pub fromEnd : MaybeInst → ℕ → Bool
+fromEnd MaybeInst·is.Absent inst = true
+fromEnd (MaybeInst·is.At i) inst = leb (i .0) inst
+
+abbrev pub beforeEnd : MaybeInst → ℕ → Bool
+beforeEnd MaybeInst·is.Absent inst = true
+beforeEnd (MaybeInst·is.At i) inst = ltb inst (i .0)
+
+-- a proposal's region holds an instruction: it lies from the left to before the right
+abbrev pub covers : SplitProposal → ℕ → Bool
+covers p inst = fromEnd (p .left) inst && beforeEnd (p .right) inst
+
+-- those numbers of a list for which a test holds
+unfoldable pub those : (ℕ → Bool) → List ℕ → List ℕ
+those test [] = []
+those test (g ∷ gs) = cond (test g) (g ∷ those test gs) (those test gs)
+
+-- the gaps of a proposal's region
+abbrev pub gapsCovered : GapsSeen → SplitProposal → List ℕ
+gapsCovered seen p = those (λ (g : ℕ). covers p (seen .first g)) (between 0 (seen .count))
+
 -- ---- in what the laws are stated
 -- a region around the best use's own gap, inside the table
 pub record Around (seen : GapsSeen) (s : Span) : Type 0 where
@@ -209,6 +231,10 @@ pub record Around (seen : GapsSeen) (s : Span) : Type 0 where
 pub record Ended (seen : GapsSeen) (st : State) : Type 0 where
   pub left : T (not (isOpen Previous seen st))
   pub right : T (not (isOpen Next seen st))
+
+-- the gap just outside a region failed in one of the first n tries
+abbrev pub FailedBefore : GapsSeen → Side → ℕ → Span → Type 0
+FailedBefore seen side n s = (m : ℕ) × (m < n) × (outside side (growth seen m .region) ≡ outside side s) × T (not (passesOn side seen (growth seen m .region)))
 
 -- a gap of a region
 abbrev pub In : Span → ℕ → Type 0
@@ -237,9 +263,10 @@ unfoldable pub gapsGrown : GapsSeen → ℕ → List ℕ
 gapsGrown seen zero = []
 gapsGrown seen (suc n) = gapsGrown seen n ++ gapsBeside (growth seen n .region) (growth seen (suc n) .region)
 
--- what a checked job's gaps satisfy: the own gap is one of them, weights and frequencies are weights, the live instructions with k are few enough to be floats, the numerator is at most 2048
+-- what a checked job's gaps satisfy: the own gap is one of them, each begins after the one before, weights and frequencies are weights, the live instructions with k are few enough to be floats, the numerator is at most 2048
 pub record SoundGaps (seen : GapsSeen) : Type 0 where
   pub inside : seen .own < seen .count
+  pub rising : (g : ℕ) → g + 1 < seen .count → seen .first g < seen .first (g + 1)
   pub weights : (g : ℕ) → g < seen .count → Weight (seen .weight g)
   pub freqs : (g : ℕ) → g < seen .count → Weight (seen .freq g)
   pub met : (g : ℕ) → g < seen .count → Weights (seen .met g)
@@ -250,6 +277,8 @@ pub record SoundGaps (seen : GapsSeen) : Type 0 where
 pub record Demand3 (seen : GapsSeen) (st : State) (p : SplitProposal) : Type 0 where
   -- it is the proposal of the region grown
   pub is-grown : p ≡ proposalOf seen (st .region)
+  -- the gaps from its left to before its right are those of that region
+  pub covered : gapsCovered seen p ≡ gapsOf (st .region)
   -- its region meets nothing that counts as fixed
   pub no-fixed : MeetsFixed seen (st .region) → ⊥
   -- its interference weight is zero or met by a gap of its region
