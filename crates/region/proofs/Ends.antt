@@ -1,20 +1,19 @@
 -- A proposal's ends cut out the region that it was made of
 use mathlib.Core.Path.{_≡_, refl, sym, ap, ap₂, _∙_, subst}
-use mathlib.Core.Logic.{_⊎_, inl, inr, ⊎-elim, _↔_}
+use mathlib.Core.Logic.{⊎-elim, _↔_}
 use Prim.Native.Nat.{ℕ, zero, suc, _+_, _-_, _≤_, _<_}
-use native.Mathlib.Nat.{le-refl, le-trans, le-of-lt, lt-of-lt-of-le, lt-of-le-of-lt, lt-irrefl, eq-or-lt-of-le, le-of-suc-le-suc, not-suc-le-zero}
+use native.Mathlib.Nat.{le-refl, le-trans, le-of-lt, lt-of-lt-of-le, lt-of-le-of-lt, lt-irrefl}
 use native.Mathlib.Omega.{arith}
-use mathlib.Core.Bool.{Bool, true, false, not, _&&_, cond}
+use mathlib.Core.Bool.{Bool, true, false, _&&_, cond}
 use mathlib.Core.List.{List, [], _∷_, _++_, append-nil}
-use lib.Dec.{T, leb, ltb, eqb, leb→le, le→leb, ltb→lt, lt→ltb, nleb→lt, eqb→eq, not-T}
+use lib.Dec.{T, leb, eqb, leb→le, le→leb, ltb→lt, lt→ltb, nleb→lt, eqb→eq, not-T}
 use lib.Ieee.Fits.{and-l, and-r}
 use Rattle.numbers.specs.declared.MaybeInst.{MaybeInst}
 use Rattle.numbers.specs.declared.MaybeInst.the-variants.{At, Absent}
 use Rattle.numbers.proofs.Tests.{cond-both, cond-true, cond-false}
 use Rattle.links.proofs.Firsts.{split}
-use Rattle.links.specs.declared.lower.Side.{Side}
 use Rattle.links.specs.declared.lower.Side.the-variants.{Previous, Next}
-use Rattle.region.specs.Growth.{GapsSeen, Span, numbersFrom, between, gapsOf, usedUp, endOf, proposalWith, proposalOf, fromEnd, beforeEnd, covers, those, gapsCovered, Around, In, SoundGaps}
+use Rattle.region.specs.Growth.{GapsSeen, Span, numbersFrom, between, gapsOf, endOf, proposalWith, proposalOf, fromEnd, beforeEnd, covers, those, gapsCovered, Around, In}
 use Rattle.region.proofs.Tries.{not-is, is-true}
 
 -- ---- those numbers of a run for which a test holds

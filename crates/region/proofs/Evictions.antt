@@ -1,14 +1,13 @@
 -- The ring and chain law: of every list of kept promises, and so of every list of proposals found
 use mathlib.Core.Path.{_≡_, refl, sym, ap, _∙_, subst, subst₂}
-use mathlib.Core.Logic.{_⊎_, inl, inr, ⊎-elim}
+use mathlib.Core.Logic.{inl, inr}
 use Prim.Native.Nat.{ℕ, zero, suc, _+_, _*_, _^_, _≤_, _<_}
-use native.Mathlib.Nat.{le-refl, le-trans, le-of-eq, le-of-lt, lt-of-lt-of-le, lt-of-le-of-lt, lt-irrefl, not-suc-le-zero, le-of-suc-le-suc, eq-or-lt-of-le, mul-comm, mul-pos, mul-le-mul-left, mul-le-mul-right}
+use native.Mathlib.Nat.{le-trans, le-of-eq, le-of-lt, lt-of-lt-of-le, lt-of-le-of-lt, lt-irrefl, not-suc-le-zero, le-of-suc-le-suc, eq-or-lt-of-le, mul-comm, mul-pos, mul-le-mul-left, mul-le-mul-right}
 use native.Mathlib.Omega.{arith}
 use mathlib.Core.List.{List, [], _∷_, map}
-use lib.IntN.{pos}
 use lib.Dec.{T, lit<, lit≤}
 use lib.Pow.{pow-pos}
-use lib.Ieee.{Float, nan, binary32, mul, toBits, ofInt, ofBits}
+use lib.Ieee.{Float, nan, binary32, mul, ofBits}
 use lib.ListN.{length, getD}
 use Rattle.numbers.specs.Weight.{Finite, Weight, finite, unitsOf, infiniteUnits, heaviest}
 use Rattle.numbers.specs.Normal.{fraction, exceeds}
@@ -20,10 +19,9 @@ use Rattle.numbers.proofs.Normalised.{exceeds-rises, exceeds-lighter}
 use Rattle.numbers.proofs.Heaviest.{Weights, Among, heaviest-weight, heaviest-above}
 use Rattle.numbers.proofs.Bits.{weight-back}
 use Rattle.numbers.proofs.Chain.{chain-rises, chain-few, chain-bound}
-use Rattle.region.specs.Growth.{GapsSeen, State, ownSpan, passes, growth, grown, gapsOf, weightsMet, proposalWith, proposalOf, regionOf, SoundGaps}
+use Rattle.region.specs.Growth.{GapsSeen, ownSpan, passes, growth, weightsMet, proposalWith, proposalOf, SoundGaps}
 use Rattle.region.specs.Evictions.{Promise, Kept, MeetsCarrier, EvictsAfter, Evicts, Each, member, EvictionsEnd, promiseOf, Given, IsFound, promised}
 use Rattle.region.specs.declared.proposal.SplitProposal.{SplitProposal}
-use Rattle.region.specs.declared.proposal.Region.the-variants.{Found}
 use Rattle.region.proofs.Meetings.{among-weight}
 use Rattle.region.proofs.Proposals.{growth-met, early-demand3, found-own-passes, found-is-grown}
 

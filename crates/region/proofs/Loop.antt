@@ -1,10 +1,10 @@
 -- What a loop over tries rests on: the side that is tried, a try by the code's test, the start and the answer
-use mathlib.Core.Path.{_≡_, refl, sym, ap, _∙_, subst}
-use Prim.Native.Nat.{ℕ, zero, suc, _+_, _-_, _^_, _≤_, _<_}
-use native.Mathlib.Nat.{le-refl, add-comm}
+use mathlib.Core.Path.{_≡_, sym, ap, _∙_, subst}
+use Prim.Native.Nat.{ℕ, zero, suc, _+_, _^_, _<_}
+use native.Mathlib.Nat.{add-comm}
 use native.Mathlib.Omega.{arith}
-use mathlib.Core.Bool.{Bool, true, false, not, _&&_, cond}
-use mathlib.Core.List.{List, [], _∷_, _++_, append-nil}
+use mathlib.Core.Bool.{not}
+use mathlib.Core.List.{List, append-nil}
 use lib.Dec.{T}
 use lib.Ieee.{Float, binary32, add}
 use Rattle.numbers.specs.Weight.{Weight, finite, unitsOf, zeroWeight, heavier, heaviest}
@@ -14,13 +14,11 @@ use Rattle.numbers.proofs.Rounding.{rounded, round-fixed}
 use Rattle.numbers.proofs.Operations.{sum-weight, sum-units}
 use Rattle.numbers.proofs.Heaviest.{Weights}
 use Rattle.links.specs.declared.lower.Side.{Side}
-use Rattle.links.specs.declared.lower.Side.the-variants.{Previous, Next}
-use Rattle.region.specs.Growth.{GapsSeen, Span, State, ownSpan, numbersFrom, gapsOf, weightsMet, heaviestMet, weightTest, outside, withGap, passes, passesOn, isOpen, sideTried, tryOn, tryAt, try, growth, grown, proposalOf, regionOf, Around, Ended}
+use Rattle.region.specs.Growth.{GapsSeen, Span, State, ownSpan, gapsOf, weightsMet, heaviestMet, weightTest, outside, withGap, passes, passesOn, isOpen, sideTried, tryOn, tryAt, try, growth, grown, proposalOf, regionOf, Around, Ended}
 use Rattle.region.specs.Columns.{grownOf, triedOf, testedOf}
 use Rattle.region.specs.declared.growth.Grown.{Grown}
 use Rattle.region.specs.declared.growth.Turn.{Turn}
 use Rattle.region.specs.declared.growth.Turn.the-variants.{Try, End}
-use Rattle.region.specs.declared.growth.Tried.{Tried}
 use Rattle.region.specs.declared.proposal.Region.the-variants.{Found, Nothing}
 use Rattle.region.proofs.Tries.{not-is, is-true, turn-cases, ended-stays, growth-same}
 use Rattle.region.proofs.Spans.{between-one}

@@ -1,8 +1,8 @@
 -- What a region meets: the weights of all its gaps, and the heaviest of the region with one more gap
-use mathlib.Core.Path.{_≡_, refl, sym, ap, ap₂, _∙_, subst}
-use mathlib.Core.Logic.{_⊎_, inl, inr, ⊎-elim}
+use mathlib.Core.Path.{_≡_, refl, sym, ap, _∙_, subst}
+use mathlib.Core.Logic.{_⊎_, inl, inr}
 use Prim.Native.Nat.{ℕ, zero, suc, _+_, _-_, _≤_, _<_, max}
-use native.Mathlib.Nat.{le-refl, le-trans, le-of-eq, le-of-lt, eq-or-lt-of-le}
+use native.Mathlib.Nat.{le-refl, le-trans, le-of-lt, eq-or-lt-of-le}
 use native.Mathlib.Omega.{arith}
 use mathlib.Core.List.{List, [], _∷_, _++_, append-nil}
 use lib.Dec.{T}
@@ -12,8 +12,8 @@ use Rattle.numbers.proofs.Units.{units-inj}
 use Rattle.numbers.proofs.Heaviest.{Weights, Among, heavier-weight, heavier-units, heaviest-weight, heaviest-append, weights-append}
 use Rattle.links.specs.declared.lower.Side.{Side}
 use Rattle.links.specs.declared.lower.Side.the-variants.{Previous, Next}
-use Rattle.region.specs.Growth.{GapsSeen, Span, State, numbersFrom, between, gapsOf, weightsMet, heaviestMet, outside, withGap, isOpen, Around, In, SoundGaps}
-use Rattle.region.proofs.Tries.{open-left, open-right}
+use Rattle.region.specs.Growth.{GapsSeen, Span, State, numbersFrom, gapsOf, weightsMet, heaviestMet, outside, withGap, isOpen, Around, In}
+use Rattle.region.proofs.Tries.{open-left}
 use Rattle.region.proofs.Spans.{between-before, between-behind}
 
 -- ---- lists of weights

@@ -1,15 +1,14 @@
 -- Demand 3: what holds of growth at every try once the own gap has passed, of every proposal found, and when nothing is found
 use mathlib.Core.Path.{_≡_, refl, sym, ap, _∙_, subst}
 use mathlib.Core.Logic.{_⊎_, inl, inr, ⊎-elim, _↔_}
-use Prim.Native.Nat.{ℕ, zero, suc, _+_, _-_, _≤_, _<_}
-use native.Mathlib.Nat.{le-refl, le-trans, le-of-lt, eq-or-lt-of-le, le-of-suc-le-suc}
+use Prim.Native.Nat.{ℕ, _+_, _-_, _≤_, _<_}
+use native.Mathlib.Nat.{le-refl, le-trans, eq-or-lt-of-le}
 use native.Mathlib.Omega.{arith}
 use mathlib.Core.Bool.{Bool, true, false, not, _&&_, cond}
-use mathlib.Core.List.{List}
 use lib.Dec.{T, T-not, leb, eqb, nleb→lt}
-use lib.Ieee.{Float, lt}
+use lib.Ieee.{Float}
 use lib.Ieee.Fits.{and-l, and-r}
-use Rattle.numbers.specs.Weight.{Finite, Weight, finite, unitsOf, zeroWeight, heaviest}
+use Rattle.numbers.specs.Weight.{Finite, Weight, finite, unitsOf, zeroWeight}
 use Rattle.numbers.specs.Normal.{normalised, exceeds}
 use Rattle.numbers.proofs.Tests.{cond-both}
 use Rattle.numbers.proofs.Units.{zero-finite}
@@ -18,11 +17,10 @@ use Rattle.numbers.proofs.Normalised.{normalised-finite}
 use Rattle.numbers.proofs.Heaviest.{Weights, Among, heaviest-weight, heaviest-among, heaviest-above}
 use Rattle.links.specs.declared.lower.Side.{Side}
 use Rattle.links.specs.declared.lower.Side.the-variants.{Previous, Next}
-use Rattle.region.specs.Growth.{GapsSeen, Span, State, ownSpan, numbersFrom, gapsOf, weightsMet, heaviestMet, normalisedOf, weightTest, onSide, outside, usedUp, withGap, passes, passesOn, start, isOpen, grows, barred, growth, grown, freqOutside, splitCost, proposalWith, proposalOf, regionOf, Around, Ended, In, MeetsFixed, sumOver, addedTo, gapsBeside, gapsGrown, FailedBefore, SoundGaps, Demand3}
+use Rattle.region.specs.Growth.{GapsSeen, State, ownSpan, gapsOf, weightsMet, heaviestMet, normalisedOf, weightTest, outside, usedUp, withGap, passes, passesOn, isOpen, growth, grown, freqOutside, splitCost, proposalWith, proposalOf, regionOf, Around, Ended, In, MeetsFixed, sumOver, addedTo, gapsBeside, gapsGrown, FailedBefore, SoundGaps, Demand3}
 use Rattle.region.specs.declared.proposal.SplitProposal.{SplitProposal}
-use Rattle.region.specs.declared.proposal.Region.{Region}
 use Rattle.region.specs.declared.proposal.Region.the-variants.{Found, Nothing}
-use Rattle.region.proofs.Tries.{not-is, is-true, open-left, open-right, growth-keeps, growth-around, around-grows, growth-ends}
+use Rattle.region.proofs.Tries.{open-left, growth-keeps, growth-around, around-grows, growth-ends}
 use Rattle.region.proofs.Spans.{outside-inside, weight-in-order, insts-of-gaps, insts-some, insts-few}
 use Rattle.region.proofs.Meetings.{met-weights, met-of-gap, gap-of-met}
 use Rattle.region.proofs.Ends.{covered-gaps}

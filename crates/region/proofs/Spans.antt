@@ -1,14 +1,14 @@
 -- The gaps of a region and of one with one more gap; weight and instructions are those of the own gap and of each gap grown, once
 use mathlib.Core.Path.{_≡_, refl, sym, ap, ap₂, _∙_, subst}
 use Prim.Native.Nat.{ℕ, zero, suc, _+_, _-_, _^_, _≤_, _<_}
-use native.Mathlib.Nat.{le-refl, le-trans, le-of-eq, le-of-lt, add-assoc}
+use native.Mathlib.Nat.{le-refl, le-trans, add-assoc}
 use native.Mathlib.Omega.{arith}
 use mathlib.Core.List.{List, [], _∷_, _++_, append-assoc}
 use lib.Dec.{T}
 use lib.Ieee.{Float, binary32, add}
 use Rattle.links.specs.declared.lower.Side.{Side}
 use Rattle.links.specs.declared.lower.Side.the-variants.{Previous, Next}
-use Rattle.region.specs.Growth.{GapsSeen, Span, State, ownSpan, numbersFrom, between, gapsOf, outside, withGap, passesOn, start, isOpen, barred, grows, try, growth, Around, Ended, sumOver, addedTo, gapsBeside, gapsGrown, SoundGaps}
+use Rattle.region.specs.Growth.{GapsSeen, Span, State, ownSpan, numbersFrom, between, outside, withGap, isOpen, try, growth, Around, sumOver, addedTo, gapsBeside, gapsGrown, SoundGaps}
 use Rattle.region.proofs.Tries.{open-left, open-right, try-cases, growth-around}
 
 -- ---- numbers from one to before another

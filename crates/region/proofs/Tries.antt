@@ -2,15 +2,15 @@
 use mathlib.Core.Path.{_≡_, refl, sym, ap, _∙_, subst}
 use mathlib.Core.Logic.{_⊎_, inl, inr, ⊎-elim}
 use Prim.Native.Nat.{ℕ, zero, suc, _+_, _-_, _≤_, _<_}
-use native.Mathlib.Nat.{le-refl, le-trans, le-of-eq, not-suc-le-zero, eq-or-lt-of-le, le-of-suc-le-suc, le-antisymm}
+use native.Mathlib.Nat.{le-refl}
 use native.Mathlib.Omega.{arith}
 use mathlib.Core.Bool.{Bool, true, false, not, _&&_, cond}
-use lib.Dec.{T, T-not, leb, eqb, nleb→lt, le→leb, eqb→eq}
+use lib.Dec.{T, leb, eqb, nleb→lt}
 use lib.Ieee.Fits.{and-l, and-r}
-use Rattle.numbers.proofs.Tests.{cond-both, cond-true, cond-false}
+use Rattle.numbers.proofs.Tests.{cond-both, cond-false}
 use Rattle.links.specs.declared.lower.Side.{Side}
 use Rattle.links.specs.declared.lower.Side.the-variants.{Previous, Next}
-use Rattle.region.specs.Growth.{GapsSeen, Span, State, ownSpan, onSide, outside, usedUp, withGap, passesOn, start, sideOpen, isOpen, prefersLeft, sideTried, barred, grows, tryOn, tryAt, try, growth, Around, Ended}
+use Rattle.region.specs.Growth.{GapsSeen, State, onSide, usedUp, withGap, passesOn, start, sideOpen, isOpen, prefersLeft, sideTried, barred, grows, tryOn, tryAt, try, growth, Around, Ended}
 use Rattle.region.specs.declared.growth.Turn.{Turn}
 use Rattle.region.specs.declared.growth.Turn.the-variants.{Try, End}
 
