@@ -8,7 +8,8 @@ use lib.ListN.{getD, length}
 use Rattle.numbers.specs.Normal.{normalised, fraction, exceeds}
 use Rattle.numbers.specs.declared.MaybeInst.{MaybeInst}
 use Rattle.numbers.specs.declared.MaybeInst.the-variants.{At, Absent}
-use Rattle.region.specs.Growth.{numbersFrom, weightsMet, weightTest, passes, sideOpen, leftFirst, sideTried, tryOn, try, growth, grown, splitCost, endOf, proposalWith, regionOf}
+use Rattle.region.specs.Growth.{numbersFrom, weightsMet, weightTest, passes, sideOpen, leftFirst, sideTried, tryOn, try, growth, grown}
+use Rattle.region.specs.Proposal.{splitCost, endOf, proposalWith, regionOf}
 use Rattle.region.specs.Columns.{seenIn}
 use Rattle.region.specs.declared.proposal.Region.{Region}
 use Rattle.region.specs.declared.proposal.Region.the-variants.{Found, Nothing}

@@ -7,13 +7,16 @@ use native.Mathlib.Omega.{arith}
 use mathlib.Core.Bool.{Bool, true, false, _&&_, cond}
 use mathlib.Core.List.{List, [], _∷_, _++_, append-nil}
 use lib.Dec.{T, leb, eqb, leb→le, le→leb, ltb→lt, lt→ltb, nleb→lt, eqb→eq, not-T}
+use lib.Ieee.{Float}
 use lib.Ieee.Fits.{and-l, and-r}
 use Rattle.numbers.specs.declared.MaybeInst.{MaybeInst}
 use Rattle.numbers.specs.declared.MaybeInst.the-variants.{At, Absent}
 use Rattle.numbers.proofs.Tests.{cond-both, cond-true, cond-false}
 use Rattle.links.proofs.Firsts.{split}
 use Rattle.links.specs.declared.lower.Side.the-variants.{Previous, Next}
-use Rattle.region.specs.Growth.{GapsSeen, Span, numbersFrom, between, gapsOf, endOf, proposalWith, proposalOf, fromEnd, beforeEnd, covers, those, gapsCovered, Around, In}
+use Rattle.region.specs.Growth.{GapsSeen, Span, heaviestMet, numbersFrom, between, gapsOf}
+use Rattle.region.specs.Proposal.{endOf, proposalWith, proposalOf, fromEnd, beforeEnd, covers, those, gapsCovered}
+use Rattle.region.specs.Demand.{Around, In}
 use Rattle.region.proofs.Tries.{not-is, is-true}
 
 -- ---- those numbers of a run for which a test holds
@@ -127,7 +130,7 @@ module _ (seen : GapsSeen) (rising : (g : ℕ) → g + 1 < seen .count → seen 
       joined a b l = omega arith
 
   -- an instruction of gap g is in the region of a proposal exactly if g is a gap of the region that it was made of
-  module _ (s : Span) (around : Around seen s) (heaviest : lib.Ieee.Float) (g inst : ℕ) (inside : g < seen .count) (from : seen .first g ≤ inst) (to : g + 1 < seen .count → inst < seen .first (g + 1)) where
+  module _ (s : Span) (around : Around seen s) (heaviest : Float) (g inst : ℕ) (inside : g < seen .count) (from : seen .first g ≤ inst) (to : g + 1 < seen .count → inst < seen .first (g + 1)) where
     left-exact : T (fromEnd (endOf Previous (seen .count) (seen .first) s) inst) ↔ (s .left ≤ g)
     unfolding endOf
     left-exact =
@@ -183,7 +186,7 @@ module _ (seen : GapsSeen) (rising : (g : ℕ) → g + 1 < seen .count → seen 
   -- the gaps of a proposal's region are those of the region that it was made of
   module _ (s : Span) (around : Around seen s) where
     at-first : (g : ℕ) → g < seen .count → T (covers (proposalOf seen s) (seen .first g)) ↔ In s g
-    at-first g h = covers-exactly s around (Rattle.region.specs.Growth.heaviestMet seen s) g (seen .first g) h (le-refl (seen .first g)) (rising g)
+    at-first g h = covers-exactly s around (heaviestMet seen s) g (seen .first g) h (le-refl (seen .first g)) (rising g)
 
     pub covered-gaps : gapsCovered seen (proposalOf seen s) ≡ gapsOf s
     covered-gaps =

@@ -19,7 +19,9 @@ use Rattle.numbers.proofs.Normalised.{exceeds-rises, exceeds-lighter}
 use Rattle.numbers.proofs.Heaviest.{Weights, Among, heaviest-weight, heaviest-above}
 use Rattle.numbers.proofs.Bits.{weight-back}
 use Rattle.numbers.proofs.Chain.{chain-rises, chain-few, chain-bound}
-use Rattle.region.specs.Growth.{GapsSeen, ownSpan, passes, growth, weightsMet, proposalWith, proposalOf, SoundGaps}
+use Rattle.region.specs.Growth.{GapsSeen, ownSpan, passes, growth, weightsMet}
+use Rattle.region.specs.Proposal.{proposalWith, proposalOf}
+use Rattle.region.specs.Demand.{SoundGaps}
 use Rattle.region.specs.Evictions.{Promise, Kept, MeetsCarrier, EvictsAfter, Evicts, Each, member, EvictionsEnd, promiseOf, Given, IsFound, promised}
 use Rattle.region.specs.declared.proposal.SplitProposal.{SplitProposal}
 use Rattle.region.proofs.Meetings.{among-weight}

@@ -14,7 +14,9 @@ use Rattle.numbers.proofs.Rounding.{rounded, round-fixed}
 use Rattle.numbers.proofs.Operations.{sum-weight, sum-units}
 use Rattle.numbers.proofs.Heaviest.{Weights}
 use Rattle.links.specs.declared.lower.Side.{Side}
-use Rattle.region.specs.Growth.{GapsSeen, Span, State, ownSpan, gapsOf, weightsMet, heaviestMet, weightTest, outside, withGap, passes, passesOn, isOpen, sideTried, tryOn, tryAt, try, growth, grown, proposalOf, regionOf, Around, Ended}
+use Rattle.region.specs.Growth.{GapsSeen, Span, State, ownSpan, gapsOf, weightsMet, heaviestMet, weightTest, outside, withGap, passes, passesOn, isOpen, sideTried, tryOn, tryAt, try, growth, grown}
+use Rattle.region.specs.Proposal.{proposalOf, regionOf}
+use Rattle.region.specs.Demand.{Around, Ended}
 use Rattle.region.specs.Columns.{grownOf, triedOf, testedOf}
 use Rattle.region.specs.declared.growth.Grown.{Grown}
 use Rattle.region.specs.declared.growth.Turn.{Turn}

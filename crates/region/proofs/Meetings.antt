@@ -4,7 +4,7 @@ use mathlib.Core.Logic.{_⊎_, inl, inr}
 use Prim.Native.Nat.{ℕ, zero, suc, _+_, _-_, _≤_, _<_, max}
 use native.Mathlib.Nat.{le-refl, le-trans, le-of-lt, eq-or-lt-of-le}
 use native.Mathlib.Omega.{arith}
-use mathlib.Core.List.{List, [], _∷_, _++_, append-nil}
+use mathlib.Core.List.{List, [], _∷_, _++_, append-assoc, append-nil}
 use lib.Dec.{T}
 use lib.Ieee.{Float}
 use Rattle.numbers.specs.Weight.{Weight, unitsOf, heavier, heaviest}
@@ -12,7 +12,8 @@ use Rattle.numbers.proofs.Units.{units-inj}
 use Rattle.numbers.proofs.Heaviest.{Weights, Among, heavier-weight, heavier-units, heaviest-weight, heaviest-append, weights-append}
 use Rattle.links.specs.declared.lower.Side.{Side}
 use Rattle.links.specs.declared.lower.Side.the-variants.{Previous, Next}
-use Rattle.region.specs.Growth.{GapsSeen, Span, State, numbersFrom, gapsOf, weightsMet, heaviestMet, outside, withGap, isOpen, Around, In}
+use Rattle.region.specs.Growth.{GapsSeen, Span, State, numbersFrom, gapsOf, weightsMet, heaviestMet, outside, withGap, isOpen}
+use Rattle.region.specs.Demand.{Around, In}
 use Rattle.region.proofs.Tries.{open-left}
 use Rattle.region.proofs.Spans.{between-before, between-behind}
 
@@ -39,7 +40,7 @@ module _ (met : ℕ → List Float) where
   met-append : (xs ys : List ℕ) → weightsMet met (xs ++ ys) ≡ weightsMet met xs ++ weightsMet met ys
   unfolding weightsMet
   met-append [] ys = refl
-  met-append (x ∷ xs) ys = ap (λ (ws : List Float). met x ++ ws) (met-append xs ys) ∙ sym (mathlib.Core.List.append-assoc (met x) (weightsMet met xs) (weightsMet met ys))
+  met-append (x ∷ xs) ys = ap (λ (ws : List Float). met x ++ ws) (met-append xs ys) ∙ sym (append-assoc (met x) (weightsMet met xs) (weightsMet met ys))
 
   run-weights : (a n : ℕ) → ((g : ℕ) → a ≤ g → g < a + n → Weights (met g)) → Weights (weightsMet met (numbersFrom a n))
   unfolding weightsMet numbersFrom

@@ -17,7 +17,9 @@ use Rattle.numbers.proofs.Normalised.{normalised-finite}
 use Rattle.numbers.proofs.Heaviest.{Weights, Among, heaviest-weight, heaviest-among, heaviest-above}
 use Rattle.links.specs.declared.lower.Side.{Side}
 use Rattle.links.specs.declared.lower.Side.the-variants.{Previous, Next}
-use Rattle.region.specs.Growth.{GapsSeen, State, ownSpan, gapsOf, weightsMet, heaviestMet, normalisedOf, weightTest, outside, usedUp, withGap, passes, passesOn, isOpen, growth, grown, freqOutside, splitCost, proposalWith, proposalOf, regionOf, Around, Ended, In, MeetsFixed, sumOver, addedTo, gapsBeside, gapsGrown, FailedBefore, SoundGaps, Demand3}
+use Rattle.region.specs.Growth.{GapsSeen, State, ownSpan, gapsOf, weightsMet, heaviestMet, normalisedOf, weightTest, outside, usedUp, withGap, passes, passesOn, isOpen, growth, grown}
+use Rattle.region.specs.Proposal.{freqOutside, splitCost, proposalWith, proposalOf, regionOf}
+use Rattle.region.specs.Demand.{Around, Ended, In, MeetsFixed, sumOver, addedTo, gapsBeside, gapsGrown, FailedBefore, SoundGaps, Demand3}
 use Rattle.region.specs.declared.proposal.SplitProposal.{SplitProposal}
 use Rattle.region.specs.declared.proposal.Region.the-variants.{Found, Nothing}
 use Rattle.region.proofs.Tries.{open-left, growth-keeps, growth-around, around-grows, growth-ends}

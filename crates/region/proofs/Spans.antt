@@ -8,7 +8,8 @@ use lib.Dec.{T}
 use lib.Ieee.{Float, binary32, add}
 use Rattle.links.specs.declared.lower.Side.{Side}
 use Rattle.links.specs.declared.lower.Side.the-variants.{Previous, Next}
-use Rattle.region.specs.Growth.{GapsSeen, Span, State, ownSpan, numbersFrom, between, outside, withGap, isOpen, try, growth, Around, sumOver, addedTo, gapsBeside, gapsGrown, SoundGaps}
+use Rattle.region.specs.Growth.{GapsSeen, Span, State, ownSpan, numbersFrom, between, outside, withGap, isOpen, try, growth}
+use Rattle.region.specs.Demand.{Around, sumOver, addedTo, gapsBeside, gapsGrown, SoundGaps}
 use Rattle.region.proofs.Tries.{open-left, open-right, try-cases, growth-around}
 
 -- ---- numbers from one to before another

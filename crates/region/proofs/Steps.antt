@@ -14,7 +14,8 @@ use Rattle.numbers.proofs.Tests.{cond-true, cond-false}
 use Rattle.links.proofs.Firsts.{split}
 use Rattle.links.specs.declared.lower.Side.{Side}
 use Rattle.links.specs.declared.lower.Side.the-variants.{Previous, Next}
-use Rattle.region.specs.Growth.{GapsSeen, Span, heaviestMet, weightTest, outside, withGap, sideOpen, prefersLeft, sideTried, passes, passesOn, endOf, splitCost, proposalWith}
+use Rattle.region.specs.Growth.{GapsSeen, Span, heaviestMet, weightTest, outside, withGap, sideOpen, prefersLeft, sideTried, passes, passesOn}
+use Rattle.region.specs.Proposal.{endOf, splitCost, proposalWith}
 use Rattle.region.specs.declared.proposal.SplitProposal.{SplitProposal}
 use Rattle.region.specs.Columns.{spanOf, stateOf, openWith, Inside, Between, grownOf, triedOf, testedOf}
 use Rattle.region.specs.declared.growth.Grown.{Grown}

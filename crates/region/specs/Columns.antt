@@ -1,5 +1,5 @@
 -- For contracts of private functions: gaps in their lent columns, and a region as the code holds it
-use Prim.Native.Nat.{ℕ, _+_, _≤_, _<_}
+use Prim.Native.Nat.{ℕ, _+_, _^_, _≤_, _<_}
 use mathlib.Core.Bool.{Bool, not, _&&_, cond}
 use mathlib.Core.List.{List}
 use lib.Ieee.{Float, nan, binary32, add}
@@ -59,6 +59,10 @@ pub record Between (n : ℕ) (g : Grown) : Type 0 where
   pub left : 0 < g .left
   pub order : g .left ≤ g .right
   pub right : g .right < n
+
+-- the live instructions of a region and of one more gap are a 32-bit number together
+abbrev pub CountFits : Grown → ℕ → Type 0
+CountFits g insts = g .insts + insts < 2 ^ 32
 
 -- a region if it passes
 abbrev pub triedOf : Bool → Grown → Tried

@@ -11,7 +11,9 @@ use Rattle.numbers.specs.Chain.{longest}
 use Rattle.numbers.proofs.Heaviest.{Weights, Among}
 use Rattle.region.specs.declared.proposal.SplitProposal.{SplitProposal}
 use Rattle.region.specs.declared.proposal.Region.the-variants.{Found}
-use Rattle.region.specs.Growth.{GapsSeen, weightsMet, gapsCovered, regionOf, SoundGaps}
+use Rattle.region.specs.Growth.{GapsSeen, weightsMet}
+use Rattle.region.specs.Proposal.{gapsCovered, regionOf}
+use Rattle.region.specs.Demand.{SoundGaps}
 
 -- what a proposal promises: its normalised weight, its interference weight, the weights that its region meets, and the numerator of its weight test
 pub record Promise : Type 0 where

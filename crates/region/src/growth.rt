@@ -1,10 +1,10 @@
 // The steps of growth: which side is tried, and whether a gap passes.
 ghost use mathlib.Core.Path.{_≡_};
-ghost use Prim.Native.Nat.{_+_, _≤_, _<_};
+ghost use Prim.Native.Nat.{_≤_};
 ghost use lib.ListN.{length};
 ghost use lib.Dec.{leb, eqb};
 ghost use Rattle.region.specs.Growth.{prefersLeft, sideTried};
-ghost use Rattle.region.specs.Columns.{numbers, floats, spanOf, stateOf, openWith, Inside, Between, testedOf};
+ghost use Rattle.region.specs.Columns.{numbers, floats, spanOf, stateOf, openWith, Inside, Between, CountFits, testedOf};
 use links::lower::Side;
 
 // A region: the gaps from left to before right, their use weight and live instructions, and the heaviest weight met.
@@ -111,7 +111,7 @@ pub fn tested(
     left: usize,
     right: usize,
 ) -> Tried
-    requires { ⌜ g .insts + insts < 4294967296 ⌝ }
+    requires { ⌜ CountFits g insts ⌝ }
     ensures { λ r. ⌜ r ≡ testedOf free g weight insts heaviest k left right ⌝ }
 {
     if !free {

@@ -3,7 +3,7 @@ ghost use mathlib.Core.Path.{_≡_};
 ghost use Prim.Native.Nat.{_≤_};
 ghost use lib.ListN.{length};
 ghost use Rattle.links.specs.declared.lower.Side.the-variants.{Previous, Next};
-ghost use Rattle.region.specs.Growth.{endOf, freqOutside, splitCost, proposalWith};
+ghost use Rattle.region.specs.Proposal.{endOf, freqOutside, splitCost, proposalWith};
 ghost use Rattle.region.specs.Columns.{numbers, floats, spanOf, Inside};
 use crate::growth::Grown;
 use numbers::Inst;

@@ -2,7 +2,7 @@
 use mathlib.Core.Path.{sym}
 use borrow.Author.Tests.{eq-eqb, ne-eqb}
 use Rattle.numbers.proofs.Tests.{cond-true, cond-false}
-use Rattle.region.specs.Growth.{endOf}
+use Rattle.region.specs.Proposal.{endOf}
 use borrow.Author.Needs.{needs}
 use Rattle.region.proofs.proposal.left_end.Statement.{statement}
 use Rattle.region.proofs.proposal.left_end.Tie as tie

@@ -1,5 +1,5 @@
 -- `split_cost` adds the two frequencies just outside
-use Rattle.region.specs.Growth.{splitCost}
+use Rattle.region.specs.Proposal.{splitCost}
 use borrow.Author.Needs.{needs}
 use Rattle.region.proofs.proposal.split_cost.Statement.{statement}
 use Rattle.region.proofs.proposal.split_cost.Tie as tie
