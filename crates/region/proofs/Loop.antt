@@ -1,9 +1,9 @@
 -- What a loop over tries rests on: the side that is tried, a try by the code's test, the start and the answer
-use mathlib.Core.Path.{_≡_, sym, ap, _∙_, subst}
+use mathlib.Core.Path.{_≡_, refl, sym, ap, _∙_, subst}
 use Prim.Native.Nat.{ℕ, zero, suc, _+_, _^_, _<_}
 use native.Mathlib.Nat.{add-comm}
 use native.Mathlib.Omega.{arith}
-use mathlib.Core.Bool.{not}
+use mathlib.Core.Bool.{Bool, true, false, not, cond}
 use mathlib.Core.List.{List, append-nil}
 use lib.Dec.{T}
 use lib.Ieee.{Float, binary32, add}
@@ -14,10 +14,10 @@ use Rattle.numbers.proofs.Rounding.{rounded, round-fixed}
 use Rattle.numbers.proofs.Operations.{sum-weight, sum-units}
 use Rattle.numbers.proofs.Heaviest.{Weights}
 use Rattle.links.specs.declared.lower.Side.{Side}
-use Rattle.region.specs.Growth.{GapsSeen, Span, State, ownSpan, gapsOf, weightsMet, heaviestMet, weightTest, outside, withGap, passes, passesOn, isOpen, sideTried, tryOn, tryAt, try, growth, grown}
+use Rattle.region.specs.Growth.{GapsSeen, Span, State, ownSpan, gapsOf, weightsMet, heaviestMet, weightTest, outside, withGap, passes, passesOn, isOpen, sideTried, barred, grows, tryOn, tryAt, try, growth, grown}
 use Rattle.region.specs.Proposal.{proposalOf, regionOf}
 use Rattle.region.specs.Demand.{Around, Ended}
-use Rattle.region.specs.Columns.{grownOf, triedOf, testedOf}
+use Rattle.region.specs.Columns.{grownOf, growthOf, triedOf, testedOf, afterTry}
 use Rattle.region.specs.declared.growth.Grown.{Grown}
 use Rattle.region.specs.declared.growth.Turn.{Turn}
 use Rattle.region.specs.declared.growth.Turn.the-variants.{Try, End}
@@ -59,6 +59,15 @@ module _ (seen : GapsSeen) where
       ap (λ (h : Float). testedOf (not (seen .fixed (outside side s))) (grownOf seen s) (seen .weight (outside side s)) (seen .live (outside side s)) h (seen .k) (withGap side seen s .left) (withGap side seen s .right))
       (sym (heaviest-with-gap seen st side o a p q))
       ∙ tested-is side seen s e
+
+  -- ---- growth after a try, as the code holds it
+  pub after-try : (st : State) (side : Side) → afterTry side (triedOf (passesOn side seen (st .region)) (grownOf seen (withGap side seen (st .region)))) (growthOf seen st) ≡ growthOf seen (tryOn side seen st)
+  unfolding tryOn
+  after-try st side = by (passesOn side seen (st .region))
+    where
+      by : (t : Bool) → afterTry side (triedOf t (grownOf seen (withGap side seen (st .region)))) (growthOf seen st) ≡ growthOf seen (cond t (grows side seen st) (barred side st))
+      by true = refl
+      by false = refl
 
   -- ---- the start: no gap, and the own gap tried
   abbrev pub noGap : Grown

@@ -19,6 +19,7 @@ use Rattle.region.specs.Proposal.{endOf, splitCost, proposalWith}
 use Rattle.region.specs.declared.proposal.SplitProposal.{SplitProposal}
 use Rattle.region.specs.Columns.{spanOf, stateOf, openWith, Inside, Between, grownOf, triedOf, testedOf}
 use Rattle.region.specs.declared.growth.Grown.{Grown}
+use Rattle.region.specs.declared.growth.Growth.{Growth}
 use Rattle.region.specs.declared.growth.Tried.the-variants.{Grows, Fails}
 use Rattle.region.specs.declared.growth.Turn.{Turn}
 use Rattle.region.specs.declared.growth.Turn.the-variants.{Try, End}
@@ -32,14 +33,14 @@ pub below-not : (a b : ℕ) → ltb a b ≡ not (leb b a)
 below-not a b = ⊎-elim (λ l. lt-ltb a b l ∙ ap not (sym (lt-leb b a l))) (λ l. le-ltb a b l ∙ ap not (sym (le-leb b a l))) (split a b)
 
 -- ---- the side that is tried, by the outcomes of the code's tests
-module _ (n : ℕ) (freq : ℕ → Float) (live : ℕ → ℕ) (g : Grown) (left-barred right-barred l r : Bool) (left-is : l ≡ openWith left-barred (eqb (g .left) 0)) (right-is : r ≡ openWith right-barred (leb n (g .right))) where
+module _ (n : ℕ) (freq : ℕ → Float) (live : ℕ → ℕ) (growth : Growth) (l r : Bool) (left-is : l ≡ openWith (growth .«left_barred») (eqb (growth .region .left) 0)) (right-is : r ≡ openWith (growth .«right_barred») (leb n (growth .region .right))) where
   tried : Turn
-  tried = sideTried n freq live (stateOf g left-barred right-barred)
+  tried = sideTried n freq live (stateOf growth)
 
   picked : Bool → Bool → Bool → Turn
   picked l r p = cond l (cond r (cond p (Try Previous) (Try Next)) (Try Previous)) (cond r (Try Next) End)
 
-  picked-is : picked l r (prefersLeft freq live (spanOf g)) ≡ tried
+  picked-is : picked l r (prefersLeft freq live (spanOf (growth .region))) ≡ tried
   unfolding tried picked sideTried sideOpen
   picked-is = rw (left-is, right-is)
 
@@ -65,29 +66,29 @@ module _ (n : ℕ) (freq : ℕ → Float) (live : ℕ → ℕ) (g : Grown) (left
   picked-both true false p e f = cc
   picked-both true true p e f = refl
 
-  pub turn-none : not l ≡ true → r ≡ false → End ≡ sideTried n freq live (stateOf g left-barred right-barred)
+  pub turn-none : not l ≡ true → r ≡ false → End ≡ sideTried n freq live (stateOf growth)
   unfolding tried
-  turn-none e f = picked-none l r (prefersLeft freq live (spanOf g)) e f ∙ picked-is
+  turn-none e f = picked-none l r (prefersLeft freq live (spanOf (growth .region))) e f ∙ picked-is
 
-  pub turn-right : not l ≡ true → r ≡ true → Try Next ≡ sideTried n freq live (stateOf g left-barred right-barred)
+  pub turn-right : not l ≡ true → r ≡ true → Try Next ≡ sideTried n freq live (stateOf growth)
   unfolding tried
-  turn-right e f = picked-right l r (prefersLeft freq live (spanOf g)) e f ∙ picked-is
+  turn-right e f = picked-right l r (prefersLeft freq live (spanOf (growth .region))) e f ∙ picked-is
 
-  pub turn-left : not l ≡ false → not r ≡ true → Try Previous ≡ sideTried n freq live (stateOf g left-barred right-barred)
+  pub turn-left : not l ≡ false → not r ≡ true → Try Previous ≡ sideTried n freq live (stateOf growth)
   unfolding tried
-  turn-left e f = picked-left l r (prefersLeft freq live (spanOf g)) e f ∙ picked-is
+  turn-left e f = picked-left l r (prefersLeft freq live (spanOf (growth .region))) e f ∙ picked-is
 
-  pub turn-preferred : not l ≡ false → not r ≡ false → (p : Bool) → p ≡ prefersLeft freq live (spanOf g) → cond p (Try Previous) (Try Next) ≡ sideTried n freq live (stateOf g left-barred right-barred)
+  pub turn-preferred : not l ≡ false → not r ≡ false → (p : Bool) → p ≡ prefersLeft freq live (spanOf (growth .region)) → cond p (Try Previous) (Try Next) ≡ sideTried n freq live (stateOf growth)
   unfolding tried
-  turn-preferred e f p h = ap (λ (b : Bool). cond b (Try Previous) (Try Next)) h ∙ picked-both l r (prefersLeft freq live (spanOf g)) e f ∙ picked-is
+  turn-preferred e f p h = ap (λ (b : Bool). cond b (Try Previous) (Try Next)) h ∙ picked-both l r (prefersLeft freq live (spanOf (growth .region))) e f ∙ picked-is
 
   -- with both sides open a gap lies on each side
-  pub both-between : Inside n g → not l ≡ false → not r ≡ false → Between n g
+  pub both-between : Inside n (growth .region) → not l ≡ false → not r ≡ false → Between n (growth .region)
   both-between i e f =
       record {
-        left = above (g .left) (eqb-false (g .left) 0 (used left-barred (eqb (g .left) 0) (ap not (sym left-is) ∙ e)));
+        left = above (growth .region .left) (eqb-false (growth .region .left) 0 (used (growth .«left_barred») (eqb (growth .region .left) 0) (ap not (sym left-is) ∙ e)));
         order = le-of-lt (i .some);
-        right = leb-false n (g .right) (used right-barred (leb n (g .right)) (ap not (sym right-is) ∙ f));
+        right = leb-false n (growth .region .right) (used (growth .«right_barred») (leb n (growth .region .right)) (ap not (sym right-is) ∙ f));
       }
     where
       used : (b u : Bool) → not (openWith b u) ≡ false → u ≡ false

@@ -1,12 +1,14 @@
 -- For contracts of private functions: gaps in their lent columns, and a region as the code holds it
 use Prim.Native.Nat.{ℕ, _+_, _^_, _≤_, _<_}
-use mathlib.Core.Bool.{Bool, not, _&&_, cond}
+use mathlib.Core.Bool.{Bool, true, false, not, _&&_, cond}
 use mathlib.Core.List.{List}
 use lib.Ieee.{Float, nan, binary32, add}
 use lib.ListN.{getD}
 use Rattle.numbers.specs.Normal.{normalised, exceeds}
-use Rattle.region.specs.Growth.{GapsSeen, Span, State, heaviestMet}
+use Rattle.region.specs.Growth.{GapsSeen, Span, State, heaviestMet, onSide}
+use Rattle.links.specs.declared.lower.Side.{Side}
 use Rattle.region.specs.declared.growth.Grown.{Grown}
+use Rattle.region.specs.declared.growth.Growth.{Growth}
 use Rattle.region.specs.declared.growth.Tried.{Tried}
 use Rattle.region.specs.declared.growth.Tried.the-variants.{Grows, Fails}
 
@@ -38,8 +40,8 @@ abbrev pub spanOf : Grown → Span
 spanOf g = record { left = g .left; right = g .right; weight = g .weight; insts = g .insts }
 
 -- growth as the code holds it
-abbrev pub stateOf : Grown → Bool → Bool → State
-stateOf g left-barred right-barred = record { region = spanOf g; left-barred = left-barred; right-barred = right-barred }
+abbrev pub stateOf : Growth → State
+stateOf growth = record { region = spanOf (growth .region); left-barred = growth .«left_barred»; right-barred = growth .«right_barred» }
 
 -- a side is open
 abbrev pub openWith : Bool → Bool → Bool
@@ -48,6 +50,10 @@ openWith barred used-up = not barred && not used-up
 -- the code holds a region with the heaviest weight it meets
 abbrev pub grownOf : GapsSeen → Span → Grown
 grownOf seen s = record { left = s .left; right = s .right; weight = s .weight; insts = s .insts; heaviest = heaviestMet seen s }
+
+-- and with it growth
+abbrev pub growthOf : GapsSeen → State → Growth
+growthOf seen st = record { region = grownOf seen (st .region); «left_barred» = st .left-barred; «right_barred» = st .right-barred }
 
 -- a region of some of n gaps
 pub record Inside (n : ℕ) (g : Grown) : Type 0 where
@@ -74,3 +80,13 @@ testedOf free g weight insts heaviest k left right =
     let w = add binary32 (g .weight) weight in
     let n = g .insts + insts in
     triedOf (free && exceeds 2007 (normalised w n k) heaviest) (record { left = left; right = right; weight = w; insts = n; heaviest = heaviest })
+
+-- growth from a region, with no side barred
+abbrev pub startAt : Grown → Growth
+startAt g = record { region = g; «left_barred» = false; «right_barred» = false }
+
+-- growth after a try on a side
+abbrev pub afterTry : Side → Tried → Growth → Growth
+afterTry side (Grows g) growth = record { region = g; «left_barred» = growth .«left_barred»; «right_barred» = growth .«right_barred» }
+afterTry side Fails growth =
+    record { region = growth .region; «left_barred» = onSide side true (growth .«left_barred»); «right_barred» = onSide side (growth .«right_barred») true }

@@ -4,7 +4,7 @@ ghost use Prim.Native.Nat.{_≤_};
 ghost use lib.ListN.{length};
 ghost use lib.Dec.{leb, eqb};
 ghost use Rattle.region.specs.Growth.{prefersLeft, sideTried};
-ghost use Rattle.region.specs.Columns.{numbers, floats, spanOf, stateOf, openWith, Inside, Between, CountFits, testedOf};
+ghost use Rattle.region.specs.Columns.{numbers, floats, spanOf, stateOf, openWith, Inside, Between, CountFits, testedOf, startAt, afterTry};
 use links::lower::Side;
 
 // A region: the gaps from left to before right, their use weight and live instructions, and the heaviest weight met.
@@ -20,6 +20,13 @@ pub struct Grown {
 pub enum Tried {
     Grows(Grown),
     Fails,
+}
+
+// Growth so far: the region, and whether its sides are barred. A side that failed is barred for good.
+pub struct Growth {
+    pub region: Grown,
+    pub left_barred: bool,
+    pub right_barred: bool,
 }
 
 // The side that is tried next, or the end of growth.
@@ -69,21 +76,15 @@ fn can_grow_right(gaps: usize, g: Grown, barred: bool) -> bool
 }
 
 // Whether growth goes on, and on which side.
-pub fn grow_next(
-    freq: &[f32],
-    live: &[u32],
-    gaps: usize,
-    g: Grown,
-    left_barred: bool,
-    right_barred: bool,
-) -> Turn
-    requires { ⌜ Inside gaps g ⌝ }
+pub fn grow_next(freq: &[f32], live: &[u32], gaps: usize, growth: Growth) -> Turn
+    requires { ⌜ Inside gaps (growth .region) ⌝ }
     requires { ⌜ gaps ≤ length (now freq) ⌝ }
     requires { ⌜ gaps ≤ length (now live) ⌝ }
-    ensures { λ r. ⌜ r ≡ sideTried gaps (floats (now (freq .entry))) (numbers (now (live .entry))) (stateOf g «left_barred» «right_barred») ⌝ }
+    ensures { λ r. ⌜ r ≡ sideTried gaps (floats (now (freq .entry))) (numbers (now (live .entry))) (stateOf growth) ⌝ }
 {
-    let left = can_grow_left(g, left_barred);
-    let right = can_grow_right(gaps, g, right_barred);
+    let g = growth.region;
+    let left = can_grow_left(g, growth.left_barred);
+    let right = can_grow_right(gaps, g, growth.right_barred);
     if !left {
         if right {
             return Turn::Try(Side::Next);
@@ -132,4 +133,48 @@ pub fn tested(
         });
     }
     Tried::Fails
+}
+
+impl Growth {
+    // Growth from a region, with no side barred.
+    pub fn new(region: Grown) -> Self
+        ensures { λ r. ⌜ r ≡ startAt region ⌝ }
+    {
+        Growth {
+            region,
+            left_barred: false,
+            right_barred: false,
+        }
+    }
+
+    // Growth after a try on a side: the region that passed, or that side barred.
+    pub fn after(self, side: Side, tried: Tried) -> Self
+        ensures { λ r. ⌜ r ≡ afterTry side tried self ⌝ }
+    {
+        let left_barred = self.left_barred;
+        let right_barred = self.right_barred;
+        match tried {
+            Tried::Grows(region) => {
+                return Growth {
+                    region,
+                    left_barred,
+                    right_barred,
+                };
+            }
+            Tried::Fails => {}
+        }
+        let region = self.region;
+        match side {
+            Side::Previous => Growth {
+                region,
+                left_barred: true,
+                right_barred,
+            },
+            Side::Next => Growth {
+                region,
+                left_barred,
+                right_barred: true,
+            },
+        }
+    }
 }
