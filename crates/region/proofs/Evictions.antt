@@ -7,9 +7,9 @@ use native.Mathlib.Omega.{arith}
 use mathlib.Core.List.{List, [], _∷_, map}
 use lib.Dec.{T, lit<, lit≤}
 use lib.Pow.{pow-pos}
-use lib.Ieee.{Float, nan, binary32, mul, ofBits}
+use lib.Ieee.{Float, nan, binary32, mul, ofBits, toBits}
 use lib.ListN.{length, getD}
-use Rattle.numbers.specs.Weight.{Finite, Weight, finite, unitsOf, infiniteUnits, heaviest}
+use Rattle.numbers.specs.Weight.{Finite, Weight, finite, unitsOf, infiniteUnits, weightLimit, valueOf, heaviest}
 use Rattle.numbers.specs.Normal.{fraction, exceeds}
 use Rattle.numbers.specs.Chain.{Chain, ChainFrom, longest}
 use Rattle.numbers.proofs.Units.{units-lt, lt-units, finite-of-units}
@@ -17,12 +17,12 @@ use Rattle.numbers.proofs.Rounding.{rounded, round-weight, round-monotone, roun
 use Rattle.numbers.proofs.Operations.{product-round, product-weight, whole-number, whole-finite}
 use Rattle.numbers.proofs.Normalised.{exceeds-rises, exceeds-lighter}
 use Rattle.numbers.proofs.Heaviest.{Weights, Among, heaviest-weight, heaviest-above}
-use Rattle.numbers.proofs.Bits.{weight-back}
+use Rattle.numbers.proofs.Bits.{weight-back, bits-back, value-is}
 use Rattle.numbers.proofs.Chain.{chain-rises, chain-few, chain-bound}
 use Rattle.region.specs.Growth.{GapsSeen, ownSpan, passes, growth, weightsMet}
 use Rattle.region.specs.Proposal.{proposalWith, proposalOf}
 use Rattle.region.specs.Demand.{SoundGaps}
-use Rattle.region.specs.Evictions.{Promise, Kept, MeetsCarrier, EvictsAfter, Evicts, Each, member, EvictionsEnd, promiseOf, Given, IsFound, promised}
+use Rattle.region.specs.Evictions.{Promise, Kept, MeetsCarrier, EvictsAfter, Evicts, Each, member, EvictionsEnd, promiseOf, Given, IsProposed, IsFound, promised}
 use Rattle.region.specs.declared.proposal.SplitProposal.{SplitProposal}
 use Rattle.region.proofs.Meetings.{among-weight}
 use Rattle.region.proofs.Proposals.{growth-met, early-demand3, found-own-passes, found-is-grown}
@@ -168,16 +168,35 @@ early-kept seen sound t n =
       fraction = sound .fraction;
     }
 
-pub found-kept : (g : Given) → IsFound g → Kept (promised g)
-found-kept g f =
-    let seen = g .seen in
-    subst (λ (p : SplitProposal). Kept (promiseOf seen p)) (sym (found-is-grown seen (g .proposal) (f .found)))
-    (early-kept seen (f .sound) (found-own-passes seen (g .proposal) (f .found)) (seen .count + 1))
+pub proposed-kept : (g : Given) → IsProposed g → Kept (promised g)
+proposed-kept g f = subst (λ (p : SplitProposal). Kept (promiseOf (g .seen) p)) (sym (f .proposed)) (early-kept (g .seen) (f .sound) (f .own-passes) (f .tries))
 
-each-kept : (gs : List Given) → Each IsFound gs → Each Kept (map promised gs)
+-- what is found is proposed
+pub found-proposed : (g : Given) → IsFound g → IsProposed g
+found-proposed g f =
+    record {
+      sound = f .sound;
+      own-passes = found-own-passes (g .seen) (g .proposal) (f .found);
+      tries = g .seen .count + 1;
+      proposed = found-is-grown (g .seen) (g .proposal) (f .found);
+    }
+
+each-from : (P Q : Given → Type 0) → ((g : Given) → P g → Q g) → (gs : List Given) → Each P gs → Each Q gs
+each-from P Q f [] ps = tt
+each-from P Q f (g ∷ gs) ps = (f g (ps .0), each-from P Q f gs (ps .1))
+
+each-kept : (gs : List Given) → Each IsProposed gs → Each Kept (map promised gs)
 each-kept [] fs = tt
-each-kept (g ∷ gs) fs = (found-kept g (fs .0), each-kept gs (fs .1))
+each-kept (g ∷ gs) fs = (proposed-kept g (fs .0), each-kept gs (fs .1))
 
--- the ring and chain law, of every list of jobs' gaps and the proposals found for them
+-- the ring and chain law, of every list of jobs' gaps and proposals of their growth
+pub proposed-evictions-end : (gs : List Given) → Each IsProposed gs → Evicts (map promised gs) → EvictionsEnd (map promised gs)
+proposed-evictions-end gs fs e = evictions-end (map promised gs) (each-kept gs fs) e
+
+-- and so of every list of jobs' gaps and the proposals found for them
 pub found-evictions-end : (gs : List Given) → Each IsFound gs → Evicts (map promised gs) → EvictionsEnd (map promised gs)
-found-evictions-end gs fs e = evictions-end (map promised gs) (each-kept gs fs) e
+found-evictions-end gs fs = proposed-evictions-end gs (each-from IsFound IsProposed found-proposed gs fs)
+
+-- ---- the bits that a reservation carries are those of its weight
+pub carried-bits : (bits : ℕ) → bits ≤ weightLimit → toBits binary32 (valueOf weightLimit bits) ≡ bits
+carried-bits bits h = ap (toBits binary32) (value-is weightLimit bits h) ∙ bits-back bits h

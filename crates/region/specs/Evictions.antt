@@ -11,8 +11,8 @@ use Rattle.numbers.specs.Chain.{longest}
 use Rattle.numbers.proofs.Heaviest.{Weights, Among}
 use Rattle.region.specs.declared.proposal.SplitProposal.{SplitProposal}
 use Rattle.region.specs.declared.proposal.Region.the-variants.{Found}
-use Rattle.region.specs.Growth.{GapsSeen, weightsMet}
-use Rattle.region.specs.Proposal.{gapsCovered, regionOf}
+use Rattle.region.specs.Growth.{GapsSeen, ownSpan, weightsMet, passes, growth}
+use Rattle.region.specs.Proposal.{proposalOf, regionOf, gapsCovered}
 use Rattle.region.specs.Demand.{SoundGaps}
 
 -- what a proposal promises: its normalised weight, its interference weight, the weights that its region meets, and the numerator of its weight test
@@ -73,6 +73,13 @@ promiseOf seen p =
 pub record Given : Type 0 where
   pub seen : GapsSeen
   pub proposal : SplitProposal
+
+-- the proposal is growth's after some tries: one before growth is finished, or what is found
+pub record IsProposed (g : Given) : Type 0 where
+  pub sound : SoundGaps (g .seen)
+  pub own-passes : T (passes (g .seen) (g .seen .own) (ownSpan (g .seen)))
+  pub tries : ℕ
+  pub proposed : g .proposal ≡ proposalOf (g .seen) (growth (g .seen) tries .region)
 
 -- the proposal is what is found
 pub record IsFound (g : Given) : Type 0 where
