@@ -1,11 +1,11 @@
 -- What a loop over tries rests on: the side that is tried, a try by the code's test, the start and the answer
 use mathlib.Core.Path.{_≡_, refl, sym, ap, _∙_, subst}
-use Prim.Native.Nat.{ℕ, zero, suc, _+_, _^_, _<_}
-use native.Mathlib.Nat.{add-comm}
+use Prim.Native.Nat.{ℕ, zero, suc, _+_, _^_, _≤_, _<_, suc-le-suc}
+use native.Mathlib.Nat.{le-trans, add-comm}
 use native.Mathlib.Omega.{arith}
 use mathlib.Core.Bool.{Bool, true, false, not, cond}
 use mathlib.Core.List.{List, append-nil}
-use lib.Dec.{T}
+use lib.Dec.{T, lit<}
 use lib.Ieee.{Float, binary32, add}
 use Rattle.numbers.specs.Weight.{Weight, finite, unitsOf, zeroWeight, heavier, heaviest}
 use Rattle.numbers.proofs.Tests.{cond-true, cond-false}
@@ -16,14 +16,14 @@ use Rattle.numbers.proofs.Heaviest.{Weights}
 use Rattle.links.specs.declared.lower.Side.{Side}
 use Rattle.region.specs.Growth.{GapsSeen, Span, State, ownSpan, gapsOf, weightsMet, heaviestMet, weightTest, outside, withGap, passes, passesOn, isOpen, sideTried, barred, grows, tryOn, tryAt, try, growth, grown}
 use Rattle.region.specs.Proposal.{proposalOf, regionOf}
-use Rattle.region.specs.Demand.{Around, Ended}
-use Rattle.region.specs.Columns.{grownOf, growthOf, triedOf, testedOf, afterTry}
+use Rattle.region.specs.Demand.{Around, Ended, SoundGaps}
+use Rattle.region.specs.Columns.{grownOf, growthOf, Inside, CountFits, triedOf, testedOf, afterTry}
 use Rattle.region.specs.declared.growth.Grown.{Grown}
 use Rattle.region.specs.declared.growth.Turn.{Turn}
 use Rattle.region.specs.declared.growth.Turn.the-variants.{Try, End}
 use Rattle.region.specs.declared.proposal.Region.the-variants.{Found, Nothing}
-use Rattle.region.proofs.Tries.{not-is, is-true, turn-cases, ended-stays, growth-same}
-use Rattle.region.proofs.Spans.{between-one}
+use Rattle.region.proofs.Tries.{not-is, is-true, turn-cases, growth-around, ended-stays, growth-same}
+use Rattle.region.proofs.Spans.{between-one, tried-insts-few}
 use Rattle.region.proofs.Meetings.{heaviest-with-gap}
 use Rattle.region.proofs.Steps.{tested-is}
 
@@ -59,6 +59,17 @@ module _ (seen : GapsSeen) where
       ap (λ (h : Float). testedOf (not (seen .fixed (outside side s))) (grownOf seen s) (seen .weight (outside side s)) (seen .live (outside side s)) h (seen .k) (withGap side seen s .left) (withGap side seen s .right))
       (sym (heaviest-with-gap seen st side o a p q))
       ∙ tested-is side seen s e
+
+  -- what the code's steps rely on
+  pub growth-inside : seen .own < seen .count → (n : ℕ) → Inside (seen .count) (grownOf seen (growth seen n .region))
+  growth-inside h n = let a = growth-around seen h n in record { some = le-trans (suc-le-suc (a .left)) (a .own); inside = a .right }
+
+  pub growth-count-fits : SoundGaps seen → (n : ℕ) (side : Side) → T (isOpen side seen (growth seen n)) → CountFits (grownOf seen (growth seen n .region)) (seen .live (outside side (growth seen n .region)))
+  growth-count-fits sound n side o =
+      below (growth seen n .region .insts + seen .live (outside side (growth seen n .region))) (seen .k) (2 ^ 24) (2 ^ 32) (tried-insts-few seen sound n side o) (lit< tt)
+    where
+      below : (a k m b : ℕ) → a + k ≤ m → m < b → a < b
+      below a k m b h l = omega arith
 
   -- ---- growth after a try, as the code holds it
   pub after-try : (st : State) (side : Side) → afterTry side (triedOf (passesOn side seen (st .region)) (grownOf seen (withGap side seen (st .region)))) (growthOf seen st) ≡ growthOf seen (tryOn side seen st)

@@ -10,7 +10,7 @@ use Rattle.links.specs.declared.lower.Side.{Side}
 use Rattle.links.specs.declared.lower.Side.the-variants.{Previous, Next}
 use Rattle.region.specs.Growth.{GapsSeen, Span, State, ownSpan, numbersFrom, between, outside, withGap, isOpen, try, growth}
 use Rattle.region.specs.Demand.{Around, sumOver, addedTo, gapsBeside, gapsGrown, SoundGaps}
-use Rattle.region.proofs.Tries.{open-left, open-right, try-cases, growth-around}
+use Rattle.region.proofs.Tries.{open-left, open-right, try-cases, around-grows, growth-around}
 
 -- ---- numbers from one to before another
 -- one more in front
@@ -278,3 +278,16 @@ module _ (seen : GapsSeen) where
       where
         few : (i b t k m : ℕ) → i ≡ 1 + b → b ≤ t → t + k < m → i + k ≤ m
         few i b t k m e l h = omega arith
+
+    -- and so are those of the region with one more gap
+    pub tried-insts-few : (side : Side) → T (isOpen side seen (growth seen n)) → growth seen n .region .insts + seen .live (outside side (growth seen n .region)) + seen .k ≤ 2 ^ 24
+    tried-insts-few side o =
+        let st = growth seen n in
+        let a = growth-around seen (sound .inside) n in
+        let g = outside side (st .region) in
+        few (st .region .insts) (sumOver (seen .live) (gapsBeside (ownSpan seen) (st .region))) (seen .live g) (sumOver (seen .live) (g ∷ [])) (sumOver (seen .live) (gapsBeside (ownSpan seen) (withGap side seen (st .region))))
+        (sumOver (seen .live) (between 0 (seen .count))) (seen .k) (2 ^ 24) counted (sum-one (seen .live) g) (adds-one st side o a .beside (seen .live))
+        (beside-at-most (seen .live) (withGap side seen (st .region)) (around-grows seen st side o a)) (sound .few)
+      where
+        few : (i b l q c t k m : ℕ) → i ≡ 1 + b → q ≡ l → c ≡ b + q → c ≤ t → t + k < m → i + l + k ≤ m
+        few i b l q c t k m e f g h j = omega arith
