@@ -1,0 +1,2 @@
+-- Growth over gap segments and reservations
+pub mod Tries
