@@ -11,9 +11,12 @@ use Rattle.links.specs.declared.lower.Side.the-variants.{Previous, Next}
 use Rattle.walkers.specs.declared.meeting.Register.{Register}
 use Rattle.walkers.specs.Meeting.{Reserved, fixedMetAny, weightsMetAll}
 use Rattle.walkers.specs.Gaps.{GapColumns, segmentsOfGap, RightAt, LeftAt}
-use Rattle.region.specs.Growth.{GapsSeen, growth}
+use Rattle.region.specs.Growth.{GapsSeen}
+use Rattle.region.specs.Proposal.{proposalWith, regionOf}
 use Rattle.region.specs.Demand.{SoundGaps}
-use Rattle.region.specs.Columns.{seenIn, growthOf}
+use Rattle.region.specs.Columns.{seenIn, spanOf, Inside, Going}
+use Rattle.region.specs.declared.growth.Grown.{Grown}
+use Rattle.region.specs.declared.proposal.Region.the-variants.{Found}
 use Rattle.split.specs.declared.find.Stand.{Stand}
 
 -- what growth sees: the gaps in columns, and of each gap what its gap segments meet among the register's reservations
@@ -42,10 +45,14 @@ Moved Next p t g s r = RightAt p (t .rows) (t .fixedUses) g (s .growth .region .
 
 -- growth after some tries, with a walker at each end that is not barred
 pub record Reached (seen : GapsSeen) (p : Register) (t : Reserved) (g : GapColumns) (s : Stand) : Type 0 where
-  pub tries : ℕ
-  pub is : s .growth ≡ growthOf seen (growth seen tries)
+  pub going : Going seen (s .growth)
   pub left : s .growth .«left_barred» ≡ false → Standing Previous p t g s
   pub right : s .growth .«right_barred» ≡ false → Standing Next p t g s
+
+-- the region with which growth ends: its proposal is the answer
+pub record Answers (seen : GapsSeen) (r : Grown) : Type 0 where
+  pub inside : Inside (seen .count) r
+  pub is : Found (proposalWith (seen .count) (seen .first) (seen .freq) (spanOf r) (r .heaviest)) ≡ regionOf seen
 
 -- where a row's gap segment begins, and past the last one the last point
 unfoldable pub pointAt : List ℕ → ℕ → ℕ

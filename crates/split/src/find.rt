@@ -20,12 +20,9 @@ ghost use Prim.Native.Nat.{_≤_};
 ghost use lib.ListN.{length};
 ghost use Rattle.walkers.specs.Meeting.{reservedOf};
 ghost use Rattle.walkers.specs.Gaps.{gapColumns};
-ghost use Rattle.region.specs.Demand.{SoundGaps};
-ghost use Rattle.region.specs.Growth.{grown};
 ghost use Rattle.region.specs.Proposal.{regionOf};
-ghost use Rattle.region.specs.Columns.{grownOf};
 ghost use Rattle.split.specs.Tries.{Walkable, Triable, triedOn};
-ghost use Rattle.split.specs.Find.{seenBy, InTable, Standing, Moved, Reached, pointAt};
+ghost use Rattle.split.specs.Find.{seenBy, InTable, Standing, Moved, Reached, Answers, pointAt};
 
 // Growth so far, and the walkers on both sides of its region.
 pub struct Stand {
@@ -152,7 +149,7 @@ fn grow(
 ) -> Grown
     requires { ⌜ Walkable register (reservedOf (now unit) (now start) (now end) (now kind) (now index) (now fixed) (now «f_unit») (now «f_point») (now «f_value») (now «spill_weight»)) (gapColumns (now «out_from») (now «out_to») (now «out_value») (now «out_gap») (length (now «out_from»))) × InTable (seenBy register (reservedOf (now unit) (now start) (now end) (now kind) (now index) (now fixed) (now «f_unit») (now «f_point») (now «f_value») (now «spill_weight»)) (gapColumns (now «out_from») (now «out_to») (now «out_value») (now «out_gap») (length (now «out_from»))) (now from) (now weight) (now live) (now «min_freq») initial k) (now weight) (now live) (now «min_freq») ⌝ }
     requires { ⌜ Reached (seenBy register (reservedOf (now unit) (now start) (now end) (now kind) (now index) (now fixed) (now «f_unit») (now «f_point») (now «f_value») (now «spill_weight»)) (gapColumns (now «out_from») (now «out_to») (now «out_value») (now «out_gap») (length (now «out_from»))) (now from) (now weight) (now live) (now «min_freq») initial k) register (reservedOf (now unit) (now start) (now end) (now kind) (now index) (now fixed) (now «f_unit») (now «f_point») (now «f_value») (now «spill_weight»)) (gapColumns (now «out_from») (now «out_to») (now «out_value») (now «out_gap») (length (now «out_from»))) stand ⌝ }
-    ensures { λ r. ⌜ r ≡ grownOf (seenBy register (reservedOf (now (unit .entry)) (now (start .entry)) (now (end .entry)) (now (kind .entry)) (now (index .entry)) (now (fixed .entry)) (now («f_unit» .entry)) (now («f_point» .entry)) (now («f_value» .entry)) (now («spill_weight» .entry))) (gapColumns (now («out_from» .entry)) (now («out_to» .entry)) (now («out_value» .entry)) (now («out_gap» .entry)) (length (now («out_from» .entry)))) (now (from .entry)) (now (weight .entry)) (now (live .entry)) (now («min_freq» .entry)) initial k) (grown (seenBy register (reservedOf (now (unit .entry)) (now (start .entry)) (now (end .entry)) (now (kind .entry)) (now (index .entry)) (now (fixed .entry)) (now («f_unit» .entry)) (now («f_point» .entry)) (now («f_value» .entry)) (now («spill_weight» .entry))) (gapColumns (now («out_from» .entry)) (now («out_to» .entry)) (now («out_value» .entry)) (now («out_gap» .entry)) (length (now («out_from» .entry)))) (now (from .entry)) (now (weight .entry)) (now (live .entry)) (now («min_freq» .entry)) initial k)) ⌝ }
+    ensures { λ r. ⌜ Answers (seenBy register (reservedOf (now (unit .entry)) (now (start .entry)) (now (end .entry)) (now (kind .entry)) (now (index .entry)) (now (fixed .entry)) (now («f_unit» .entry)) (now («f_point» .entry)) (now («f_value» .entry)) (now («spill_weight» .entry))) (gapColumns (now («out_from» .entry)) (now («out_to» .entry)) (now («out_value» .entry)) (now («out_gap» .entry)) (length (now («out_from» .entry)))) (now (from .entry)) (now (weight .entry)) (now (live .entry)) (now («min_freq» .entry)) initial k) r ⌝ }
 {
     let gaps = from.len();
     let mut stand = stand;
