@@ -1,35 +1,47 @@
 -- Growth and its walkers from try to try: a try can be made, the walkers stand right after it, and in the end the region's proposal is the answer
-use mathlib.Core.Path.{_≡_, refl, sym, ap, _∙_, subst}
-use Prim.Native.Nat.{ℕ, zero, suc, _+_, _-_, _≤_, _<_}
+use mathlib.Core.Path.{_≡_, refl, sym, ap, ap₂, _∙_, subst}
+use mathlib.Core.Logic.{⊎-elim}
+use Prim.Native.Nat.{ℕ, zero, suc, _+_, _-_, _≤_, _<_, max}
 use native.Mathlib.Nat.{le-trans, le-of-eq}
 use native.Mathlib.Omega.{arith}
 use mathlib.Core.Bool.{Bool, true, false, not, cond, true≢false}
 use mathlib.Core.List.{List}
-use lib.Dec.{T}
+use lib.Dec.{T, leb}
 use lib.Ieee.{Float}
-use lib.ListN.{length}
-use Rattle.numbers.specs.Weight.{Weight, finite, zeroWeight}
-use Rattle.numbers.proofs.Heaviest.{heaviest-weight}
+use lib.ListN.{length, getD}
+use borrow.Author.Tests.{lt-ltb, le-ltb}
+use Rattle.numbers.specs.Weight.{Weight, finite, unitsOf, zeroWeight, heavier}
+use Rattle.numbers.proofs.Tests.{cond-true, cond-false}
+use Rattle.numbers.proofs.Units.{units-inj, zero-finite, zero-units}
+use Rattle.numbers.proofs.Heaviest.{heavier-weight, heavier-units, heaviest-weight}
+use Rattle.links.specs.First.{FirstIn}
+use Rattle.links.proofs.Firsts.{split}
 use Rattle.links.specs.declared.lower.Side.{Side}
 use Rattle.links.specs.declared.lower.Side.the-variants.{Previous, Next}
 use Rattle.walkers.specs.declared.meeting.Register.{Register}
 use Rattle.walkers.specs.declared.right.RightWalker.{RightWalker}
 use Rattle.walkers.specs.declared.left.LeftWalker.{LeftWalker}
-use Rattle.walkers.specs.Meeting.{Reserved}
-use Rattle.walkers.specs.Gaps.{GapColumns, RightAt, LeftAt}
-use Rattle.region.specs.Growth.{GapsSeen, Span, State, gapsOf, weightsMet, growth, withGap, outside, passesOn, isOpen, sideTried, onSide}
+use Rattle.walkers.specs.Meeting.{Reserved, fixedMetAny, weightsMetAll}
+use Rattle.walkers.specs.Standing.{StandsRight, StandsLeft}
+use Rattle.walkers.specs.Gaps.{GapColumns, segmentsOfGap, heaviestInGap, OrderedGaps, GapsFrom, RightAt, LeftAt}
+use Rattle.walkers.proofs.GapWalk.{right-begins, left-begins, gaps-found}
+use Rattle.walkers.proofs.GapSegments.{all-weights}
+use Rattle.region.specs.Growth.{GapsSeen, Span, State, gapsOf, weightsMet, ownSpan, growth, withGap, outside, passes, passesOn, isOpen, sideTried, onSide}
 use Rattle.region.specs.Demand.{SoundGaps}
-use Rattle.region.specs.Columns.{spanOf, stateOf, grownOf, triedOf, testedOf, afterTry, Going}
+use Rattle.region.specs.Columns.{floats, spanOf, stateOf, grownOf, triedOf, testedOf, startAt, afterTry, Going}
+use Rattle.region.specs.Proposal.{regionOf}
+use Rattle.region.specs.declared.proposal.Region.the-variants.{Nothing}
 use Rattle.region.specs.declared.growth.Grown.{Grown}
 use Rattle.region.specs.declared.growth.Growth.{Growth}
 use Rattle.region.specs.declared.growth.Tried.{Tried}
+use Rattle.region.specs.declared.growth.Tried.the-variants.{Grows, Fails}
 use Rattle.region.specs.declared.growth.Turn.{Turn}
 use Rattle.region.specs.declared.growth.Turn.the-variants.{Try, End}
 use Rattle.region.proofs.Tries.{not-is, open-free, open-left, leftToTry}
 use Rattle.region.proofs.Proposals.{growth-met}
-use Rattle.region.proofs.Loop.{TurnOf, Tries, going-open, going-inside, going-after, going-less, going-found, going-tested, going-count-fits, going-gap}
+use Rattle.region.proofs.Loop.{TurnOf, Tries, tested-own, answer-nothing, going-start, going-open, going-inside, going-after, going-less, going-found, going-tested, going-count-fits, going-gap}
 use Rattle.split.specs.Tries.{gapOn, Triable, triedOn}
-use Rattle.split.specs.Find.{seenBy, InTable, Standing, Moved, Reached, Answers}
+use Rattle.split.specs.Find.{seenBy, InTable, Standing, Moved, Reached, Answers, pointAt}
 use Rattle.split.specs.declared.find.Stand.{Stand}
 
 -- the outcome of a try, by its side
@@ -134,3 +146,73 @@ module _ (p : Register) (t : Reserved) (g : GapColumns) (froms : List ℕ) (weig
     -- with no side open the region's proposal is the answer
     pub end-answers : TurnOf seen (s .growth) End → Answers seen (s .growth .region)
     end-answers turn = record { inside = going-inside seen (table .sound .inside) (s .growth) (r .going); is = going-found seen (table .sound .inside) (s .growth) (r .going) turn }
+
+-- ---- the start
+-- a walker to the right stands before the own gap's rows, and one to the left behind the rows before it
+module _ (p : Register) (t : Reserved) (g : GapColumns) (ordered : OrderedGaps g) (long : g .used ≡ length (g .from)) (own next : ℕ) (found : FirstIn (λ (k : ℕ). leb own (getD (g .gap) k 0)) 0 (g .used) next) where
+  abbrev point : ℕ
+  point = pointAt (g .from) next
+
+  point-row : next < g .used → point ≡ getD (g .from) next 0
+  unfolding pointAt
+  point-row h = cond-true (getD (g .from) next 0) 4294967295 (lt-ltb next (length (g .from)) (le-trans h (le-of-eq long)))
+
+  point-past : g .used ≤ next → point ≡ 4294967295
+  unfolding pointAt
+  point-past h = cond-false (getD (g .from) next 0) 4294967295 (le-ltb next (length (g .from)) (le-trans (le-of-eq (sym long)) h))
+
+  pub right-starts : (w : RightWalker) → w .next ≡ next → StandsRight p (t .rows) (t .fixedUses) point w → RightAt p (t .rows) (t .fixedUses) g own w
+  right-starts w e s =
+      right-begins g own point w (subst (GapsFrom g own) (sym e) (gaps-found g ordered own next found))
+      (λ h. le-of-eq (point-row (subst (λ (n : ℕ). n < g .used) e h) ∙ ap (λ (n : ℕ). getD (g .from) n 0) (sym e))) s
+
+  pub left-starts : ((k : ℕ) → getD (g .to) k 0 ≤ 4294967295) → (w : LeftWalker) → w .next ≡ next → StandsLeft p (t .rows) (t .fixedUses) point w → LeftAt p (t .rows) (t .fixedUses) g own w
+  left-starts small w e s =
+      left-begins g own point w (subst (GapsFrom g own) (sym e) (gaps-found g ordered own next found))
+      (λ h. le-trans (le-of-eq (ap (λ (n : ℕ). getD (g .to) (n - 1) 0) e))
+      (⊎-elim (λ l. le-trans (ordered .apart (next - 1) next (let q = e in omega (arith, h, q)) l) (le-of-eq (sym (point-row l)))) (λ l. le-trans (small (next - 1)) (le-of-eq (sym (point-past l)))) (split next (g .used))))
+      s
+
+-- the heavier of zero and a weight is that weight
+heavier-zero : {w : Float} → Weight w → heavier zeroWeight w ≡ w
+heavier-zero {w} h = units-inj (heavier-weight (finite zero-finite) h) h (heavier-units (finite zero-finite) h ∙ none (unitsOf zeroWeight) (unitsOf w) zero-units)
+  where
+    none : (a b : ℕ) → a ≡ 0 → max a b ≡ b
+    none a b e = omega (arith, e)
+
+-- what a region that passes or fails is
+tried-fails : (b : Bool) (r : Grown) → triedOf b r ≡ Fails → T (not b)
+tried-fails true r e = absurd (true≢false (ap (λ (x : Tried). elim x [ Grows _ ↦ true | Fails ↦ false ]) e))
+tried-fails false r e = tt
+
+tried-grows : (b : Bool) (r s : Grown) → triedOf b r ≡ Grows s → T b × (s ≡ r)
+tried-grows true r s e = (tt, sym (ap (λ (x : Tried). elim x [ Grows y ↦ y | Fails ↦ r ]) e))
+tried-grows false r s e = absurd (true≢false (ap (λ (x : Tried). elim x [ Grows _ ↦ false | Fails ↦ true ]) e))
+
+module _ (p : Register) (t : Reserved) (g : GapColumns) (froms : List ℕ) (weights : List Float) (lives : List ℕ) (freqs : List Float) (own k : ℕ) (table : InTable (seenBy p t g froms weights lives freqs own k) weights lives freqs)
+    {free : Bool} {top : Float} {tried : Tried} (fixed-is : free ≡ fixedMetAny p t (segmentsOfGap g own)) (top-is : top ≡ heaviestInGap p t g own zeroWeight)
+    (tested : tried ≡ testedOf (not free) (record { left = own; right = own; weight = zeroWeight; insts = 0; heaviest = zeroWeight }) (floats weights own) 1 top k own (own + 1)) where
+  abbrev view : GapsSeen
+  view = seenBy p t g froms weights lives freqs own k
+
+  own-tried : tried ≡ triedOf (passes view own (ownSpan view)) (grownOf view (ownSpan view))
+  own-tried =
+      tested
+      ∙ ap₂ (λ (f : Bool) (h : Float). testedOf (not f) (record { left = own; right = own; weight = zeroWeight; insts = 0; heaviest = zeroWeight }) (floats weights own) 1 h k own (own + 1)) fixed-is
+      (top-is ∙ heavier-zero (heaviest-weight (weightsMetAll p t (segmentsOfGap g own)) (all-weights p t (segmentsOfGap g own))))
+      ∙ tested-own view refl (table .sound .weights own (table .sound .inside))
+
+  -- where the own gap fails there is nothing
+  pub own-fails : tried ≡ Fails → Nothing ≡ regionOf view
+  own-fails e = answer-nothing view (tried-fails (passes view own (ownSpan view)) (grownOf view (ownSpan view)) (sym own-tried ∙ e))
+
+  -- where it passes growth starts from it
+  pub own-reached : (region : Grown) → tried ≡ Grows region → (s : Stand) → s .growth ≡ startAt region → LeftAt p (t .rows) (t .fixedUses) g own (s .left) → RightAt p (t .rows) (t .fixedUses) g (own + 1) (s .right) → Reached view p t g s
+  own-reached region e s is l r =
+      let q = tried-grows (passes view own (ownSpan view)) (grownOf view (ownSpan view)) region (sym own-tried ∙ e) in
+      let f = is ∙ ap startAt (q .1) in
+      record {
+        going = subst (Going view) (sym f) (going-start view (q .0));
+        left = λ _. subst (λ (x : Growth). LeftAt p (t .rows) (t .fixedUses) g (x .region .left) (s .left)) (sym f) l;
+        right = λ _. subst (λ (x : Growth). RightAt p (t .rows) (t .fixedUses) g (x .region .right) (s .right)) (sym f) r;
+      }
