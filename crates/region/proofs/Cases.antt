@@ -78,7 +78,7 @@ threeGaps : ℕ → ℕ → List Gap
 unfolding gap
 threeGaps left-live right-live = gap 2 0 left-live 1065353216 false [] ∷ gap 5 1090519040 1 1065353216 false [] ∷ gap 6 0 right-live 1065353216 false (1069547520 ∷ []) ∷ []
 
--- the left one has the higher frequency and meets 0.75, for which 1.0 over 2 instructions is too light; the right one has the weight 9.0
+-- the left gap has the higher frequency and meets 0.75, for which 1.0 over 2 instructions is too light; the right one weighs 9.0
 barredGaps : List Gap
 unfolding gap
 barredGaps = gap 2 0 1 1073741824 false (1061158912 ∷ []) ∷ gap 5 1065353216 1 1065353216 false [] ∷ gap 6 1091567616 1 1065353216 false [] ∷ []

@@ -136,7 +136,7 @@ module _ (seen : GapsSeen) where
   unfolding regionOf
   answer-nothing t = sym (cond-false (Found (proposalOf seen (grown seen))) Nothing (not-is (passes seen (seen .own) (ownSpan seen)) t))
 
-  -- ---- a loop over tries: it starts after the own gap has passed, goes on by a try on the side whose turn it is, and ends with the answer
+  -- ---- a loop over tries: it starts after the own gap has passed, tries the side whose turn it is, and ends with the answer
   pub going-start : T (passes seen (seen .own) (ownSpan seen)) → Going seen (startAt (grownOf seen (ownSpan seen)))
   unfolding growth
   going-start t = record { own-passes = t; tries = 0; is-after = refl }

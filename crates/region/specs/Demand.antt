@@ -57,13 +57,16 @@ unfoldable pub gapsGrown : GapsSeen → ℕ → List ℕ
 gapsGrown seen zero = []
 gapsGrown seen (suc n) = gapsGrown seen n ++ gapsBeside (growth seen n .region) (growth seen (suc n) .region)
 
--- what a checked job's gaps satisfy: the own gap is one of them, each begins after the one before, weights and frequencies are weights, the live instructions with k are few enough to be floats, the numerator is at most 2048
+-- what a checked job's gaps satisfy
 pub record SoundGaps (seen : GapsSeen) : Type 0 where
+  -- the own gap is one of them, and each begins after the one before
   pub inside : seen .own < seen .count
   pub rising : (g : ℕ) → g + 1 < seen .count → seen .first g < seen .first (g + 1)
+  -- weights, frequencies and the weights met are weights
   pub weights : (g : ℕ) → g < seen .count → Weight (seen .weight g)
   pub freqs : (g : ℕ) → g < seen .count → Weight (seen .freq g)
   pub met : (g : ℕ) → g < seen .count → Weights (seen .met g)
+  -- all live instructions with k and one more are few enough to be floats, and the numerator is at most 2048
   pub few : sumOver (seen .live) (between 0 (seen .count)) + seen .k < 2 ^ 24
   pub fraction : seen .numerator ≤ 2048
 

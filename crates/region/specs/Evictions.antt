@@ -15,7 +15,7 @@ use Rattle.region.specs.Growth.{GapsSeen, ownSpan, weightsMet, passes, g
 use Rattle.region.specs.Proposal.{proposalOf, regionOf, gapsCovered}
 use Rattle.region.specs.Demand.{SoundGaps}
 
--- what a proposal promises: its normalised weight, its interference weight, the weights that its region meets, and the numerator of its weight test
+-- what a proposal promises: its normalised weight and interference weight, the weights that its region meets, its test's numerator
 pub record Promise : Type 0 where
   pub weight : Float
   pub interference : Float
@@ -53,9 +53,11 @@ Each P (x ∷ xs) = P x × Each P xs
 abbrev pub member : List Promise → ℕ → Promise
 member ps i = getD ps i (record { weight = zeroWeight; interference = zeroWeight; met = []; numerator = 0 })
 
--- the ring and chain law: no member meets a reservation that carries its own or a later one's weight, and with numerators up to 2007 there are at most 10,000 members, 9,495 if the first weight is above zero
+-- the ring and chain law
 pub record EvictionsEnd (ps : List Promise) : Type 0 where
+  -- no member meets a reservation that carries its own or a later one's weight
   pub no-ring : (i j : ℕ) → i ≤ j → j < length ps → MeetsCarrier (member ps i) (member ps j .weight) → ⊥
+  -- with numerators up to 2007 there are at most 10,000 members, 9,495 if the first weight is above zero
   pub few : Each (λ (p : Promise). p .numerator ≤ 2007) ps → length ps ≤ 10000
   pub few-above-zero : Each (λ (p : Promise). p .numerator ≤ 2007) ps → 0 < unitsOf (member ps 0 .weight) → length ps ≤ longest
 

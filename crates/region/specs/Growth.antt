@@ -11,16 +11,20 @@ use Rattle.links.specs.declared.lower.Side.the-variants.{Previous, Next}
 use Rattle.region.specs.declared.growth.Turn.{Turn}
 use Rattle.region.specs.declared.growth.Turn.the-variants as Turn·is
 
--- what growth sees: how many gaps, which is the best use's own, of each gap its first instruction, weight, live instructions and frequency, whether it meets a fixed one, the weights it meets; the adjustment k; the weight test's numerator over 2048
+-- what growth sees of a job's gaps
 pub record GapsSeen : Type 0 where
+  -- how many there are, and which is the best use's own
   pub count : ℕ
   pub own : ℕ
+  -- of each gap its first instruction, weight, live instructions and frequency
   pub first : ℕ → ℕ
   pub weight : ℕ → Float
   pub live : ℕ → ℕ
   pub freq : ℕ → Float
+  -- whether it meets something that counts as fixed, and the weights that it meets
   pub fixed : ℕ → Bool
   pub met : ℕ → List Float
+  -- the adjustment k, and the weight test's numerator over 2048
   pub k : ℕ
   pub numerator : ℕ
 
