@@ -1,89 +1,101 @@
-use borrow.Author.Needs.{needs}
+-- `find_split_region` tries the own gap, and grows from it
+use mathlib.Core.Path.{_≡_, refl, sym, ap, _∙_, subst}
+use Prim.Native.Nat.{ℕ, _≤_, _<_}
+use native.Mathlib.Nat.{le-refl, le-of-eq}
+use native.Mathlib.Omega.{arith}
+use borrow.Author.Needs.{needs, scaled-fits}
+use lib.Ieee.{ofBits}
+use lib.ListN.{length, getD}
+use Rattle.numbers.specs.Weight.{finite}
+use Rattle.numbers.proofs.Units.{zero-finite}
+use Rattle.walkers.specs.Meeting.{reservedOf}
+use Rattle.walkers.specs.Gaps.{gapColumns}
+use Rattle.walkers.specs.Standing.{StandsRight, StandsLeft}
+use Rattle.walkers.proofs.GapWalk.{gaps-searchable}
+use Rattle.jobs.specs.Rows.{reservationsOf, fixedUsesOf}
+use Rattle.region.specs.declared.proposal.SplitProposal.{SplitProposal}
+use Rattle.region.specs.declared.proposal.Region.the-variants.{Found}
+use Rattle.split.specs.Find.{seenBy}
+use Rattle.split.proofs.Growing.{right-starts, left-starts, own-fails, own-reached}
 use Rattle.split.proofs.find.find_split_region.Statement.{statement}
 use Rattle.split.proofs.find.find_split_region.Tie as tie
-use Rattle.split.proofs.find.find_split_region.Reads as reads
-use Rattle.split.proofs.find.find_split_region.Lts as lts
-use Rattle.links.proofs.search.first_at_least.Reads as first-at-least-reads
-use Rattle.region.proofs.growth.Growth.new.Reads as growth-Growth-new-reads
-use Rattle.region.proofs.growth.tested.Reads as tested-reads
-use Rattle.region.proofs.proposal.proposal_of.Reads as proposal-of-reads
-use Rattle.split.proofs.find.grow.Reads as grow-reads
-use Rattle.split.proofs.find.point_at.Reads as point-at-reads
-use Rattle.walkers.proofs.left.LeftWalker.new.Reads as left-LeftWalker-new-reads
-use Rattle.walkers.proofs.right.RightWalker.new.Reads as right-RightWalker-new-reads
-use Rattle.walkers.proofs.right.RightWalker.take_gap.Reads as take-gap-reads
 
--- src/find.rt:226:59
+initial-small : (c : tie.After-shared-slice-known18) → c .before .before .before .before .before .before .before .before .before .before .before .before .before .before .before .before .before .before .args .initial < 4294967295
+initial-small c = let h = c .before .before .before .before .before .before .before .before .before .before .before .before .before .before .before .before .before .before .pre .1 .sound .inside in let f = c .before .before .before .before .before .before .before .before .before .before .before .before .before .before .before .before .before .before .pre .1 .few in omega (arith, h, f)
+
 cast-first-at-least : tie.Need-cast-first-at-least
-cast-first-at-least c = search needs
+cast-first-at-least c = let h = initial-small c in omega (arith, h)
 
--- src/find.rt:226:9
 first-at-least-requires : tie.Need-first-at-least-requires
-first-at-least-requires c κs = ?
+first-at-least-requires c κs = let a = c .before .before .before .before .before .before .before .before .before .before .before .before .before .before .before .before .before .before .args in let p = c .before .before .before .before .before .before .before .before .before .before .before .before .before .before .before .before .before .before .pre in gaps-searchable (gapColumns (a .out-from .now) (a .out-to .now) (a .out-value .now) (a .out-gap .now) (length (a .out-from .now))) (p .0 .ordered)
 
--- src/find.rt:227:9
 point-at-requires : tie.Need-point-at-requires
 point-at-requires c κs = search needs
 
--- src/find.rt:228:9
 new-requires : tie.Need-new-requires
-new-requires c κs = search needs
+new-requires c κs = let p = c .before .before .before .before .before .before .before .before .before .before .before .before .before .before .before .before .before .before .before .before .pre in (p .0 .ready .rows, (p .0 .ready .uses, p .0 .known))
 
--- src/find.rt:242:9
 new-requires-2 : tie.Need-new-requires-2
-new-requires-2 c κs = ?
+new-requires-2 c κs = let p = c .before .before .before .before .before .before .before .before .before .before .before .before .before .before .before .before .before .before .before .before .before .pre in (p .0 .ready .rows, (p .0 .ready .uses, p .0 .known))
 
--- src/find.rt:273:9
 cast-take-gap : tie.Need-cast-take-gap
-cast-take-gap c = ?
+cast-take-gap c = let h = c .before .before .before .before .before .before .before .before .before .before .before .before .before .before .before .before .before .before .before .before .before .before .pre .1 .sound .inside in let f = c .before .before .before .before .before .before .before .before .before .before .before .before .before .before .before .before .before .before .before .before .before .before .pre .1 .few in omega (arith, h, f)
 
--- src/find.rt:256:9
 take-gap-requires : tie.Need-take-gap-requires
-take-gap-requires c κs = ?
+unfolding ofBits
+take-gap-requires c κs =
+    let a = c .before .before .before .before .before .before .before .before .before .before .before .before .before .before .before .before .before .before .before .before .before .before .args in
+    let p = c .before .before .before .before .before .before .before .before .before .before .before .before .before .before .before .before .before .before .before .before .before .before .pre in
+    let stands = subst (λ (x : ℕ). StandsRight (a .register) (reservationsOf (a .unit .now) (a .start .now) (a .end .now) (a .kind .now) (a .index .now) (a .fixed .now)) (fixedUsesOf (a .f-unit .now) (a .f-point .now) (a .f-value .now)) x (c .new2 .result)) (c .before .before .point-at .ensures) (c .new2 .ensures .1) in
+    (p .0 .ready, ((p .0 .known, finite zero-finite), (p .0 .ordered, right-starts (a .register) (reservedOf (a .unit .now) (a .start .now) (a .end .now) (a .kind .now) (a .index .now) (a .fixed .now) (a .f-unit .now) (a .f-point .now) (a .f-value .now) (a .spill-weight .now)) (gapColumns (a .out-from .now) (a .out-to .now) (a .out-value .now) (a .out-gap .now) (length (a .out-from .now))) (p .0 .ordered) refl (a .initial) (c .before .before .before .first-at-least .result) (c .before .before .before .first-at-least .ensures) (c .new2 .result) (c .new2 .ensures .0) stands)))
 
--- src/find.rt:286:9
+weight-inside : (c : tie.After-struct-known) → c .before .before .before .before .before .before .before .before .before .before .before .before .before .before .before .before .before .before .before .before .before .before .before .before .args .initial < length (c .before .before .before .before .before .before .before .before .before .before .before .before .before .before .before .before .before .before .before .before .before .before .before .before .args .weight .now)
+weight-inside c = let h = c .before .before .before .before .before .before .before .before .before .before .before .before .before .before .before .before .before .before .before .before .before .before .before .before .pre .1 .sound .inside in let e = c .before .before .before .before .before .before .before .before .before .before .before .before .before .before .before .before .before .before .before .before .before .before .before .before .pre .1 .weights-long in omega (arith, h, e)
+
 mul-tested : tie.Need-mul-tested
-mul-tested c = ?
+mul-tested c = scaled-fits _ _ 4 (weight-inside c) (c .before .before .before .before .before .before .before .before .before .before .before .before .before .before .before .before .before .before .before .before .before .before .before .before .good .1 .0 .1)
 
--- src/find.rt:286:9
 shared-slice-read-tested : tie.Need-shared-slice-read-tested
-shared-slice-read-tested c = ?
+shared-slice-read-tested c = weight-inside (c .before)
 
--- src/find.rt:291:9
 add-tested : tie.Need-add-tested
-add-tested c = ?
+add-tested c = let h = c .before .before .before .before .before .before .before .before .before .before .before .before .before .before .before .before .before .before .before .before .before .before .before .before .before .pre .1 .sound .inside in let f = c .before .before .before .before .before .before .before .before .before .before .before .before .before .before .before .before .before .before .before .before .before .before .before .before .before .pre .1 .few in omega (arith, h, f)
 
--- src/find.rt:283:9
 tested-requires : tie.Need-tested-requires
 tested-requires c κs = search needs
 
--- src/find.rt:293:22
 enum-known-tried : tie.Need-enum-known-tried
 enum-known-tried c = search needs
 
--- src/find.rt:294:9
 enum-told : tie.Need-enum-told
 enum-told c = search needs
 
--- src/find.rt:294:9
 returns : tie.Need-returns
-returns c = ?
+unfolding ofBits
+returns c =
+    let a = c .before .before .before .before .before .before .before .before .before .before .before .before .before .before .before .before .before .before .before .before .before .before .before .before .before .before .before .before .args in
+    let p = c .before .before .before .before .before .before .before .before .before .before .before .before .before .before .before .before .before .before .before .before .before .before .before .before .before .before .before .before .pre in
+    own-fails (a .register) (reservedOf (a .unit .now) (a .start .now) (a .end .now) (a .kind .now) (a .index .now) (a .fixed .now) (a .f-unit .now) (a .f-point .now) (a .f-value .now) (a .spill-weight .now)) (gapColumns (a .out-from .now) (a .out-to .now) (a .out-value .now) (a .out-gap .now) (length (a .out-from .now))) (a .from .now) (a .weight .now) (a .live .now) (a .min-freq .now) (a .initial) (a .k) (p .1) (c .before .before .before .before .before .take-gap .ensures .0) (c .before .before .before .before .before .take-gap .ensures .1) (c .before .before .tested .ensures) (c .enum-told .given .1)
 
--- src/find.rt:297:9
 new-requires-3 : tie.Need-new-requires-3
 new-requires-3 c κs = search needs
 
--- src/find.rt:298:9
 grow-requires : tie.Need-grow-requires
-grow-requires c κs = ?
+unfolding ofBits
+grow-requires c κs =
+    let a = c .before .before .before .before .before .before .before .before .before .before .before .before .before .before .before .before .before .before .before .before .before .before .before .before .before .before .before .before .before .before .before .args in
+    let p = c .before .before .before .before .before .before .before .before .before .before .before .before .before .before .before .before .before .before .before .before .before .before .before .before .before .before .before .before .before .before .before .pre in
+    let stands = subst (λ (x : ℕ). StandsLeft (a .register) (reservationsOf (a .unit .now) (a .start .now) (a .end .now) (a .kind .now) (a .index .now) (a .fixed .now)) (fixedUsesOf (a .f-unit .now) (a .f-point .now) (a .f-value .now)) x (c .before .before .before .before .before .before .before .before .before .before .new .result)) (c .before .before .before .before .before .before .before .before .before .before .before .point-at .ensures) (c .before .before .before .before .before .before .before .before .before .before .new .ensures .1) in (
+      (p .0, p .1),
+      own-reached (a .register) (reservedOf (a .unit .now) (a .start .now) (a .end .now) (a .kind .now) (a .index .now) (a .fixed .now) (a .f-unit .now) (a .f-point .now) (a .f-value .now) (a .spill-weight .now)) (gapColumns (a .out-from .now) (a .out-to .now) (a .out-value .now) (a .out-gap .now) (length (a .out-from .now))) (a .from .now) (a .weight .now) (a .live .now) (a .min-freq .now) (a .initial) (a .k) (p .1) (c .before .before .before .before .before .before .before .before .take-gap .ensures .0) (c .before .before .before .before .before .before .before .before .take-gap .ensures .1) (c .before .before .before .before .before .tested .ensures) (c .before .before .before .tried .given .0 .0) (c .before .before .before .tried .given .1) (record { growth = c .new3 .result; left = c .before .before .before .before .before .before .before .before .before .before .new .result; right = c .before .before .before .before .before .before .before .before .take-gap .result .walker }) (c .new3 .ensures)
+          (left-starts (a .register) (reservedOf (a .unit .now) (a .start .now) (a .end .now) (a .kind .now) (a .index .now) (a .fixed .now) (a .f-unit .now) (a .f-point .now) (a .f-value .now) (a .spill-weight .now)) (gapColumns (a .out-from .now) (a .out-to .now) (a .out-value .now) (a .out-gap .now) (length (a .out-from .now))) (p .0 .ordered) refl (a .initial) (c .before .before .before .before .before .before .before .before .before .before .before .before .first-at-least .result) (c .before .before .before .before .before .before .before .before .before .before .before .before .first-at-least .ensures) (λ k. let b = c .before .before .before .before .before .before .before .before .before .before .before .before .before .before .before .before .before .before .before .before .before .before .before .before .before .shared-slice-known6 .given k in omega (arith, b)) (c .before .before .before .before .before .before .before .before .before .before .new .result) (c .before .before .before .before .before .before .before .before .before .before .new .ensures .0) stands) (c .before .before .before .before .before .before .before .before .take-gap .ensures .2),
+    )
 
--- src/find.rt:326:19
 proposal-of-requires : tie.Need-proposal-of-requires
-proposal-of-requires c κs = ?
+proposal-of-requires c κs = let a = c .before .before .before .before .before .before .before .before .before .before .before .before .before .before .before .before .before .before .before .before .before .before .before .before .before .before .before .before .before .before .before .before .args in let p = c .before .before .before .before .before .before .before .before .before .before .before .before .before .before .before .before .before .before .before .before .before .before .before .before .before .before .before .before .before .before .before .before .pre in (c .grow .ensures .inside, (le-refl (length (a .from .now)), le-of-eq (sym (p .1 .freqs-long))))
 
--- src/find.rt:199:1
 returns-2 : tie.Need-returns-2
-returns-2 c = ?
+returns-2 c = ap (λ (x : SplitProposal). Found x) (c .proposal-of .ensures) ∙ c .before .grow .ensures .is
 
 pub find-split-region-spec : {M : Type 1} → statement M
 find-split-region-spec =
