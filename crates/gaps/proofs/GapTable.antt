@@ -6,7 +6,10 @@ use native.Mathlib.Nat.{le-refl}
 use native.Mathlib.Omega.{arith}
 use lib.Ieee.{lt}
 use lib.ListN.{length, length-append}
-use Rattle.links.specs.Blocks.{BlockRow, blockOf, startOf, SoundBlocks}
+use Rattle.links.specs.Blocks.{BlockRow, blockOf, startOf, endLimit, SoundBlocks}
+use Rattle.links.proofs.Rows.{row-good}
+use Rattle.links.proofs.Columns.{last-end}
+use Rattle.walks.specs.Live.{Gaps}
 use Rattle.links.specs.declared.lower.Side.{Side}
 use Rattle.links.specs.declared.lower.Side.the-variants.{Previous, Next}
 use Rattle.walks.specs.Uses.{frequencyAt}
@@ -14,7 +17,7 @@ use Rattle.walks.specs.GapSegments.{joined}
 use Rattle.walks.specs.declared.uses.SplitUse.{SplitUse}
 use Rattle.gaps.specs.Gaps.{Gap, gapsBetween, ownGap, useOf, gapsOn, gapsOf}
 use Rattle.gaps.proofs.Homes.{home-of, blocks-rise}
-use Rattle.gaps.proofs.Runs.{Run, run-append, run-joined}
+use Rattle.gaps.proofs.Runs.{Run, run-append, run-joined, fromsOf, tosOf, run-gaps}
 use Rattle.gaps.proofs.Chains.{Each, each-append, Least, between-run, between-least, between-few, own-least}
 
 pub each-joined : (P : Gap → Type 0) (lists : ℕ → List Gap) (i n : ℕ) → ((k : ℕ) → i ≤ k → k < i + n → Each P (lists k)) → Each P (joined lists i n)
@@ -104,3 +107,15 @@ module _ (blocks : List BlockRow) (uses : List SplitUse) (r : Rising blocks uses
   pub gaps-some : 0 < length (gapsOf blocks uses best)
   unfolding gapsOf
   gaps-some = let l = length-append (gapsOn Previous blocks uses 0 best) (ownGap blocks (useOf uses best) ∷ gapsOn Next blocks uses best right) in omega (arith, l)
+
+  -- so, in columns, none is empty, each begins where the one before ends, and the last ends inside the blocks
+  gaps-limited : useOf uses (length uses - 1) .inst .0 + 1 ≤ endLimit
+  gaps-limited =
+      let a = r .inside (length uses - 1) (omega (arith, h)) in
+      let s = r .sound .some in
+      let c = row-good blocks (r .sound) (length blocks - 1) (omega (arith, s)) .limited in
+      let d = last-end blocks s in
+      omega (arith, a, c, d)
+
+  pub gaps-tile : Gaps (fromsOf (gapsOf blocks uses best)) (tosOf (gapsOf blocks uses best))
+  gaps-tile = run-gaps (useOf uses 0 .inst .0) (useOf uses (length uses - 1) .inst .0 + 1) (gapsOf blocks uses best) gaps-limited gaps-run

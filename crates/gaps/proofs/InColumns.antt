@@ -28,6 +28,7 @@ use Rattle.walks.specs.declared.uses.SplitUse.{SplitUse}
 use Rattle.gaps.specs.Gaps.{Gap, onSide, near, far, nearWeight, farWeights, farEnd, cutGaps, frequencyOf, cuts, gapsBetween, ownGap, useOf, gapsOn, usesIn, Cuttable}
 use Rattle.gaps.proofs.Cuts.{and-parts}
 use Rattle.gaps.proofs.Sides.{space-inside}
+use Rattle.gaps.proofs.GapTable.{Rising}
 use Rattle.gaps.specs.Cutting.{blockIn, spaceOf, Leads, followed, cutsIn, freqIn, spaceGaps, sideGaps, ownIn, Alike, Ordered, InOrder}
 
 cond-same : {A : Type 0} (t : Bool) (a b d : A) → (t ≡ true → a ≡ b) → cond t a d ≡ cond t b d
@@ -118,6 +119,23 @@ joined-same {A} lists others i (suc n) h =
 module _ (freqs firsts ends prevs nexts : List ℕ) (uses : UseColumns) (best : ℕ) (c : Cuttable freqs firsts ends prevs nexts uses best) where
   use-is : (k : ℕ) → k < length (uses .insts) → useOf (usesIn uses) k ≡ useIn uses k
   use-is k h = table-at (useIn uses) (length (uses .insts)) k (noWeights 0) h
+
+  -- the table rises
+  pub cut-rising : Rising (blocksOf freqs firsts ends) (usesIn uses)
+  cut-rising =
+      let n = table-length (useIn uses) (length (uses .insts)) in
+      record {
+        sound = c .blocks .sound;
+        rises = λ k h.
+            let r = c .rises k (omega (arith, h, n)) in
+            let a = ap (λ (u : SplitUse). u .inst .0) (use-is k (omega (arith, h, n))) in
+            let b = ap (λ (u : SplitUse). u .inst .0) (use-is (k + 1) (omega (arith, h, n))) in
+            omega (arith, r, a, b);
+        inside = λ k h.
+            let r = c .inside k (omega (arith, h, n)) in
+            let a = ap (λ (u : SplitUse). u .inst .0) (use-is k (omega (arith, h, n))) in
+            omega (arith, r, a);
+      }
 
   before-end : (k : ℕ) → k < length (uses .insts) → getD (uses .insts) k 0 < getD ends (length freqs - 1) 0
   before-end k h = lt-of-lt-of-le (c .inside k h) (le-of-eq (last-of-sound freqs firsts ends (c .blocks)))

@@ -9,12 +9,10 @@ use lib.ListN.{length, getD, length-map}
 use Rattle.numbers.specs.Weight.{zeroWeight}
 use Rattle.numbers.specs.Point.{instOf, roundUp}
 use Rattle.links.specs.Table.{table}
-use Rattle.links.specs.Blocks.{BlockRow, blocksOf, startOf, endLimit, SoundBlocks, SoundColumns}
+use Rattle.links.specs.Blocks.{BlockRow, blocksOf, startOf, SoundBlocks, SoundColumns}
 use Rattle.links.specs.Links.{linkColumn}
 use Rattle.links.specs.declared.lower.Side.the-variants.{Previous, Next}
 use Rattle.links.proofs.Tables.{table-of, table-same}
-use Rattle.links.proofs.Rows.{row-good}
-use Rattle.links.proofs.Columns.{last-end}
 use Rattle.jobs.specs.Rows.{noSegment}
 use Rattle.jobs.specs.Lines.{rowBefore}
 use Rattle.walks.specs.Uses.{Source, noWeights, firstInst, lastInst, useTableOf}
@@ -26,8 +24,8 @@ use Rattle.walks.proofs.UseTable.{instsOf, use-table-some, use-table-first, use
 use Rattle.walks.proofs.CheckedJob.{first-covers, last-covers, last-in-blocks}
 use Rattle.walks.proofs.LiveTotal.{live-total}
 use Rattle.gaps.specs.Gaps.{Gap, useOf, gapsOf, usesIn, Cuttable}
-use Rattle.gaps.proofs.Runs.{fromsOf, tosOf, run-gaps, run-first, run-last}
-use Rattle.gaps.proofs.GapTable.{Rising, gaps-run, gaps-few, gaps-some}
+use Rattle.gaps.proofs.Runs.{fromsOf, tosOf, run-first, run-last}
+use Rattle.gaps.proofs.GapTable.{Rising, gaps-run, gaps-few, gaps-some, gaps-tile}
 
 -- ---- the columns of a use table
 -- its rows in columns
@@ -86,18 +84,9 @@ module _ (job : Source) (checked : CheckedUses job) (sound : SoundBlocks (job .b
     pub job-gaps-few : length (gapsOf (job .blocks) (useTableOf job) best) ≤ length (job .uses) + length (job .blocks) + 2
     job-gaps-few = let a = gaps-few (job .blocks) uses job-rising best h in let b = use-table-few job in omega (arith, a, b)
 
-    last-limited : useOf uses (length uses - 1) .inst .0 + 1 ≤ endLimit
-    last-limited =
-        let a = use-table-inside job checked (length uses - 1) (let s = use-table-some job checked in omega (arith, s)) in
-        let b = inst-of uses (length uses - 1) in
-        let s = sound .some in
-        let c = row-good (job .blocks) sound (length (job .blocks) - 1) (omega (arith, s)) .limited in
-        let d = last-end (job .blocks) s in
-        omega (arith, a, b, c, d)
-
     -- they leave no hole and do not overlap
     pub job-gaps-tile : Gaps (fromsOf (gapsOf (job .blocks) (useTableOf job) best)) (tosOf (gapsOf (job .blocks) (useTableOf job) best))
-    job-gaps-tile = run-gaps (useOf uses 0 .inst .0) (useOf uses (length uses - 1) .inst .0 + 1) gaps last-limited (gaps-run (job .blocks) uses job-rising best h)
+    job-gaps-tile = gaps-tile (job .blocks) uses job-rising best h
 
     -- from the first instruction to the last
     pub job-gaps-first : getD (fromsOf (gapsOf (job .blocks) (useTableOf job) best)) 0 0 ≡ firstInst (job .segments)

@@ -1,0 +1,134 @@
+-- What a loop over tries rests on: the side that is tried, a try by the code's test, the start and the answer
+use mathlib.Core.Path.{_≡_, refl, sym, ap, _∙_, subst}
+use Prim.Native.Nat.{ℕ, zero, suc, _+_, _^_, _≤_, _<_, suc-le-suc}
+use native.Mathlib.Nat.{le-trans, add-comm}
+use native.Mathlib.Omega.{arith}
+use mathlib.Core.Bool.{Bool, true, false, not, cond}
+use mathlib.Core.List.{List, append-nil}
+use lib.Dec.{T, lit<}
+use lib.Ieee.{Float, binary32, add}
+use Rattle.numbers.specs.Weight.{Weight, finite, unitsOf, zeroWeight, heavier, heaviest}
+use Rattle.numbers.proofs.Tests.{cond-true, cond-false}
+use Rattle.numbers.proofs.Units.{units-inj, zero-finite, zero-units}
+use Rattle.numbers.proofs.Rounding.{rounded, round-fixed}
+use Rattle.numbers.proofs.Operations.{sum-weight, sum-units}
+use Rattle.numbers.proofs.Heaviest.{Weights}
+use Rattle.links.specs.declared.lower.Side.{Side}
+use Rattle.region.specs.Growth.{GapsSeen, Span, State, ownSpan, gapsOf, weightsMet, heaviestMet, weightTest, outside, withGap, passes, passesOn, isOpen, sideTried, barred, grows, tryOn, tryAt, try, growth, grown}
+use Rattle.region.specs.Proposal.{proposalOf, regionOf}
+use Rattle.region.specs.Demand.{Around, Ended, SoundGaps}
+use Rattle.region.specs.Columns.{grownOf, growthOf, Inside, CountFits, triedOf, testedOf, afterTry}
+use Rattle.region.specs.declared.growth.Grown.{Grown}
+use Rattle.region.specs.declared.growth.Turn.{Turn}
+use Rattle.region.specs.declared.growth.Turn.the-variants.{Try, End}
+use Rattle.region.specs.declared.proposal.Region.the-variants.{Found, Nothing}
+use Rattle.region.proofs.Tries.{not-is, is-true, turn-cases, growth-around, ended-stays, growth-same}
+use Rattle.region.proofs.Spans.{between-one, tried-insts-few}
+use Rattle.region.proofs.Meetings.{heaviest-with-gap}
+use Rattle.region.proofs.Steps.{tested-is}
+
+module _ (seen : GapsSeen) where
+  -- ---- the side that is tried
+  -- it is open, and a try is a try on it
+  pub turn-open : (st : State) (side : Side) → sideTried (seen .count) (seen .freq) (seen .live) st ≡ Try side → T (isOpen side seen st)
+  turn-open st side = turn-cases seen (λ (t : Turn). t ≡ Try side → T (isOpen side seen st)) st (λ other o e. same other o e) (λ _ e. absurd (never e))
+    where
+      same : (other : Side) → T (isOpen other seen st) → Try other ≡ Try side → T (isOpen side seen st)
+      same other o e = let p : other ≡ side = cc in subst (λ (s : Side). T (isOpen s seen st)) p o
+
+      never : End ≡ Try side → ⊥
+      never e = let z : _≡_ {A = ℕ} 0 1 = cc in omega arith
+
+  pub turn-ended : (st : State) → sideTried (seen .count) (seen .freq) (seen .live) st ≡ End → Ended seen st
+  turn-ended st = turn-cases seen (λ (t : Turn). t ≡ End → Ended seen st) st (λ other o e. absurd (never other e)) (λ h _. h)
+    where
+      never : (side : Side) → Try side ≡ End → ⊥
+      never side e = let z : _≡_ {A = ℕ} 0 1 = cc in omega arith
+
+  pub turn-tries : (st : State) (side : Side) → sideTried (seen .count) (seen .freq) (seen .live) st ≡ Try side → try seen st ≡ tryOn side seen st
+  unfolding try
+  turn-tries st side e = ap (λ (t : Turn). tryAt t seen st) e
+
+  -- ---- the region with one more gap, by what the code knows of the gap
+  pub tested-step : seen .numerator ≡ 2007 → (st : State) (side : Side) → T (isOpen side seen st) → Around seen (st .region)
+      → Weights (weightsMet (seen .met) (gapsOf (st .region))) → Weights (seen .met (outside side (st .region)))
+      → testedOf (not (seen .fixed (outside side (st .region)))) (grownOf seen (st .region)) (seen .weight (outside side (st .region))) (seen .live (outside side (st .region))) (heavier (heaviestMet seen (st .region)) (heaviest (seen .met (outside side (st .region))))) (seen .k) (withGap side seen (st .region) .left) (withGap side seen (st .region) .right)
+      ≡ triedOf (passesOn side seen (st .region)) (grownOf seen (withGap side seen (st .region)))
+  tested-step e st side o a p q =
+      let s = st .region in
+      ap (λ (h : Float). testedOf (not (seen .fixed (outside side s))) (grownOf seen s) (seen .weight (outside side s)) (seen .live (outside side s)) h (seen .k) (withGap side seen s .left) (withGap side seen s .right))
+      (sym (heaviest-with-gap seen st side o a p q))
+      ∙ tested-is side seen s e
+
+  -- what the code's steps rely on
+  pub growth-inside : seen .own < seen .count → (n : ℕ) → Inside (seen .count) (grownOf seen (growth seen n .region))
+  growth-inside h n = let a = growth-around seen h n in record { some = le-trans (suc-le-suc (a .left)) (a .own); inside = a .right }
+
+  pub growth-count-fits : SoundGaps seen → (n : ℕ) (side : Side) → T (isOpen side seen (growth seen n)) → CountFits (grownOf seen (growth seen n .region)) (seen .live (outside side (growth seen n .region)))
+  growth-count-fits sound n side o =
+      below (growth seen n .region .insts + seen .live (outside side (growth seen n .region))) (seen .k) (2 ^ 24) (2 ^ 32) (tried-insts-few seen sound n side o) (lit< tt)
+    where
+      below : (a k m b : ℕ) → a + k ≤ m → m < b → a < b
+      below a k m b h l = omega arith
+
+  -- ---- growth after a try, as the code holds it
+  pub after-try : (st : State) (side : Side) → afterTry side (triedOf (passesOn side seen (st .region)) (grownOf seen (withGap side seen (st .region)))) (growthOf seen st) ≡ growthOf seen (tryOn side seen st)
+  unfolding tryOn
+  after-try st side = by (passesOn side seen (st .region))
+    where
+      by : (t : Bool) → afterTry side (triedOf t (grownOf seen (withGap side seen (st .region)))) (growthOf seen st) ≡ growthOf seen (cond t (grows side seen st) (barred side st))
+      by true = refl
+      by false = refl
+
+  -- ---- the start: no gap, and the own gap tried
+  abbrev pub noGap : Grown
+  noGap = record { left = seen .own; right = seen .own; weight = zeroWeight; insts = 0; heaviest = zeroWeight }
+
+  -- zero added to a weight is that weight
+  zero-added : {w : Float} → Weight w → add binary32 zeroWeight w ≡ w
+  zero-added {w} p =
+      units-inj (sum-weight (finite zero-finite) p) p (sum-units (finite zero-finite) p ∙ ap (λ (n : ℕ). rounded n (2 ^ 149)) (ap (λ (z : ℕ). z + unitsOf w) zero-units ∙ none (unitsOf w)) ∙ round-fixed p)
+    where
+      none : (a : ℕ) → 0 + a ≡ a
+      none a = omega arith
+
+  -- the own gap alone meets what that gap meets
+  pub heaviest-own : heaviestMet seen (ownSpan seen) ≡ heaviest (seen .met (seen .own))
+  unfolding weightsMet
+  heaviest-own = ap (λ (gs : List ℕ). heaviest (weightsMet (seen .met) gs)) (between-one (seen .own)) ∙ ap heaviest (append-nil (seen .met (seen .own)))
+
+  pub tested-own : seen .numerator ≡ 2007 → Weight (seen .weight (seen .own))
+      → testedOf (not (seen .fixed (seen .own))) noGap (seen .weight (seen .own)) 1 (heaviest (seen .met (seen .own))) (seen .k) (seen .own) (seen .own + 1)
+      ≡ triedOf (passes seen (seen .own) (ownSpan seen)) (grownOf seen (ownSpan seen))
+  unfolding testedOf passes weightTest
+  tested-own e p = rw (zero-added p, ← heaviest-own, e)
+
+  -- ---- the answer
+  -- where growth has ended, it is the region with which growth ends
+  ended-on : (n m : ℕ) → Ended seen (growth seen n) → growth seen (n + m) ≡ growth seen n
+  unfolding growth
+  ended-on n zero e = ap (growth seen) (none n)
+    where
+      none : (a : ℕ) → a + 0 ≡ a
+      none a = omega arith
+  ended-on n (suc m) e =
+      let h = ended-on n m e in
+      ap (growth seen) (next n m) ∙ ended-stays seen (growth seen (n + m)) (subst (Ended seen) (sym h) e) ∙ h
+    where
+      next : (a b : ℕ) → a + suc b ≡ suc (a + b)
+      next a b = omega arith
+
+  pub ended-is-grown : seen .own < seen .count → (n : ℕ) → Ended seen (growth seen n) → growth seen n .region ≡ grown seen
+  unfolding grown
+  ended-is-grown h n e =
+      ap (λ (st : State). st .region)
+      (sym (ended-on n (seen .count + 1) e) ∙ ap (growth seen) (add-comm n (seen .count + 1)) ∙ growth-same seen h n)
+
+  pub answer-found : seen .own < seen .count → T (passes seen (seen .own) (ownSpan seen)) → (n : ℕ) → Ended seen (growth seen n) → Found (proposalOf seen (growth seen n .region)) ≡ regionOf seen
+  unfolding regionOf
+  answer-found h t n e =
+      ap (λ (s : Span). Found (proposalOf seen s)) (ended-is-grown h n e) ∙ sym (cond-true (Found (proposalOf seen (grown seen))) Nothing (is-true (passes seen (seen .own) (ownSpan seen)) t))
+
+  pub answer-nothing : T (not (passes seen (seen .own) (ownSpan seen))) → Nothing ≡ regionOf seen
+  unfolding regionOf
+  answer-nothing t = sym (cond-false (Found (proposalOf seen (grown seen))) Nothing (not-is (passes seen (seen .own) (ownSpan seen)) t))

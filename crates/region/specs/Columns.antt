@@ -1,0 +1,92 @@
+-- For contracts of private functions: gaps in their lent columns, and a region as the code holds it
+use Prim.Native.Nat.{ℕ, _+_, _^_, _≤_, _<_}
+use mathlib.Core.Bool.{Bool, true, false, not, _&&_, cond}
+use mathlib.Core.List.{List}
+use lib.Ieee.{Float, nan, binary32, add}
+use lib.ListN.{getD}
+use Rattle.numbers.specs.Normal.{normalised, exceeds}
+use Rattle.region.specs.Growth.{GapsSeen, Span, State, heaviestMet, onSide}
+use Rattle.links.specs.declared.lower.Side.{Side}
+use Rattle.region.specs.declared.growth.Grown.{Grown}
+use Rattle.region.specs.declared.growth.Growth.{Growth}
+use Rattle.region.specs.declared.growth.Tried.{Tried}
+use Rattle.region.specs.declared.growth.Tried.the-variants.{Grows, Fails}
+
+-- a column by row number
+abbrev pub numbers : List ℕ → ℕ → ℕ
+numbers xs g = getD xs g 0
+
+abbrev pub floats : List Float → ℕ → Float
+floats xs g = getD xs g nan
+
+-- what growth sees of gaps in columns and of what they meet; the numerator is 2007
+abbrev pub seenIn : List ℕ → List Float → List ℕ → List Float → ℕ → ℕ → (ℕ → Bool) → (ℕ → List Float) → ℕ → GapsSeen
+seenIn froms weights lives freqs count own fixed met k =
+    record {
+      count = count;
+      own = own;
+      first = numbers froms;
+      weight = floats weights;
+      live = numbers lives;
+      freq = floats freqs;
+      fixed = fixed;
+      met = met;
+      k = k;
+      numerator = 2007;
+    }
+
+-- the region that the code holds, without the heaviest weight
+abbrev pub spanOf : Grown → Span
+spanOf g = record { left = g .left; right = g .right; weight = g .weight; insts = g .insts }
+
+-- growth as the code holds it
+abbrev pub stateOf : Growth → State
+stateOf growth = record { region = spanOf (growth .region); left-barred = growth .«left_barred»; right-barred = growth .«right_barred» }
+
+-- a side is open
+abbrev pub openWith : Bool → Bool → Bool
+openWith barred used-up = not barred && not used-up
+
+-- the code holds a region with the heaviest weight it meets
+abbrev pub grownOf : GapsSeen → Span → Grown
+grownOf seen s = record { left = s .left; right = s .right; weight = s .weight; insts = s .insts; heaviest = heaviestMet seen s }
+
+-- and with it growth
+abbrev pub growthOf : GapsSeen → State → Growth
+growthOf seen st = record { region = grownOf seen (st .region); «left_barred» = st .left-barred; «right_barred» = st .right-barred }
+
+-- a region of some of n gaps
+pub record Inside (n : ℕ) (g : Grown) : Type 0 where
+  pub some : g .left < g .right
+  pub inside : g .right ≤ n
+
+-- a gap lies on each side of it
+pub record Between (n : ℕ) (g : Grown) : Type 0 where
+  pub left : 0 < g .left
+  pub order : g .left ≤ g .right
+  pub right : g .right < n
+
+-- the live instructions of a region and of one more gap are a 32-bit number together
+abbrev pub CountFits : Grown → ℕ → Type 0
+CountFits g insts = g .insts + insts < 2 ^ 32
+
+-- a region if it passes
+abbrev pub triedOf : Bool → Grown → Tried
+triedOf passed g = cond passed (Grows g) Fails
+
+-- the region with one more gap, from left to before right: it passes if the gap meets no fixed one and the weight test holds
+unfoldable pub testedOf : Bool → Grown → Float → ℕ → Float → ℕ → ℕ → ℕ → Tried
+testedOf free g weight insts heaviest k left right =
+    let w = add binary32 (g .weight) weight in
+    let n = g .insts + insts in
+    triedOf (free && exceeds 2007 (normalised w n k) heaviest) (record { left = left; right = right; weight = w; insts = n; heaviest = heaviest })
+
+-- growth from a region, with no side barred
+abbrev pub startAt : Grown → Growth
+startAt g = record { region = g; «left_barred» = false; «right_barred» = false }
+
+-- growth after a try on a side
+abbrev pub afterTry : Side → Tried → Growth → Growth
+afterTry side (Grows g) growth = record { region = g; «left_barred» = growth .«left_barred»; «right_barred» = growth .«right_barred» }
+afterTry side Fails growth =
+    record { region = growth .region; «left_barred» = onSide side true (growth .«left_barred»); «right_barred» = onSide side (growth .«right_barred») true }

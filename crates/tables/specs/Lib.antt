@@ -1,0 +1,3 @@
+-- The work tables of a job
+pub mod UseTables
+pub mod GapTables

@@ -1,0 +1,119 @@
+// The gaps of a use table, their live instructions and their gap segments.
+use gaps::gaps::collect_gaps;
+use walks::gap_segments::build_gap_segments;
+use walks::live::count_live_insts;
+ghost use mathlib.Core.Path.{_≡_};
+ghost use Prim.Native.Nat.{_≤_};
+ghost use lib.ListN.{length};
+ghost use Rattle.links.specs.Blocks.{blocksOf};
+ghost use Rattle.walks.specs.UseColumns.{columns as useColumns};
+ghost use Rattle.links.specs.Table.{filled};
+ghost use Rattle.walks.specs.Live.{Gaps, Uncounted, liveColumn};
+ghost use Rattle.walks.specs.GapSegments.{Valued, gapSegments, columns as segmentColumns, Room, Filled};
+ghost use Rattle.gaps.specs.Gaps.{gapsOf, initialGap, usesIn, Cuttable};
+ghost use Rattle.tables.specs.GapTables.{lentTables, GapRoom, GapsFilled};
+
+// How many gaps there are, which is the best use's own, and how many gap segments there are.
+pub struct GapTables {
+    pub gaps: usize,
+    pub initial: usize,
+    pub segments: usize,
+}
+
+// Counts the gaps' live instructions and fills the gap segments, of gaps in which nothing is counted yet. Answers how many gap
+// segments there are.
+fn fill_segments(
+    start: &[u32],
+    segment_end: &[u32],
+    value: &[u32],
+    from: &[u32],
+    to: &[u32],
+    live: &mut [u32],
+    out_from: &mut [u32],
+    out_to: &mut [u32],
+    out_value: &mut [u32],
+    out_gap: &mut [u32],
+) -> usize
+    requires { ⌜ Valued (now start) (now «segment_end») (now value) × Gaps (now from) (now to) × Uncounted (length (now from)) (now live) ⌝ }
+    requires { ⌜ Room (length (gapSegments (now from) (now to) (now start) (now «segment_end») (now value))) (segmentColumns (now «out_from») (now «out_to») (now «out_value») (now «out_gap») 0) ⌝ }
+    ensures { λ r. ⌜ (now (live .exit) ≡ filled (liveColumn (now (start .entry)) (now («segment_end» .entry)) (now (from .entry)) (now (to .entry))) (now (live .entry))) × Filled (gapSegments (now (from .entry)) (now (to .entry)) (now (start .entry)) (now («segment_end» .entry)) (now (value .entry))) (segmentColumns (now («out_from» .entry)) (now («out_to» .entry)) (now («out_value» .entry)) (now («out_gap» .entry)) 0) (segmentColumns (now («out_from» .exit)) (now («out_to» .exit)) (now («out_value» .exit)) (now («out_gap» .exit)) r) ⌝ }
+{
+    count_live_insts(start, segment_end, from, to, live);
+    build_gap_segments(
+        start,
+        segment_end,
+        value,
+        from,
+        to,
+        out_from,
+        out_to,
+        out_value,
+        out_gap,
+    )
+}
+
+// Fills the gap table and the gap segments of a use table around its best use. The rows past those used stay.
+pub fn fill_gaps(
+    inst: &[u32],
+    weight: &[f32],
+    left_weight: &[f32],
+    right_weight: &[f32],
+    best: usize,
+    freq: &[u32],
+    first: &[u32],
+    end: &[u32],
+    prev_lower_freq: &[u32],
+    next_lower_freq: &[u32],
+    start: &[u32],
+    segment_end: &[u32],
+    value: &[u32],
+    from: &mut [u32],
+    to: &mut [u32],
+    gap_weight: &mut [f32],
+    live: &mut [u32],
+    min_freq: &mut [f32],
+    out_from: &mut [u32],
+    out_to: &mut [u32],
+    out_value: &mut [u32],
+    out_gap: &mut [u32],
+) -> GapTables
+    requires { ⌜ Cuttable (now freq) (now first) (now end) (now «prev_lower_freq») (now «next_lower_freq») (useColumns (now inst) (now weight) (now «left_weight») (now «right_weight»)) best × Valued (now start) (now «segment_end») (now value) ⌝ }
+    requires { ⌜ GapRoom (gapsOf (blocksOf (now freq) (now first) (now end)) (usesIn (useColumns (now inst) (now weight) (now «left_weight») (now «right_weight»))) best) (now start) (now «segment_end») (now value) (lentTables (now from) (now to) (now «gap_weight») (now live) (now «min_freq») (now «out_from») (now «out_to») (now «out_value») (now «out_gap»)) ⌝ }
+    ensures { λ r. ⌜ GapsFilled (gapsOf (blocksOf (now (freq .entry)) (now (first .entry)) (now (end .entry))) (usesIn (useColumns (now (inst .entry)) (now (weight .entry)) (now («left_weight» .entry)) (now («right_weight» .entry)))) best) (now (start .entry)) (now («segment_end» .entry)) (now (value .entry)) (lentTables (now (from .entry)) (now (to .entry)) (now («gap_weight» .entry)) (now (live .entry)) (now («min_freq» .entry)) (now («out_from» .entry)) (now («out_to» .entry)) (now («out_value» .entry)) (now («out_gap» .entry))) (lentTables (now (from .exit)) (now (to .exit)) (now («gap_weight» .exit)) (now (live .exit)) (now («min_freq» .exit)) (now («out_from» .exit)) (now («out_to» .exit)) (now («out_value» .exit)) (now («out_gap» .exit))) (r .gaps) (r .segments) × (r .initial ≡ initialGap (blocksOf (now (freq .entry)) (now (first .entry)) (now (end .entry))) (usesIn (useColumns (now (inst .entry)) (now (weight .entry)) (now («left_weight» .entry)) (now («right_weight» .entry)))) best) ⌝ }
+{
+    let g = collect_gaps(
+        inst,
+        weight,
+        left_weight,
+        right_weight,
+        best,
+        freq,
+        first,
+        end,
+        prev_lower_freq,
+        next_lower_freq,
+        from,
+        to,
+        gap_weight,
+        live,
+        min_freq,
+    );
+    let n = g.rows;
+    let segments = fill_segments(
+        start,
+        segment_end,
+        value,
+        &from[..n],
+        &to[..n],
+        live,
+        out_from,
+        out_to,
+        out_value,
+        out_gap,
+    );
+    GapTables {
+        gaps: n,
+        initial: g.initial,
+        segments,
+    }
+}

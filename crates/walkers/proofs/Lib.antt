@@ -1,0 +1,15 @@
+-- What the walkers share. For the layer above: Checked (lines 10 and 11 give what walkers rely on), GapWalk (where new walkers stand),
+-- Regions (a region that grows by one gap), Sets (the definitions as sets), Cases
+pub mod Steps
+pub mod Uses
+pub mod Top
+pub mod Seen
+pub mod OneUnit
+pub mod AllUnits
+pub mod Begin
+pub mod Checked
+pub mod GapSegments
+pub mod GapWalk
+pub mod Regions
+pub mod Sets
+pub mod Cases

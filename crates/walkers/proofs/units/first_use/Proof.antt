@@ -1,0 +1,34 @@
+-- `first_use` searches the column of units, which does not fall
+use mathlib.Core.Path.{sym, subst}
+use mathlib.Core.List.{List}
+use Prim.Native.Nat.{ℕ}
+use lib.Dec.{leb}
+use lib.ListN.{getD}
+use borrow.Author.Needs.{needs}
+use Rattle.links.specs.First.{FirstIn, Searchable}
+use Rattle.jobs.specs.declared.rows.FixedUse.{FixedUse}
+use Rattle.jobs.specs.Rows.{fixedUsesOf}
+use Rattle.walkers.proofs.Begin.{holds-use, uses-searchable, uses-found}
+use Rattle.walkers.proofs.units.first_use.Statement.{statement}
+use Rattle.walkers.proofs.units.first_use.Tie as tie
+
+abbrev uses : tie.Start → List FixedUse
+uses b = fixedUsesOf (b .args .f-unit .now) (b .args .f-point .now) (b .args .f-value .now)
+
+fixed-use-count-requires : tie.Need-fixed-use-count-requires
+fixed-use-count-requires c κs = search needs
+
+first-at-least-requires : tie.Need-first-at-least-requires
+first-at-least-requires c κs =
+    let b = c .before .before .before .before in
+    subst (λ (n : ℕ). Searchable (b .args .f-unit .now) 0 n) (sym (c .fixed-use-count .ensures))
+    (uses-searchable (uses b) (b .pre) (b .args .u .0) (b .args .f-unit .now) (holds-use (b .args .f-unit .now) (b .args .f-point .now) (b .args .f-value .now)))
+
+returns : tie.Need-returns
+returns c =
+    let b = c .before .before .before .before .before in
+    uses-found (uses b) (b .pre) (b .args .u .0) (b .args .f-unit .now) (holds-use (b .args .f-unit .now) (b .args .f-point .now) (b .args .f-value .now)) (c .first-at-least .result)
+    (subst (λ (n : ℕ). FirstIn (λ (k : ℕ). leb (b .args .u .0) (getD (b .args .f-unit .now) k 0)) 0 n (c .first-at-least .result)) (c .before .fixed-use-count .ensures) (c .first-at-least .ensures))
+
+pub first-use-spec : {M : Type 1} → statement M
+first-use-spec = tie.close (tie.spec fixed-use-count-requires first-at-least-requires returns)

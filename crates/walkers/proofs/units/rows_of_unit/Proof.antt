@@ -1,0 +1,58 @@
+-- `rows_of_unit` searches the column of units, which does not fall, for the unit and for the next
+use mathlib.Core.Path.{sym, subst}
+use mathlib.Core.List.{List}
+use Prim.Native.Nat.{ℕ, _+_, zero-le}
+use native.Mathlib.Nat.{le-trans, le-of-eq}
+use native.Mathlib.Omega.{arith}
+use lib.Dec.{leb}
+use lib.ListN.{getD}
+use borrow.Author.Needs.{needs}
+use Rattle.links.specs.First.{FirstIn, Searchable}
+use Rattle.jobs.specs.declared.rows.Reservation.{Reservation}
+use Rattle.jobs.specs.Rows.{reservationsOf, noReservation}
+use Rattle.walkers.proofs.Begin.{Holds, holds-unit, units-searchable, rows-found}
+use Rattle.walkers.proofs.units.rows_of_unit.Statement.{statement}
+use Rattle.walkers.proofs.units.rows_of_unit.Tie as tie
+
+abbrev rows : tie.Start → List Reservation
+rows b = let a = b .args in reservationsOf (a .unit .now) (a .start .now) (a .end .now) (a .kind .now) (a .index .now) (a .fixed .now)
+
+holds : (b : tie.Start) → Holds (b .args .unit .now) (rows b) noReservation (λ (r : Reservation). r .unit)
+holds b = let a = b .args in holds-unit (a .unit .now) (a .start .now) (a .end .now) (a .kind .now) (a .index .now) (a .fixed .now)
+
+reservation-count-requires : tie.Need-reservation-count-requires
+reservation-count-requires c κs = search needs
+
+first-at-least-requires : tie.Need-first-at-least-requires
+first-at-least-requires c κs =
+    let b = c .before .before .before .before .before .before .before in
+    subst (λ (n : ℕ). Searchable (b .args .unit .now) 0 n) (sym (c .reservation-count .ensures)) (units-searchable (rows b) (b .pre .0) (b .args .u .0) (b .args .unit .now) (holds b) 0 zero-le)
+
+add-first-at-least : tie.Need-add-first-at-least
+add-first-at-least c = omega (arith, c .before .before .before .before .before .before .before .before .before .pre .1)
+
+first-at-least-requires-2 : tie.Need-first-at-least-requires-2
+first-at-least-requires-2 c κs =
+    let b = c .before .before .before .before .before .before .before .before .before in
+    let e = c .before .before .reservation-count .ensures in
+    subst (λ (n : ℕ). Searchable (b .args .unit .now) (c .before .first-at-least .result) n) (sym e) (units-searchable (rows b) (b .pre .0) (b .args .u .0) (b .args .unit .now) (holds b) (c .before .first-at-least .result) (le-trans (c .before .first-at-least .ensures .to) (le-of-eq e)))
+
+returns : tie.Need-returns
+returns c =
+    let b = c .before .before .before .before .before .before .before .before .before .before in
+    let e = c .before .before .before .reservation-count .ensures in
+    let a = c .before .before .first-at-least .result in
+    let z = c .first-at-least2 .result in
+    rows-found (rows b) (b .pre .0) (b .args .u .0) (b .args .unit .now) (holds b) a z
+    (subst (λ (n : ℕ). FirstIn (λ (k : ℕ). leb (b .args .u .0) (getD (b .args .unit .now) k 0)) 0 n a) e (c .before .before .first-at-least .ensures))
+    (subst (λ (n : ℕ). FirstIn (λ (k : ℕ). leb (b .args .u .0 + 1) (getD (b .args .unit .now) k 0)) a n z) e (c .first-at-least2 .ensures))
+
+pub rows-of-unit-spec : {M : Type 1} → statement M
+rows-of-unit-spec =
+    tie.close
+    (tie.spec
+    reservation-count-requires
+    first-at-least-requires
+    add-first-at-least
+    first-at-least-requires-2
+    returns)

@@ -1,0 +1,263 @@
+// To the left: gap segments come in falling order.
+use crate::gaps::last_is_of_gap;
+use crate::gaps::segment_at;
+use crate::meeting::GapSegment;
+use crate::meeting::Met;
+use crate::meeting::Register;
+use crate::meeting::either;
+use crate::meeting::look;
+use crate::units::first_use;
+use crate::units::rows_of_unit;
+use jobs::rows::reservation_at;
+use jobs::rows::reservation_count;
+use links::search::first_at_least;
+use numbers::Point;
+use numbers::Unit;
+ghost use mathlib.Core.Path.{_≡_};
+ghost use Prim.Native.Nat.{_+_, _<_};
+ghost use Rattle.numbers.specs.Weight.{Weight};
+ghost use Rattle.jobs.specs.Rows.{reservationsOf, fixedUsesOf};
+ghost use Rattle.walkers.specs.Meeting.{reservedOf, fixedMet, fixedMetAny, heaviestMet, alsoMet, oneUnit};
+ghost use Rattle.walkers.specs.Gaps.{gapColumns, segmentsOfGap, heaviestInGap, OrderedGaps, LeftAt};
+ghost use Rattle.walkers.specs.Standing.{OrderedRows, OrderedUses, Ready, Known, UsesFrom, Beyond, StandsLeft};
+
+// The row after the next gap segment's; and for each unit of the register, in turn, the row after the last that may meet it, and
+// where the fixed uses begin.
+pub struct LeftWalker {
+    pub next: usize,
+    pub at: [usize; 8],
+    pub uses: [usize; 8],
+}
+
+// Whether a gap segment meets something fixed, the heaviest weight so far, and the walker behind it.
+pub struct TookLeft {
+    pub fixed: bool,
+    pub heaviest: f32,
+    pub walker: LeftWalker,
+}
+
+// What was met, and where the walk stands in the unit.
+pub struct WalkedLeft {
+    pub at: usize,
+    pub met: Met,
+}
+
+// One unit: the rows before `at`, down to one that starts before the segment. That one may meet the next segment too.
+fn walk_left(
+    unit: &[u32],
+    start: &[u32],
+    end: &[u32],
+    kind: &[u32],
+    index: &[u32],
+    fixed: &[u32],
+    f_unit: &[u32],
+    f_point: &[u32],
+    f_value: &[u32],
+    weight: &[u32],
+    u: Unit,
+    at: usize,
+    from: usize,
+    s: GapSegment,
+    met: Met,
+) -> WalkedLeft
+    requires { ⌜ Ready (reservedOf (now unit) (now start) (now end) (now kind) (now index) (now fixed) (now «f_unit») (now «f_point») (now «f_value») (now weight)) ⌝ }
+    requires { ⌜ Beyond (reservationsOf (now unit) (now start) (now end) (now kind) (now index) (now fixed)) (u .0) (s .to .0) at ⌝ }
+    requires { ⌜ UsesFrom (fixedUsesOf (now «f_unit») (now «f_point») (now «f_value»)) (u .0) from ⌝ }
+    requires { ⌜ (s .from .0 < s .to .0) × Weight (met .heaviest) ⌝ }
+    ensures { λ r. ⌜ (r .met ≡ alsoMet (oneUnit (u .0)) (reservedOf (now (unit .entry)) (now (start .entry)) (now (end .entry)) (now (kind .entry)) (now (index .entry)) (now (fixed .entry)) (now («f_unit» .entry)) (now («f_point» .entry)) (now («f_value» .entry)) (now (weight .entry))) s met) × Beyond (reservationsOf (now (unit .entry)) (now (start .entry)) (now (end .entry)) (now (kind .entry)) (now (index .entry)) (now (fixed .entry))) (u .0) (s .from .0) (r .at) ⌝ }
+{
+    let mut i = at;
+    let mut met = met;
+    while i > 0 {
+        let r = reservation_at(unit, start, end, kind, index, fixed, i - 1);
+        if r.unit != u.0 {
+            return WalkedLeft { at: i, met };
+        }
+        met = look(f_unit, f_point, f_value, weight, from, r, s, met);
+        if r.start < s.from.0 {
+            return WalkedLeft { at: i, met };
+        }
+        i -= 1;
+    }
+    WalkedLeft { at: i, met }
+}
+
+// The row after the last one of a unit that may meet a gap segment up to the point.
+fn end_row(
+    unit: &[u32],
+    start: &[u32],
+    end: &[u32],
+    kind: &[u32],
+    index: &[u32],
+    fixed: &[u32],
+    u: Unit,
+    point: Point,
+) -> usize
+    requires { ⌜ OrderedRows (reservationsOf (now unit) (now start) (now end) (now kind) (now index) (now fixed)) × (u .0 < 4294967295) ⌝ }
+    ensures { λ r. ⌜ Beyond (reservationsOf (now (unit .entry)) (now (start .entry)) (now (end .entry)) (now (kind .entry)) (now (index .entry)) (now (fixed .entry))) (u .0) (point .0) r ⌝ }
+{
+    let r = rows_of_unit(unit, start, end, kind, index, fixed, u);
+    let from = r.from;
+    let to = r.to;
+    first_at_least(start, from, to, point.0)
+}
+
+impl LeftWalker {
+    // A walker for gap segments before row `next`, which end at or before the point.
+    pub fn new(
+        unit: &[u32],
+        start: &[u32],
+        end: &[u32],
+        kind: &[u32],
+        index: &[u32],
+        fixed: &[u32],
+        f_unit: &[u32],
+        f_point: &[u32],
+        f_value: &[u32],
+        register: Register,
+        next: usize,
+        point: Point,
+    ) -> Self
+        requires { ⌜ OrderedRows (reservationsOf (now unit) (now start) (now end) (now kind) (now index) (now fixed)) ⌝ }
+        requires { ⌜ OrderedUses (fixedUsesOf (now «f_unit») (now «f_point») (now «f_value»)) ⌝ }
+        requires { ⌜ Known register ⌝ }
+        ensures { λ r. ⌜ (r .next ≡ next) × StandsLeft register (reservationsOf (now (unit .entry)) (now (start .entry)) (now (end .entry)) (now (kind .entry)) (now (index .entry)) (now (fixed .entry))) (fixedUsesOf (now («f_unit» .entry)) (now («f_point» .entry)) (now («f_value» .entry))) (point .0) r ⌝ }
+    {
+        let mut at = [0usize; 8];
+        let mut uses = [0usize; 8];
+        let mut v: u32 = 0;
+        while v < register.units {
+            let u = Unit(register.first.0 + v);
+            let i = v as usize;
+            at[i] = end_row(unit, start, end, kind, index, fixed, u, point);
+            uses[i] = first_use(f_unit, f_point, f_value, u);
+            v += 1;
+        }
+        LeftWalker { next, at, uses }
+    }
+
+    // One gap segment, in all units of the register.
+    pub fn take_segment(
+        mut self,
+        unit: &[u32],
+        start: &[u32],
+        end: &[u32],
+        kind: &[u32],
+        index: &[u32],
+        fixed: &[u32],
+        f_unit: &[u32],
+        f_point: &[u32],
+        f_value: &[u32],
+        weight: &[u32],
+        register: Register,
+        s: GapSegment,
+        heaviest: f32,
+    ) -> TookLeft
+        requires { ⌜ Ready (reservedOf (now unit) (now start) (now end) (now kind) (now index) (now fixed) (now «f_unit») (now «f_point») (now «f_value») (now weight)) ⌝ }
+        requires { ⌜ Known register × StandsLeft register (reservationsOf (now unit) (now start) (now end) (now kind) (now index) (now fixed)) (fixedUsesOf (now «f_unit») (now «f_point») (now «f_value»)) (s .to .0) self ⌝ }
+        requires { ⌜ (s .from .0 < s .to .0) × Weight heaviest ⌝ }
+        ensures { λ r. ⌜ (r .fixed ≡ fixedMet register (reservedOf (now (unit .entry)) (now (start .entry)) (now (end .entry)) (now (kind .entry)) (now (index .entry)) (now (fixed .entry)) (now («f_unit» .entry)) (now («f_point» .entry)) (now («f_value» .entry)) (now (weight .entry))) s) × (r .heaviest ≡ heaviestMet register (reservedOf (now (unit .entry)) (now (start .entry)) (now (end .entry)) (now (kind .entry)) (now (index .entry)) (now (fixed .entry)) (now («f_unit» .entry)) (now («f_point» .entry)) (now («f_value» .entry)) (now (weight .entry))) s heaviest) × (r .walker .next ≡ self .next) × StandsLeft register (reservationsOf (now (unit .entry)) (now (start .entry)) (now (end .entry)) (now (kind .entry)) (now (index .entry)) (now (fixed .entry))) (fixedUsesOf (now («f_unit» .entry)) (now («f_point» .entry)) (now («f_value» .entry))) (s .from .0) (r .walker) ⌝ }
+    {
+        let mut at = self.at;
+        let uses = self.uses;
+        let mut met = Met {
+            fixed: false,
+            heaviest,
+        };
+        let mut v: u32 = 0;
+        while v < register.units {
+            let i = v as usize;
+            let w = walk_left(
+                unit,
+                start,
+                end,
+                kind,
+                index,
+                fixed,
+                f_unit,
+                f_point,
+                f_value,
+                weight,
+                Unit(register.first.0 + v),
+                at[i],
+                uses[i],
+                s,
+                met,
+            );
+            met = w.met;
+            at[i] = w.at;
+            v += 1;
+        }
+        self.at = at;
+        TookLeft {
+            fixed: met.fixed,
+            heaviest: met.heaviest,
+            walker: self,
+        }
+    }
+
+    // The gap segments of one gap, from the row before `next` down.
+    pub fn take_gap(
+        mut self,
+        unit: &[u32],
+        start: &[u32],
+        end: &[u32],
+        kind: &[u32],
+        index: &[u32],
+        fixed: &[u32],
+        f_unit: &[u32],
+        f_point: &[u32],
+        f_value: &[u32],
+        weight: &[u32],
+        out_from: &[u32],
+        out_to: &[u32],
+        out_value: &[u32],
+        out_gap: &[u32],
+        used: usize,
+        register: Register,
+        gap: u32,
+        heaviest: f32,
+    ) -> TookLeft
+        requires { ⌜ Ready (reservedOf (now unit) (now start) (now end) (now kind) (now index) (now fixed) (now «f_unit») (now «f_point») (now «f_value») (now weight)) ⌝ }
+        requires { ⌜ Known register × Weight heaviest ⌝ }
+        requires { ⌜ OrderedGaps (gapColumns (now «out_from») (now «out_to») (now «out_value») (now «out_gap») used) × LeftAt register (reservationsOf (now unit) (now start) (now end) (now kind) (now index) (now fixed)) (fixedUsesOf (now «f_unit») (now «f_point») (now «f_value»)) (gapColumns (now «out_from») (now «out_to») (now «out_value») (now «out_gap») used) (gap + 1) self ⌝ }
+        ensures { λ r. ⌜ (r .fixed ≡ fixedMetAny register (reservedOf (now (unit .entry)) (now (start .entry)) (now (end .entry)) (now (kind .entry)) (now (index .entry)) (now (fixed .entry)) (now («f_unit» .entry)) (now («f_point» .entry)) (now («f_value» .entry)) (now (weight .entry))) (segmentsOfGap (gapColumns (now («out_from» .entry)) (now («out_to» .entry)) (now («out_value» .entry)) (now («out_gap» .entry)) used) gap)) × (r .heaviest ≡ heaviestInGap register (reservedOf (now (unit .entry)) (now (start .entry)) (now (end .entry)) (now (kind .entry)) (now (index .entry)) (now (fixed .entry)) (now («f_unit» .entry)) (now («f_point» .entry)) (now («f_value» .entry)) (now (weight .entry))) (gapColumns (now («out_from» .entry)) (now («out_to» .entry)) (now («out_value» .entry)) (now («out_gap» .entry)) used) gap heaviest) × LeftAt register (reservationsOf (now (unit .entry)) (now (start .entry)) (now (end .entry)) (now (kind .entry)) (now (index .entry)) (now (fixed .entry))) (fixedUsesOf (now («f_unit» .entry)) (now («f_point» .entry)) (now («f_value» .entry))) (gapColumns (now («out_from» .entry)) (now («out_to» .entry)) (now («out_value» .entry)) (now («out_gap» .entry)) used) gap (r .walker) ⌝ }
+    {
+        let mut met = Met {
+            fixed: false,
+            heaviest,
+        };
+        let mut i = self.next;
+        while last_is_of_gap(out_gap, gap, i) {
+            let s = segment_at(out_from, out_to, out_value, i - 1);
+            let t = self.take_segment(
+                unit,
+                start,
+                end,
+                kind,
+                index,
+                fixed,
+                f_unit,
+                f_point,
+                f_value,
+                weight,
+                register,
+                s,
+                met.heaviest,
+            );
+            met = Met {
+                fixed: either(met.fixed, t.fixed),
+                heaviest: t.heaviest,
+            };
+            let w = t.walker;
+            self = w;
+            i -= 1;
+        }
+        self.next = i;
+        TookLeft {
+            fixed: met.fixed,
+            heaviest: met.heaviest,
+            walker: self,
+        }
+    }
+}
