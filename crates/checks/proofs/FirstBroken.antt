@@ -16,7 +16,7 @@ use Rattle.links.specs.declared.blocks.Refusal.{Refusal}
 use Rattle.links.specs.declared.blocks.Checked.{Checked}
 use Rattle.links.specs.declared.blocks.Checked.the-variants.{Sound, Refused}
 use Rattle.links.proofs.Firsts.{split, first-in, first-found, first-none}
-use Rattle.checks.specs.Refusals.{Line, noLine, firstBroken, Passed, FirstAt, Reported}
+use Rattle.checks.specs.Refusals.{Line, noLine, firstBroken, Passed, FirstAt, Reported, SomeReported}
 
 -- the first bad place of a line
 abbrev badPlace : Line → ℕ
@@ -111,11 +111,6 @@ later l ls n p i f r =
     each zero h = f
     each (suc j) h = r .before j (le-of-suc-le-suc h)
 
--- some line of a list is reported
-pub record SomeReported (ls : List Line) (n p : ℕ) : Type 0 where
-  pub at : ℕ
-  pub reported : Reported ls n p at
-
 -- the number and the place of an answer
 abbrev numberOf : Checked → ℕ
 numberOf Sound = 0
@@ -151,3 +146,29 @@ reported-refused (l ∷ ls) n p (suc i) r =
 
 pub refused-exactly : (ls : List Line) (n p : ℕ) → (firstBroken ls ≡ refusal n p → SomeReported ls n p) × (SomeReported ls n p → firstBroken ls ≡ refusal n p)
 refused-exactly ls n p = (refused-reported ls n p, λ r. reported-refused ls n p (r .at) (r .reported))
+
+-- ---- in a list whose lines are numbered from 1, line n + 1 stands at place n
+pub refused-by-number : (ls : List Line) → ((i : ℕ) → i < length ls → getD ls i noLine .number ≡ suc i) → (n p : ℕ)
+    → (firstBroken ls ≡ refusal (suc n) p → Reported ls (suc n) p n) × (Reported ls (suc n) p n → firstBroken ls ≡ refusal (suc n) p)
+refused-by-number ls numbered n p = (there, reported-refused ls (suc n) p n)
+  where
+    there : firstBroken ls ≡ refusal (suc n) p → Reported ls (suc n) p n
+    there e =
+        let r = refused-reported ls (suc n) p e in
+        let same : r .at ≡ n = same-suc (r .at) n (sym (numbered (r .at) (r .reported .inside)) ∙ r .reported .number) in
+        subst (Reported ls (suc n) p) same (r .reported)
+      where
+        same-suc : (a b : ℕ) → suc a ≡ suc b → a ≡ b
+        same-suc a b e = omega (arith, e)
+
+-- ---- a list with more behind it
+pub sound-before : (ls ms : List Line) → firstBroken (ls ++ ms) ≡ Sound → firstBroken ls ≡ Sound
+sound-before [] ms e = empty-sound
+sound-before (l ∷ ls) ms e =
+    elim (split (badPlace l) (l .places)) [
+      | inl h ↦ absurd (not-sound _ (sym (answer-here l (ls ++ ms) h) ∙ e))
+      | inr h ↦ answer-on l ls h ∙ sound-before ls ms (sym (answer-on l (ls ++ ms) h) ∙ e)
+    ]
+
+pub sound-behind : (ls ms : List Line) → firstBroken (ls ++ ms) ≡ Sound → firstBroken ms ≡ Sound
+sound-behind ls ms e = sym (sound-goes-on ls ms (sound-before ls ms e)) ∙ e

@@ -3,3 +3,4 @@ pub mod FirstBroken
 pub mod Verdicts
 pub mod Sizes
 pub mod Stages
+pub mod Accepted

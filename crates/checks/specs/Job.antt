@@ -12,6 +12,8 @@ use Rattle.jobs.specs.declared.rows.FixedUse.{FixedUse}
 use Rattle.jobs.specs.declared.rows.Limits.{Limits}
 use Rattle.jobs.specs.Rows.{segmentsOf, usesOf, reservationsOf, fixedUsesOf}
 use Rattle.walks.specs.Uses.{Source}
+use Rattle.walkers.specs.Meeting.{Reserved}
+use Rattle.walkers.specs.declared.meeting.Register.{Register}
 use Rattle.checks.specs.declared.job.Parameters.{Parameters}
 use Rattle.checks.specs.declared.job.Sizes.{Sizes}
 
@@ -83,3 +85,10 @@ scalesOf job =
 abbrev pub sourceOfJob : Job → Source
 sourceOfJob job =
     record { uses = job .uses; segments = job .segments; codes = job .codes; scales = scalesOf job; blocks = job .blocks }
+
+-- what is reserved in the job, and its register: units from 0 on
+abbrev pub reservedOfJob : Job → Reserved
+reservedOfJob job = record { rows = job .reservations; fixedUses = job .fixedUses; weights = job .weights }
+
+abbrev pub registerOf : Job → Register
+registerOf job = record { first = record { 0 = 0 }; units = job .units }

@@ -163,6 +163,11 @@ pub record Reported (ls : List Line) (n p i : ℕ) : Type 0 where
   pub here : FirstAt (getD ls i noLine) p
   pub before : (j : ℕ) → j < i → Passed (getD ls j noLine)
 
+-- some line of a list is reported
+pub record SomeReported (ls : List Line) (n p : ℕ) : Type 0 where
+  pub at : ℕ
+  pub reported : Reported ls n p at
+
 -- ---- for contracts of private functions
 -- the answer of a line of so many places whose first bad place is given: the number of places if there is none
 abbrev pub verdictOf : ℕ → ℕ → ℕ → Checked

@@ -55,10 +55,10 @@ fill-segments-requires c κs =
       (
         p .0 .1,
         subst (λ (l : List ℕ). Gaps l (take (c .before .before .before .before .before .before .before .before .before .before .before .before .before .before .before .before .before .collect-gaps .result .rows) (c .before .before .before .before .before .before .before .before .before .before .before .before .before .before .before .before .before .collect-gaps .last .1 .1 .1 .1 .1 .1 .1 .1 .1 .1 .1 .0))) (sym (froms-cut (gapsOf (blocksOf (a .freq .now) (a .first .now) (a .end .now)) (usesIn (useColumns (a .inst .now) (a .weight .now) (a .left-weight .now) (a .right-weight .now))) (a .best)) (a .start .now) (a .segment-end .now) (a .value .now) (lentTables (a .from .now) (a .to .now) (a .gap-weight .now) (a .live .now) (a .min-freq .now) (a .out-from .now) (a .out-to .now) (a .out-value .now) (a .out-gap .now)) (p .1) (gapColumns (c .before .before .before .before .before .before .before .before .before .before .before .before .before .before .before .before .before .collect-gaps .last .1 .1 .1 .1 .1 .1 .1 .1 .1 .1 .0) (c .before .before .before .before .before .before .before .before .before .before .before .before .before .before .before .before .before .collect-gaps .last .1 .1 .1 .1 .1 .1 .1 .1 .1 .1 .1 .0) (c .before .before .before .before .before .before .before .before .before .before .before .before .before .before .before .before .before .collect-gaps .last .1 .1 .1 .1 .1 .1 .1 .1 .1 .1 .1 .1 .0) (c .before .before .before .before .before .before .before .before .before .before .before .before .before .before .before .before .before .collect-gaps .last .1 .1 .1 .1 .1 .1 .1 .1 .1 .1 .1 .1 .1 .1 .0)) (c .before .before .before .before .before .before .before .before .before .before .before .before .before .before .before .before .before .collect-gaps .last .1 .1 .1 .1 .1 .1 .1 .1 .1 .1 .1 .1 .1 .0) (c .before .before .before .before .before .before .before .before .before .before .before .before .before .before .before .before .before .collect-gaps .result .rows) (c .before .before .before .before .before .before .before .before .before .before .before .before .before .before .before .before .before .collect-gaps .ensures .0)))
-        (subst (λ (l : List ℕ). Gaps (fromsOf (gapsOf (blocksOf (a .freq .now) (a .first .now) (a .end .now)) (usesIn (useColumns (a .inst .now) (a .weight .now) (a .left-weight .now) (a .right-weight .now))) (a .best))) l) (sym (tos-cut (gapsOf (blocksOf (a .freq .now) (a .first .now) (a .end .now)) (usesIn (useColumns (a .inst .now) (a .weight .now) (a .left-weight .now) (a .right-weight .now))) (a .best)) (a .start .now) (a .segment-end .now) (a .value .now) (lentTables (a .from .now) (a .to .now) (a .gap-weight .now) (a .live .now) (a .min-freq .now) (a .out-from .now) (a .out-to .now) (a .out-value .now) (a .out-gap .now)) (p .1) (gapColumns (c .before .before .before .before .before .before .before .before .before .before .before .before .before .before .before .before .before .collect-gaps .last .1 .1 .1 .1 .1 .1 .1 .1 .1 .1 .0) (c .before .before .before .before .before .before .before .before .before .before .before .before .before .before .before .before .before .collect-gaps .last .1 .1 .1 .1 .1 .1 .1 .1 .1 .1 .1 .0) (c .before .before .before .before .before .before .before .before .before .before .before .before .before .before .before .before .before .collect-gaps .last .1 .1 .1 .1 .1 .1 .1 .1 .1 .1 .1 .1 .0) (c .before .before .before .before .before .before .before .before .before .before .before .before .before .before .before .before .before .collect-gaps .last .1 .1 .1 .1 .1 .1 .1 .1 .1 .1 .1 .1 .1 .1 .0)) (c .before .before .before .before .before .before .before .before .before .before .before .before .before .before .before .before .before .collect-gaps .last .1 .1 .1 .1 .1 .1 .1 .1 .1 .1 .1 .1 .1 .0) (c .before .before .before .before .before .before .before .before .before .before .before .before .before .before .before .before .before .collect-gaps .result .rows) (c .before .before .before .before .before .before .before .before .before .before .before .before .before .before .before .before .before .collect-gaps .ensures .0))) tile),
-        none-counted (gapsOf (blocksOf (a .freq .now) (a .first .now) (a .end .now)) (usesIn (useColumns (a .inst .now) (a .weight .now) (a .left-weight .now) (a .right-weight .now))) (a .best)) (a .start .now) (a .segment-end .now) (a .value .now) (lentTables (a .from .now) (a .to .now) (a .gap-weight .now) (a .live .now) (a .min-freq .now) (a .out-from .now) (a .out-to .now) (a .out-value .now) (a .out-gap .now)) (p .1) (gapColumns (c .before .before .before .before .before .before .before .before .before .before .before .before .before .before .before .before .before .collect-gaps .last .1 .1 .1 .1 .1 .1 .1 .1 .1 .1 .0) (c .before .before .before .before .before .before .before .before .before .before .before .before .before .before .before .before .before .collect-gaps .last .1 .1 .1 .1 .1 .1 .1 .1 .1 .1 .1 .0) (c .before .before .before .before .before .before .before .before .before .before .before .before .before .before .before .before .before .collect-gaps .last .1 .1 .1 .1 .1 .1 .1 .1 .1 .1 .1 .1 .0) (c .before .before .before .before .before .before .before .before .before .before .before .before .before .before .before .before .before .collect-gaps .last .1 .1 .1 .1 .1 .1 .1 .1 .1 .1 .1 .1 .1 .1 .0)) (c .before .before .before .before .before .before .before .before .before .before .before .before .before .before .before .before .before .collect-gaps .last .1 .1 .1 .1 .1 .1 .1 .1 .1 .1 .1 .1 .1 .0) (c .before .before .before .before .before .before .before .before .before .before .before .before .before .before .before .before .before .collect-gaps .result .rows) (c .before .before .before .before .before .before .before .before .before .before .before .before .before .before .before .before .before .collect-gaps .ensures .0)
+            (subst (λ (l : List ℕ). Gaps (fromsOf (gapsOf (blocksOf (a .freq .now) (a .first .now) (a .end .now)) (usesIn (useColumns (a .inst .now) (a .weight .now) (a .left-weight .now) (a .right-weight .now))) (a .best))) l) (sym (tos-cut (gapsOf (blocksOf (a .freq .now) (a .first .now) (a .end .now)) (usesIn (useColumns (a .inst .now) (a .weight .now) (a .left-weight .now) (a .right-weight .now))) (a .best)) (a .start .now) (a .segment-end .now) (a .value .now) (lentTables (a .from .now) (a .to .now) (a .gap-weight .now) (a .live .now) (a .min-freq .now) (a .out-from .now) (a .out-to .now) (a .out-value .now) (a .out-gap .now)) (p .1) (gapColumns (c .before .before .before .before .before .before .before .before .before .before .before .before .before .before .before .before .before .collect-gaps .last .1 .1 .1 .1 .1 .1 .1 .1 .1 .1 .0) (c .before .before .before .before .before .before .before .before .before .before .before .before .before .before .before .before .before .collect-gaps .last .1 .1 .1 .1 .1 .1 .1 .1 .1 .1 .1 .0) (c .before .before .before .before .before .before .before .before .before .before .before .before .before .before .before .before .before .collect-gaps .last .1 .1 .1 .1 .1 .1 .1 .1 .1 .1 .1 .1 .0) (c .before .before .before .before .before .before .before .before .before .before .before .before .before .before .before .before .before .collect-gaps .last .1 .1 .1 .1 .1 .1 .1 .1 .1 .1 .1 .1 .1 .1 .0)) (c .before .before .before .before .before .before .before .before .before .before .before .before .before .before .before .before .before .collect-gaps .last .1 .1 .1 .1 .1 .1 .1 .1 .1 .1 .1 .1 .1 .0) (c .before .before .before .before .before .before .before .before .before .before .before .before .before .before .before .before .before .collect-gaps .result .rows) (c .before .before .before .before .before .before .before .before .before .before .before .before .before .before .before .before .before .collect-gaps .ensures .0))) tile),
+        none-counted (gapsOf (blocksOf (a .freq .now) (a .first .now) (a .end .now)) (usesIn (useColumns (a .inst .now) (a .weight .now) (a .left-weight .now) (a .right-weight .now))) (a .best)) (a .start .now) (a .segment-end .now) (a .value .now) (lentTables (a .from .now) (a .to .now) (a .gap-weight .now) (a .live .now) (a .min-freq .now) (a .out-from .now) (a .out-to .now) (a .out-value .now) (a .out-gap .now)) (p .1) (gapColumns (c .before .before .before .before .before .before .before .before .before .before .before .before .before .before .before .before .before .collect-gaps .last .1 .1 .1 .1 .1 .1 .1 .1 .1 .1 .0) (c .before .before .before .before .before .before .before .before .before .before .before .before .before .before .before .before .before .collect-gaps .last .1 .1 .1 .1 .1 .1 .1 .1 .1 .1 .1 .0) (c .before .before .before .before .before .before .before .before .before .before .before .before .before .before .before .before .before .collect-gaps .last .1 .1 .1 .1 .1 .1 .1 .1 .1 .1 .1 .1 .0) (c .before .before .before .before .before .before .before .before .before .before .before .before .before .before .before .before .before .collect-gaps .last .1 .1 .1 .1 .1 .1 .1 .1 .1 .1 .1 .1 .1 .1 .0)) (c .before .before .before .before .before .before .before .before .before .before .before .before .before .before .before .before .before .collect-gaps .last .1 .1 .1 .1 .1 .1 .1 .1 .1 .1 .1 .1 .1 .0) (c .before .before .before .before .before .before .before .before .before .before .before .before .before .before .before .before .before .collect-gaps .result .rows) (c .before .before .before .before .before .before .before .before .before .before .before .before .before .before .before .before .before .collect-gaps .ensures .0),
       ),
-      segments-room (gapsOf (blocksOf (a .freq .now) (a .first .now) (a .end .now)) (usesIn (useColumns (a .inst .now) (a .weight .now) (a .left-weight .now) (a .right-weight .now))) (a .best)) (a .start .now) (a .segment-end .now) (a .value .now) (lentTables (a .from .now) (a .to .now) (a .gap-weight .now) (a .live .now) (a .min-freq .now) (a .out-from .now) (a .out-to .now) (a .out-value .now) (a .out-gap .now)) (p .1) (gapColumns (c .before .before .before .before .before .before .before .before .before .before .before .before .before .before .before .before .before .collect-gaps .last .1 .1 .1 .1 .1 .1 .1 .1 .1 .1 .0) (c .before .before .before .before .before .before .before .before .before .before .before .before .before .before .before .before .before .collect-gaps .last .1 .1 .1 .1 .1 .1 .1 .1 .1 .1 .1 .0) (c .before .before .before .before .before .before .before .before .before .before .before .before .before .before .before .before .before .collect-gaps .last .1 .1 .1 .1 .1 .1 .1 .1 .1 .1 .1 .1 .0) (c .before .before .before .before .before .before .before .before .before .before .before .before .before .before .before .before .before .collect-gaps .last .1 .1 .1 .1 .1 .1 .1 .1 .1 .1 .1 .1 .1 .1 .0)) (c .before .before .before .before .before .before .before .before .before .before .before .before .before .before .before .before .before .collect-gaps .last .1 .1 .1 .1 .1 .1 .1 .1 .1 .1 .1 .1 .1 .0) (c .before .before .before .before .before .before .before .before .before .before .before .before .before .before .before .before .before .collect-gaps .result .rows) (c .before .before .before .before .before .before .before .before .before .before .before .before .before .before .before .before .before .collect-gaps .ensures .0)
+      segments-room (gapsOf (blocksOf (a .freq .now) (a .first .now) (a .end .now)) (usesIn (useColumns (a .inst .now) (a .weight .now) (a .left-weight .now) (a .right-weight .now))) (a .best)) (a .start .now) (a .segment-end .now) (a .value .now) (lentTables (a .from .now) (a .to .now) (a .gap-weight .now) (a .live .now) (a .min-freq .now) (a .out-from .now) (a .out-to .now) (a .out-value .now) (a .out-gap .now)) (p .1) (gapColumns (c .before .before .before .before .before .before .before .before .before .before .before .before .before .before .before .before .before .collect-gaps .last .1 .1 .1 .1 .1 .1 .1 .1 .1 .1 .0) (c .before .before .before .before .before .before .before .before .before .before .before .before .before .before .before .before .before .collect-gaps .last .1 .1 .1 .1 .1 .1 .1 .1 .1 .1 .1 .0) (c .before .before .before .before .before .before .before .before .before .before .before .before .before .before .before .before .before .collect-gaps .last .1 .1 .1 .1 .1 .1 .1 .1 .1 .1 .1 .1 .0) (c .before .before .before .before .before .before .before .before .before .before .before .before .before .before .before .before .before .collect-gaps .last .1 .1 .1 .1 .1 .1 .1 .1 .1 .1 .1 .1 .1 .1 .0)) (c .before .before .before .before .before .before .before .before .before .before .before .before .before .before .before .before .before .collect-gaps .last .1 .1 .1 .1 .1 .1 .1 .1 .1 .1 .1 .1 .1 .0) (c .before .before .before .before .before .before .before .before .before .before .before .before .before .before .before .before .before .collect-gaps .result .rows) (c .before .before .before .before .before .before .before .before .before .before .before .before .before .before .before .before .before .collect-gaps .ensures .0),
     )
 
 same-length : tie.Need-same-length
@@ -91,11 +91,10 @@ same-length-9 c = search needs
 returns : tie.Need-returns
 returns c =
     let a = c .before .before .before .before .before .before .before .before .before .before .before .before .before .before .before .before .before .before .before .before .before .before .before .before .before .before .before .before .before .before .before .before .before .before .before .before .before .before .before .before .before .before .before .before .before .before .before .before .before .before .before .before .before .before .before .args in
-    let p = c .before .before .before .before .before .before .before .before .before .before .before .before .before .before .before .before .before .before .before .before .before .before .before .before .before .before .before .before .before .before .before .before .before .before .before .before .before .before .before .before .before .before .before .before .before .before .before .before .before .before .before .before .before .before .before .pre in
-    (
+    let p = c .before .before .before .before .before .before .before .before .before .before .before .before .before .before .before .before .before .before .before .before .before .before .before .before .before .before .before .before .before .before .before .before .before .before .before .before .before .before .before .before .before .before .before .before .before .before .before .before .before .before .before .before .before .before .before .pre in (
       all-filled (gapsOf (blocksOf (a .freq .now) (a .first .now) (a .end .now)) (usesIn (useColumns (a .inst .now) (a .weight .now) (a .left-weight .now) (a .right-weight .now))) (a .best)) (a .start .now) (a .segment-end .now) (a .value .now) (lentTables (a .from .now) (a .to .now) (a .gap-weight .now) (a .live .now) (a .min-freq .now) (a .out-from .now) (a .out-to .now) (a .out-value .now) (a .out-gap .now)) (p .1) (gapColumns (c .before .before .before .before .before .before .before .before .before .before .before .before .before .before .before .before .before .before .before .before .before .before .before .before .before .before .before .before .collect-gaps .last .1 .1 .1 .1 .1 .1 .1 .1 .1 .1 .0) (c .before .before .before .before .before .before .before .before .before .before .before .before .before .before .before .before .before .before .before .before .before .before .before .before .before .before .before .before .collect-gaps .last .1 .1 .1 .1 .1 .1 .1 .1 .1 .1 .1 .0) (c .before .before .before .before .before .before .before .before .before .before .before .before .before .before .before .before .before .before .before .before .before .before .before .before .before .before .before .before .collect-gaps .last .1 .1 .1 .1 .1 .1 .1 .1 .1 .1 .1 .1 .0) (c .before .before .before .before .before .before .before .before .before .before .before .before .before .before .before .before .before .before .before .before .before .before .before .before .before .before .before .before .collect-gaps .last .1 .1 .1 .1 .1 .1 .1 .1 .1 .1 .1 .1 .1 .1 .0)) (c .before .before .before .before .before .before .before .before .before .before .before .before .before .before .before .before .before .before .before .before .before .before .before .before .before .before .before .before .collect-gaps .last .1 .1 .1 .1 .1 .1 .1 .1 .1 .1 .1 .1 .1 .0) (c .before .before .before .before .before .before .before .before .before .before .before .before .before .before .before .before .before .before .before .before .before .before .before .before .before .before .before .before .collect-gaps .result .rows) (c .before .before .before .before .before .before .before .before .before .before .before .before .before .before .before .before .before .before .before .before .before .before .before .before .before .before .before .before .collect-gaps .ensures .0) (c .before .before .before .before .before .before .before .before .before .before .fill-segments .last .1 .1 .1 .1 .1 .0) (c .before .before .before .before .before .before .before .before .before .before .fill-segments .last .1 .1 .1 .1 .1 .1 .0) (c .before .before .before .before .before .before .before .before .before .before .fill-segments .last .1 .1 .1 .1 .1 .1 .1 .0) (c .before .before .before .before .before .before .before .before .before .before .fill-segments .last .1 .1 .1 .1 .1 .1 .1 .1 .0) (c .before .before .before .before .before .before .before .before .before .before .fill-segments .last .1 .1 .1 .1 .1 .1 .1 .1 .1 .0) (c .before .before .before .before .before .before .before .before .before .before .fill-segments .result)
-      (c .before .before .before .before .before .before .before .before .before .before .fill-segments .ensures .0) (c .before .before .before .before .before .before .before .before .before .before .fill-segments .ensures .1),
-      c .before .before .before .before .before .before .before .before .before .before .before .before .before .before .before .before .before .before .before .before .before .before .before .before .before .before .before .before .collect-gaps .ensures .1
+          (c .before .before .before .before .before .before .before .before .before .before .fill-segments .ensures .0) (c .before .before .before .before .before .before .before .before .before .before .fill-segments .ensures .1),
+      c .before .before .before .before .before .before .before .before .before .before .before .before .before .before .before .before .before .before .before .before .before .before .before .before .before .before .before .before .collect-gaps .ensures .1,
     )
 
 pub fill-gaps-spec : {M : Type 1} → statement M
