@@ -20,7 +20,7 @@ use Rattle.walkers.specs.Standing.{Ready, Known}
 use Rattle.walkers.proofs.Checked.{checked-ready}
 use Rattle.checks.specs.declared.job.Rooms.{Rooms}
 use Rattle.checks.specs.Job.{Job, sizesOf, limitsOf, scalesOf, sourceOfJob, reservedOfJob, registerOf}
-use Rattle.checks.specs.Refusals.{Line, noLine, firstBroken, jobLines, lines, line12, tableRefusalOf, refusalOf, Passed, Reported}
+use Rattle.checks.specs.Refusals.{Line, noLine, jobLines, lines, line12, tableRefusalOf, refusalOf, Passed, Reported}
 use Rattle.checks.proofs.FirstBroken.{accepted-passed, passed-accepted, refused-by-number, sound-before, sound-behind}
 use Rattle.checks.proofs.Sizes.{Limited, limited, Sized, sized, Roomy, roomy}
 

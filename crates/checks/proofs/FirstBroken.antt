@@ -1,12 +1,10 @@
 -- The first line broken, exactly: of any list of lines, what is answered names a line and a place if and only if the line is first broken there and those before it have passed
 use mathlib.Core.Path.{_≡_, refl, sym, ap, _∙_, subst}
-use mathlib.Core.Logic.{_⊎_, inl, inr}
-use mathlib.Core.Bool.{Bool, true, false, cond, true≢false}
+use mathlib.Core.Logic.{inl, inr}
 use mathlib.Core.List.{List, [], _∷_, _++_}
 use Prim.Native.Nat.{ℕ, zero, suc, _≤_, _<_, zero-le, suc-le-suc}
-use native.Mathlib.Nat.{lt-of-lt-of-le, le-of-suc-le-suc, not-suc-le-zero, lt-irrefl}
+use native.Mathlib.Nat.{lt-of-lt-of-le, le-of-suc-le-suc, not-suc-le-zero}
 use native.Mathlib.Omega.{arith}
-use lib.Dec.{ltb}
 use lib.ListN.{length, getD}
 use borrow.Author.Tests.{lt-ltb, le-ltb}
 use Rattle.numbers.proofs.Tests.{cond-true, cond-false}
@@ -35,10 +33,6 @@ first-is-bad l p f = first-found (l .broken) (l .places) p (f .inside) (f .befor
 
 passed-none : (l : Line) → Passed l → l .places ≡ badPlace l
 passed-none l f = first-none (l .broken) (l .places) f
-
--- a line cannot be both
-not-passed : (l : Line) (p : ℕ) → FirstAt l p → Passed l → ⊥
-not-passed l p f g = true≢false (sym (f .broken) ∙ g p (f .inside))
 
 -- ---- a list: what its first line makes of the answer
 pub answer-here : (l : Line) (ls : List Line) → firstBelow (l .broken) (l .places) < l .places → firstBroken (l ∷ ls) ≡ refusal (l .number) (firstBelow (l .broken) (l .places))

@@ -1,6 +1,6 @@
 -- What parameters and sizes satisfy that lines 1, 2 and 12 have passed: each clause as a fact
 use mathlib.Core.Path.{_≡_}
-use mathlib.Core.Bool.{Bool, false, _||_}
+use mathlib.Core.Bool.{Bool, false}
 use Prim.Native.Nat.{ℕ, zero, suc, _+_, _≤_, _<_}
 use native.Mathlib.Nat.{not-suc-le-zero, le-of-suc-le-suc}
 use native.Mathlib.Omega.{arith}
@@ -11,7 +11,7 @@ use Rattle.links.specs.Blocks.{itemLimit}
 use Rattle.jobs.proofs.Sound.{or-parts}
 use Rattle.checks.specs.declared.job.Rooms.{Rooms}
 use Rattle.checks.specs.declared.job.Sizes.{Sizes}
-use Rattle.checks.specs.Refusals.{badParameters, someLong, badSizes, tooShort, line12, adjustmentLimit, unitLimit, Passed, FewItems}
+use Rattle.checks.specs.Refusals.{badParameters, someLong, badSizes, line12, adjustmentLimit, unitLimit, Passed, FewItems}
 
 -- line 1
 pub record Limited (k move load indirect : ℕ) : Type 0 where

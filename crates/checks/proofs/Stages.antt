@@ -1,13 +1,11 @@
 -- The groups of lines that the code checks one after another: what each leaves for the next, and the whole answer
 use mathlib.Core.Path.{_≡_, refl, sym, ap, _∙_, subst}
-use mathlib.Core.Logic.{_⊎_, inl, inr}
+use mathlib.Core.Logic.{inl, inr}
 use mathlib.Core.List.{List, [], _∷_, _++_}
 use Prim.Native.Nat.{ℕ, _-_, _*_, _≤_, _<_}
-use native.Mathlib.Nat.{le-refl, le-trans, le-of-eq}
 use native.Mathlib.Omega.{arith}
 use lib.ListN.{length, getD}
 use lib.Dec.{lit≤}
-use borrow.Author.Tests.{ltb-false}
 use Rattle.links.specs.First.{firstBelow}
 use Rattle.links.specs.Blocks.{BlockRow, blocksOf, startOf, badBlock, checkOf, itemLimit, endLimit, SoundBlocks}
 use Rattle.links.specs.declared.blocks.Refusal.{Refusal}

@@ -1,12 +1,11 @@
 -- What a function finds of a line, so many places and the first bad one, makes the answer of a list that begins with it
-use mathlib.Core.Path.{_≡_, refl, sym, ap, _∙_, subst}
+use mathlib.Core.Path.{_≡_, sym, ap, _∙_, subst}
 use mathlib.Core.Bool.{Bool, true, false}
 use mathlib.Core.List.{List, [], _∷_}
-use Prim.Native.Nat.{ℕ, _≤_, _<_, zero-le, suc-le-suc}
+use Prim.Native.Nat.{ℕ, _≤_, _<_}
 use native.Mathlib.Nat.{not-suc-le-zero, le-refl}
 use Rattle.numbers.proofs.Tests.{cond-true}
 use borrow.Author.Tests.{lt-ltb}
-use lib.Dec.{ltb}
 use Rattle.links.specs.First.{firstBelow}
 use Rattle.links.specs.Blocks.{refusal}
 use Rattle.links.specs.declared.blocks.Checked.{Checked}

@@ -1,6 +1,5 @@
 -- `sizes_of` counts each table
-use mathlib.Core.Path.{_≡_, refl}
-use Prim.Native.Nat.{ℕ}
+use mathlib.Core.Path.{refl}
 use Rattle.checks.specs.declared.job.Sizes.{Sizes}
 use Rattle.checks.proofs.Sizes.{sizes-by}
 use borrow.Author.Needs.{needs}

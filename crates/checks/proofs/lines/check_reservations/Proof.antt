@@ -2,7 +2,6 @@
 use mathlib.Core.Path.{refl, sym, _∙_}
 use mathlib.Core.List.{List}
 use native.Mathlib.Nat.{le-trans, le-of-eq}
-use Rattle.jobs.specs.declared.rows.Reservation.{Reservation}
 use Rattle.jobs.specs.declared.rows.FixedUse.{FixedUse}
 use Rattle.jobs.specs.Rows.{reservationsOf, fixedUsesOf}
 use Rattle.checks.specs.Refusals.{Line, line9, line10, line11}

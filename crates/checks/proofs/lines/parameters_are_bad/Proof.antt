@@ -1,9 +1,8 @@
 -- `parameters_are_bad` finds the first part of its definition that holds
 use mathlib.Core.Path.{refl, sym}
-use borrow.Author.Tests.{lt-ltb, le-ltb, eq-eqb, ne-eqb}
+use borrow.Author.Tests.{lt-ltb, le-ltb}
 use Rattle.checks.specs.Refusals.{badParameters}
 use Rattle.jobs.proofs.Walk.{or-first, or-second, or-none}
-use borrow.Author.Needs.{needs}
 use Rattle.checks.proofs.lines.parameters_are_bad.Statement.{statement}
 use Rattle.checks.proofs.lines.parameters_are_bad.Tie as tie
 

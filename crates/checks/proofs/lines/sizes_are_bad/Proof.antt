@@ -1,5 +1,5 @@
 -- `sizes_are_bad` finds the first part of its definition that holds
-use mathlib.Core.Path.{refl, sym}
+use mathlib.Core.Path.{sym}
 use borrow.Author.Tests.{lt-ltb, le-ltb, eq-eqb, ne-eqb}
 use Rattle.checks.specs.Refusals.{badSizes}
 use Rattle.jobs.proofs.Walk.{or-first, or-second, or-none}

@@ -1,9 +1,8 @@
 -- `some_long` finds the first part of its definition that holds
 use mathlib.Core.Path.{refl, sym}
-use borrow.Author.Tests.{lt-ltb, le-ltb, eq-eqb, ne-eqb}
+use borrow.Author.Tests.{lt-ltb, le-ltb}
 use Rattle.checks.specs.Refusals.{someLong}
 use Rattle.jobs.proofs.Walk.{or-first, or-second, or-none}
-use borrow.Author.Needs.{needs}
 use Rattle.checks.proofs.lines.some_long.Statement.{statement}
 use Rattle.checks.proofs.lines.some_long.Tie as tie
 

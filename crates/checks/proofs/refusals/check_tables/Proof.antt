@@ -1,16 +1,14 @@
 -- `check_tables` answers the first of lines 1 to 11 that is broken, group by group
 use mathlib.Core.Path.{_≡_, refl, sym, ap, _∙_, subst}
-use mathlib.Core.List.{List, [], _∷_}
-use Prim.Native.Nat.{ℕ}
-use lib.ListN.{length}
+use mathlib.Core.List.{[], _∷_}
 use Rattle.links.specs.Blocks.{checkOf}
 use Rattle.links.specs.declared.blocks.Checked.{Checked}
 use Rattle.links.specs.declared.blocks.Checked.the-variants.{Sound}
 use Rattle.jobs.specs.declared.rows.Limits.{Limits}
 use Rattle.checks.specs.declared.job.Sizes.{Sizes}
-use Rattle.checks.specs.Job.{Job, jobOf, sizesOf, limitsOf}
-use Rattle.checks.specs.Refusals.{Line, firstBroken, line1, line2, line4, line5, line6, line7, line8, line9, line10, line11, limitsBy, LastEnd, Held}
-use Rattle.checks.proofs.Stages.{sizeLines, segmentLines, reservationLines, sizes-refused, job-sized, blocks-refused, job-blocks, values-refused, segments-refused, reservations-answer, segments-held, reservations-few, last-end-held, limits-by}
+use Rattle.checks.specs.Job.{Job, jobOf, limitsOf}
+use Rattle.checks.specs.Refusals.{firstBroken, line1, line2, line4, line5, line6, line7, line8, line9, line10, line11, Held}
+use Rattle.checks.proofs.Stages.{sizeLines, segmentLines, sizes-refused, job-sized, blocks-refused, job-blocks, values-refused, segments-refused, reservations-answer, segments-held, reservations-few, last-end-held, limits-by}
 use borrow.Author.Needs.{needs}
 use Rattle.checks.proofs.refusals.check_tables.Statement.{statement}
 use Rattle.checks.proofs.refusals.check_tables.Tie as tie
