@@ -1,27 +1,31 @@
 -- What an accepted job satisfies, and the twelve lines by their numbers
-use mathlib.Core.Path.{_≡_, refl, _∙_}
+use mathlib.Core.Path.{_≡_, refl, sym, _∙_, subst}
 use mathlib.Core.Bool.{Bool, true, false, _&&_}
 use mathlib.Core.List.{List, [], _∷_}
-use Prim.Native.Nat.{ℕ, zero, suc, _+_, _≤_, _<_}
+use Prim.Native.Nat.{ℕ, zero, suc, _+_, _*_, _≤_, _<_}
 use native.Mathlib.Nat.{not-suc-le-zero, le-of-suc-le-suc}
 use native.Mathlib.Omega.{arith}
 use lib.Dec.{T, eqb, lit≤}
 use lib.Ieee.Bits.{is-true}
 use lib.Ieee.Fits.{and-l, and-r}
-use lib.ListN.{length, getD}
+use lib.ListN.{length, getD, take}
+use lib.Seq.{length-take-le}
 use borrow.Author.Tests.{ltb-false, eqb-true}
 use Rattle.numbers.specs.Weight.{weightLimit}
 use Rattle.numbers.proofs.UseCosts.{Scales, value-cost}
-use Rattle.links.specs.Blocks.{refusal, SoundBlocks}
+use Rattle.links.specs.Blocks.{blocksOf, refusal, endLimit, SoundBlocks, SoundColumns}
 use Rattle.links.specs.declared.blocks.Checked.the-variants.{Sound}
+use Rattle.links.proofs.Answers.{in-freqs, in-firsts, in-ends}
+use Rattle.links.proofs.Columns.{part-list}
 use Rattle.jobs.specs.Lines.{badValue, badSegment, badDefAt, badUseAt, badEndAt, badWeight, badReservation, badFixedUseAt}
 use Rattle.walks.specs.CheckedUses.{CheckedUses}
 use Rattle.walkers.specs.Standing.{Ready, Known}
 use Rattle.walkers.proofs.Checked.{checked-ready}
 use Rattle.checks.specs.declared.job.Rooms.{Rooms}
-use Rattle.checks.specs.Job.{Job, sizesOf, limitsOf, scalesOf, sourceOfJob, reservedOfJob, registerOf}
+use Rattle.checks.specs.Job.{Job, sizesOf, lastEnd, limitsOf, scalesOf, sourceOfJob, reservedOfJob, registerOf}
 use Rattle.checks.specs.Refusals.{Line, noLine, jobLines, lines, line12, tableRefusalOf, refusalOf, Passed, Reported}
 use Rattle.checks.proofs.FirstBroken.{accepted-passed, passed-accepted, refused-by-number, sound-before, sound-behind}
+use Rattle.checks.proofs.Stages.{last-limited}
 use Rattle.checks.proofs.Sizes.{Limited, limited, Sized, sized, Roomy, roomy}
 
 -- ---- the twelve lines: line n + 1 stands at place n
@@ -57,6 +61,16 @@ pub job-accepted-exactly : (job : Job) (rooms : Rooms)
     → (refusalOf job rooms ≡ Sound → (i : ℕ) → i < length (lines job rooms) → Passed (getD (lines job rooms) i noLine)) × (((i : ℕ) → i < length (lines job rooms) → Passed (getD (lines job rooms) i noLine)) → refusalOf job rooms ≡ Sound)
 job-accepted-exactly job rooms = (accepted-passed (lines job rooms), passed-accepted (lines job rooms))
 
+-- ---- block columns of any lengths, cut to as many rows as there are blocks
+pub cut-columns : (freqs firsts ends : List ℕ) (n : ℕ) → n ≡ length (blocksOf freqs firsts ends) → SoundBlocks (blocksOf freqs firsts ends) → SoundColumns (take n freqs) (take n firsts) (take n ends)
+cut-columns freqs firsts ends n e sound =
+    let f = length-take-le n freqs (in-freqs freqs firsts ends n e) in
+    record {
+      firsts-long = length-take-le n firsts (in-firsts freqs firsts ends n e) ∙ sym f;
+      ends-long = length-take-le n ends (in-ends freqs firsts ends n e) ∙ sym f;
+      sound = subst SoundBlocks (sym (part-list freqs firsts ends n e)) sound;
+    }
+
 -- ---- what a job satisfies that has passed lines 1 to 11
 pub record Accepted (job : Job) : Type 0 where
   pub parameters : Limited (job .k) (job .cheaperThanMove) (job .cheaperThanLoad) (job .indirect)
@@ -76,6 +90,7 @@ pub record Accepted (job : Job) : Type 0 where
   pub uses : CheckedUses (sourceOfJob job)
   pub reserved : Ready (reservedOfJob job)
   pub register : Known (registerOf job)
+  pub end-limited : limitsOf job .end ≤ 4 * endLimit
 
 pub tables-accepted : (job : Job) → tableRefusalOf job ≡ Sound → Accepted job
 tables-accepted job e =
@@ -83,7 +98,7 @@ tables-accepted job e =
       parameters = limited (job .k) (job .cheaperThanMove) (job .cheaperThanLoad) (job .indirect) (line 0 (lit≤ tt) 0 (lit≤ tt));
       scales = record { move = value-cost (job .cheaperThanMove); load = value-cost (job .cheaperThanLoad); indirectly = value-cost (job .indirect) };
       sizes = size;
-      blocks = record { some = size .some-blocks; few = size .items .blocks; each = line 2 (lit≤ tt) };
+      blocks = sound;
       line4 = line 3 (lit≤ tt);
       line5 = line 4 (lit≤ tt);
       line6 = line 5 (lit≤ tt);
@@ -107,6 +122,7 @@ tables-accepted job e =
       };
       reserved = checked-ready (limitsOf job) (reservedOfJob job) refl (line 9 (lit≤ tt)) (line 10 (lit≤ tt));
       register = record { few = size .few-units; fits = small (job .units) (size .few-units) };
+      end-limited = four (lastEnd job) endLimit (last-limited (job .blocks) sound);
     }
   where
     line : (i : ℕ) → i < length (jobLines job) → Passed (getD (jobLines job) i noLine)
@@ -115,8 +131,14 @@ tables-accepted job e =
     size : Sized (job .units) (sizesOf job)
     size = sized (job .units) (sizesOf job) (line 1 (lit≤ tt) 0 (lit≤ tt))
 
+    sound : SoundBlocks (job .blocks)
+    sound = record { some = size .some-blocks; few = size .items .blocks; each = line 2 (lit≤ tt) }
+
     small : (n : ℕ) → n ≤ 8 → 0 + n ≤ 4294967295
     small n h = omega (arith, h)
+
+    four : (a b : ℕ) → a ≤ b → 4 * a ≤ 4 * b
+    four a b h = omega (arith, h)
 
 -- ---- what a job and its lent tables satisfy that have passed lines 1 to 12
 pub job-accepted : (job : Job) (rooms : Rooms) → refusalOf job rooms ≡ Sound → Accepted job

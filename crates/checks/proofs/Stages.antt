@@ -108,6 +108,14 @@ module _ (job : Job) where
   pub reservations-few : Sized (job .units) (sizesOf job) → Few (length (job .weights)) (length (job .reservations)) (length (job .fixedUses))
   reservations-few s = record { weights = s .items .weights; reservations = s .items .reservations; fixedUses = s .items .fixedUses }
 
+-- the end of the last block is limited
+pub last-limited : (blocks : List BlockRow) → SoundBlocks blocks → startOf blocks (length blocks) ≤ endLimit
+last-limited blocks sound =
+    subst (λ (x : ℕ). x ≤ endLimit) (sym (last-end blocks (sound .some))) (row-good blocks sound (length blocks - 1) (less (length blocks) (sound .some)) .limited)
+  where
+    less : (n : ℕ) → 0 < n → n - 1 < n
+    less n h = omega arith
+
 -- the end of the last block, in its column, and the limits that it gives
 abbrev limitsTo : Job → ℕ → Limits
 limitsTo job x = record { values = length (job .codes); uses = length (job .uses); weights = length (job .weights); units = job .units; end = 4 * x }
@@ -119,12 +127,8 @@ module _ (freqs firsts ends : List ℕ) where
       record {
         some = subst (λ (m : ℕ). 0 < m) (sym e) (sound .some);
         inside = in-ends freqs firsts ends n e;
-        limited = subst (λ (x : ℕ). x ≤ endLimit) (sym (last-column freqs firsts ends n e (sound .some) ∙ last-end blocks (sound .some)))
-            (row-good blocks sound (length blocks - 1) (less (length blocks) (sound .some)) .limited);
+        limited = subst (λ (x : ℕ). x ≤ endLimit) (sym (last-column freqs firsts ends n e (sound .some))) (last-limited blocks sound);
       }
-    where
-      less : (n : ℕ) → 0 < n → n - 1 < n
-      less n h = omega arith
 
   pub limits-by : (job : Job) (t : Sizes) → job .blocks ≡ blocksOf freqs firsts ends → SoundBlocks (job .blocks) → t ≡ sizesOf job → limitsBy ends (job .units) t ≡ limitsOf job
   limits-by job t same sound e =
