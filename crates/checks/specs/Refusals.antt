@@ -173,14 +173,14 @@ pub record SomeReported (ls : List Line) (n p : ℕ) : Type 0 where
 abbrev pub verdictOf : ℕ → ℕ → ℕ → Checked
 verdictOf number bad places = cond (ltb bad places) (refusal number bad) Sound
 
--- what the lines of segments and uses rely on: lines 1 to 4 have passed, and the limits are the job's
+-- what lines 5 to 8 rely on: line 2 has passed, and the limits count the uses
 pub record Held (limits : Limits) (uses : List Use) (segments : List Segment) : Type 0 where
   pub some : 0 < length segments
   pub few-segments : length segments ≤ itemLimit
   pub few-uses : length uses ≤ itemLimit
   pub counted : limits .uses ≡ length uses
 
--- what the last lines rely on
+-- what lines 9 to 11 rely on: line 2 has passed
 pub record Few (w e f : ℕ) : Type 0 where
   pub weights : w ≤ itemLimit
   pub reservations : e ≤ itemLimit

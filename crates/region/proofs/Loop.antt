@@ -8,23 +8,26 @@ use mathlib.Core.List.{List, append-nil}
 use lib.Dec.{T, lit<}
 use lib.Ieee.{Float, binary32, add}
 use Rattle.numbers.specs.Weight.{Weight, finite, unitsOf, zeroWeight, heavier, heaviest}
-use Rattle.numbers.proofs.Tests.{cond-true, cond-false}
+use Rattle.numbers.proofs.Tests.{cond-both, cond-true, cond-false}
 use Rattle.numbers.proofs.Units.{units-inj, zero-finite, zero-units}
 use Rattle.numbers.proofs.Rounding.{rounded, round-fixed}
 use Rattle.numbers.proofs.Operations.{sum-weight, sum-units}
 use Rattle.numbers.proofs.Heaviest.{Weights}
 use Rattle.links.specs.declared.lower.Side.{Side}
 use Rattle.region.specs.Growth.{GapsSeen, Span, State, ownSpan, gapsOf, weightsMet, heaviestMet, weightTest, outside, withGap, passes, passesOn, isOpen, sideTried, barred, grows, tryOn, tryAt, try, growth, grown}
-use Rattle.region.specs.Proposal.{proposalOf, regionOf}
+use Rattle.region.specs.Proposal.{proposalWith, proposalOf, regionOf}
 use Rattle.region.specs.Demand.{Around, Ended, SoundGaps}
-use Rattle.region.specs.Columns.{grownOf, growthOf, Inside, CountFits, triedOf, testedOf, afterTry}
+use Rattle.region.specs.Columns.{grownOf, growthOf, spanOf, stateOf, Inside, CountFits, triedOf, testedOf, startAt, afterTry, Going}
 use Rattle.region.specs.declared.growth.Grown.{Grown}
+use Rattle.region.specs.declared.growth.Growth.{Growth}
+use Rattle.region.specs.declared.growth.Tried.{Tried}
 use Rattle.region.specs.declared.growth.Turn.{Turn}
 use Rattle.region.specs.declared.growth.Turn.the-variants.{Try, End}
 use Rattle.region.specs.declared.proposal.Region.the-variants.{Found, Nothing}
-use Rattle.region.proofs.Tries.{not-is, is-true, turn-cases, growth-around, ended-stays, growth-same}
-use Rattle.region.proofs.Spans.{between-one, tried-insts-few}
+use Rattle.region.proofs.Tries.{not-is, is-true, turn-cases, leftToTry, fewer-grown, fewer-barred, growth-around, ended-stays, growth-same}
+use Rattle.region.proofs.Spans.{between-one, outside-inside, tried-insts-few}
 use Rattle.region.proofs.Meetings.{heaviest-with-gap}
+use Rattle.region.proofs.Proposals.{growth-met}
 use Rattle.region.proofs.Steps.{tested-is}
 
 module _ (seen : GapsSeen) where
@@ -132,3 +135,89 @@ module _ (seen : GapsSeen) where
   pub answer-nothing : T (not (passes seen (seen .own) (ownSpan seen))) → Nothing ≡ regionOf seen
   unfolding regionOf
   answer-nothing t = sym (cond-false (Found (proposalOf seen (grown seen))) Nothing (not-is (passes seen (seen .own) (ownSpan seen)) t))
+
+  -- ---- a loop over tries: it starts after the own gap has passed, goes on by a try on the side whose turn it is, and ends with the answer
+  pub going-start : T (passes seen (seen .own) (ownSpan seen)) → Going seen (startAt (grownOf seen (ownSpan seen)))
+  unfolding growth
+  going-start t = record { own-passes = t; tries = 0; is-after = refl }
+
+  pub going-inside : seen .own < seen .count → (now : Growth) → Going seen now → Inside (seen .count) (now .region)
+  going-inside h now g = subst (λ (x : Growth). Inside (seen .count) (x .region)) (sym (g .is-after)) (growth-inside h (g .tries))
+
+  -- what is tried on the side whose turn it is
+  abbrev pub Tries : Growth → Side → Tried → Type 0
+  Tries now side t = t ≡ triedOf (passesOn side seen (spanOf (now .region))) (grownOf seen (withGap side seen (spanOf (now .region))))
+
+  abbrev pub TurnOf : Growth → Turn → Type 0
+  TurnOf now t = t ≡ sideTried (seen .count) (seen .freq) (seen .live) (stateOf now)
+
+  -- the side is open
+  pub going-open : (now : Growth) (side : Side) → TurnOf now (Try side) → T (isOpen side seen (stateOf now))
+  going-open now side e = turn-open (stateOf now) side (sym e)
+
+  -- the outcome of a try
+  pub going-after : (now : Growth) (side : Side) (t : Tried) → Going seen now → TurnOf now (Try side) → Tries now side t → Going seen (afterTry side t now)
+  unfolding growth
+  going-after now side t g turn e =
+      let st = growth seen (g .tries) in
+      let f = g .is-after in
+      let turned : Try side ≡ sideTried (seen .count) (seen .freq) (seen .live) st = subst (λ (x : Growth). TurnOf x (Try side)) f turn in
+      let tried : Tries (growthOf seen st) side t = subst (λ (x : Growth). Tries x side t) f e in
+      record {
+        own-passes = g .own-passes;
+        tries = suc (g .tries);
+        is-after = ap (afterTry side t) f ∙ ap (λ (x : Tried). afterTry side x (growthOf seen st)) tried ∙ after-try st side ∙ ap (growthOf seen) (sym (turn-tries st side (sym turned)));
+      }
+
+  -- leaves fewer to try
+  fewer-tried : (st : State) (side : Side) → T (isOpen side seen st) → leftToTry seen (tryOn side seen st) < leftToTry seen st
+  unfolding tryOn
+  fewer-tried st side o =
+      cond-both (λ (s : State). leftToTry seen s < leftToTry seen st) (passesOn side seen (st .region)) (grows side seen st) (barred side st) (λ _. fewer-grown seen st side o) (λ _. fewer-barred seen st side o)
+
+  pub going-less : (now : Growth) (side : Side) (t : Tried) → Going seen now → TurnOf now (Try side) → Tries now side t → leftToTry seen (stateOf (afterTry side t now)) < leftToTry seen (stateOf now)
+  going-less now side t g turn e =
+      let st = growth seen (g .tries) in
+      let f = g .is-after in
+      let turned : Try side ≡ sideTried (seen .count) (seen .freq) (seen .live) st = subst (λ (x : Growth). TurnOf x (Try side)) f turn in
+      let tried : Tries (growthOf seen st) side t = subst (λ (x : Growth). Tries x side t) f e in
+      subst (λ (x : Growth). leftToTry seen (stateOf (afterTry side t x)) < leftToTry seen (stateOf x)) (sym f)
+      (subst (λ (x : Growth). leftToTry seen (stateOf x) < leftToTry seen st) (sym (ap (λ (x : Tried). afterTry side x (growthOf seen st)) tried ∙ after-try st side)) (fewer-tried st side (turn-open st side (sym turned))))
+
+  -- at the end the region's proposal is the answer
+  pub going-found : seen .own < seen .count → (now : Growth) → Going seen now → TurnOf now End
+      → Found (proposalWith (seen .count) (seen .first) (seen .freq) (spanOf (now .region)) (now .region .heaviest)) ≡ regionOf seen
+  going-found h now g turn =
+      let st = growth seen (g .tries) in
+      let f = g .is-after in
+      let turned : End ≡ sideTried (seen .count) (seen .freq) (seen .live) st = subst (λ (x : Growth). TurnOf x End) f turn in
+      ap (λ (x : Growth). Found (proposalWith (seen .count) (seen .first) (seen .freq) (spanOf (x .region)) (x .region .heaviest))) f
+      ∙ answer-found h (g .own-passes) (g .tries) (turn-ended st (sym turned))
+
+  -- ---- what the code knows of the gap tried
+  -- a gap that is free, with the heaviest weight of the region and of the gap
+  pub going-tested : SoundGaps seen → seen .numerator ≡ 2007 → (now : Growth) (side : Side) → Going seen now → TurnOf now (Try side)
+      → Tries now side (testedOf (not (seen .fixed (outside side (spanOf (now .region))))) (now .region) (seen .weight (outside side (spanOf (now .region)))) (seen .live (outside side (spanOf (now .region)))) (heavier (now .region .heaviest) (heaviest (seen .met (outside side (spanOf (now .region)))))) (seen .k) (withGap side seen (spanOf (now .region)) .left) (withGap side seen (spanOf (now .region)) .right))
+  going-tested sound e now side g turn =
+      let st = growth seen (g .tries) in
+      let f = g .is-after in
+      let a = growth-around seen (sound .inside) (g .tries) in
+      let o = turn-open st side (sym (subst (λ (x : Growth). TurnOf x (Try side)) f turn)) in
+      subst
+      (λ (x : Growth). Tries x side
+      (testedOf (not (seen .fixed (outside side (spanOf (x .region))))) (x .region) (seen .weight (outside side (spanOf (x .region)))) (seen .live (outside side (spanOf (x .region)))) (heavier (x .region .heaviest) (heaviest (seen .met (outside side (spanOf (x .region)))))) (seen .k) (withGap side seen (spanOf (x .region)) .left) (withGap side seen (spanOf (x .region)) .right)))
+      (sym f) (tested-step e st side o a (growth-met seen sound (g .tries)) (sound .met (outside side (st .region)) (outside-inside seen st side o a)))
+
+  pub going-count-fits : SoundGaps seen → (now : Growth) (side : Side) → Going seen now → TurnOf now (Try side) → CountFits (now .region) (seen .live (outside side (spanOf (now .region))))
+  going-count-fits sound now side g turn =
+      let f = g .is-after in
+      subst (λ (x : Growth). CountFits (x .region) (seen .live (outside side (spanOf (x .region))))) (sym f)
+      (growth-count-fits sound (g .tries) side (turn-open (growth seen (g .tries)) side (sym (subst (λ (x : Growth). TurnOf x (Try side)) f turn))))
+
+  -- the gap tried is one of the table's
+  pub going-gap : SoundGaps seen → (now : Growth) (side : Side) → Going seen now → TurnOf now (Try side) → outside side (spanOf (now .region)) < seen .count
+  going-gap sound now side g turn =
+      let st = growth seen (g .tries) in
+      let f = g .is-after in
+      subst (λ (x : Growth). outside side (spanOf (x .region)) < seen .count) (sym f)
+      (outside-inside seen st side (turn-open st side (sym (subst (λ (x : Growth). TurnOf x (Try side)) f turn))) (growth-around seen (sound .inside) (g .tries)))

@@ -1,11 +1,13 @@
 -- For contracts of private functions: gaps in their lent columns, and a region as the code holds it
 use Prim.Native.Nat.{ℕ, _+_, _^_, _≤_, _<_}
+use mathlib.Core.Path.{_≡_}
 use mathlib.Core.Bool.{Bool, true, false, not, _&&_, cond}
 use mathlib.Core.List.{List}
+use lib.Dec.{T}
 use lib.Ieee.{Float, nan, binary32, add}
 use lib.ListN.{getD}
 use Rattle.numbers.specs.Normal.{normalised, exceeds}
-use Rattle.region.specs.Growth.{GapsSeen, Span, State, heaviestMet, onSide}
+use Rattle.region.specs.Growth.{GapsSeen, Span, State, ownSpan, heaviestMet, onSide, passes, growth}
 use Rattle.links.specs.declared.lower.Side.{Side}
 use Rattle.region.specs.declared.growth.Grown.{Grown}
 use Rattle.region.specs.declared.growth.Growth.{Growth}
@@ -90,3 +92,9 @@ abbrev pub afterTry : Side → Tried → Growth → Growth
 afterTry side (Grows g) growth = record { region = g; «left_barred» = growth .«left_barred»; «right_barred» = growth .«right_barred» }
 afterTry side Fails growth =
     record { region = growth .region; «left_barred» = onSide side true (growth .«left_barred»); «right_barred» = onSide side (growth .«right_barred») true }
+
+-- the code's growth is that after some tries, and the own gap has passed
+pub record Going (seen : GapsSeen) (now : Growth) : Type 0 where
+  pub own-passes : T (passes seen (seen .own) (ownSpan seen))
+  pub tries : ℕ
+  pub is-after : now ≡ growthOf seen (growth seen tries)
