@@ -1,4 +1,5 @@
--- Cases by hand, which the definitions compute: document 01's cases A and M, the limits of lines 1, 2 and 12, and jobs that break two lines
+-- Cases by hand, which the definitions compute: document 01's cases A and M, the limits of lines 1, 2 and 12, and jobs that break
+-- two lines
 use mathlib.Core.Path.{_≡_, refl}
 use mathlib.Core.List.{List, [], _∷_}
 use Prim.Native.Nat.{ℕ}

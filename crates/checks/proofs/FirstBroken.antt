@@ -1,4 +1,5 @@
--- The first line broken, exactly: of any list of lines, what is answered names a line and a place if and only if the line is first broken there and those before it have passed
+-- The first line broken, exactly: of any list of lines, what is answered names a line and a place if and only if the line is
+-- first broken there and those before it have passed
 use mathlib.Core.Path.{_≡_, refl, sym, ap, _∙_, subst}
 use mathlib.Core.Logic.{inl, inr}
 use mathlib.Core.List.{List, [], _∷_, _++_}

@@ -17,7 +17,8 @@ use Rattle.walkers.specs.declared.meeting.Register.{Register}
 use Rattle.checks.specs.declared.job.Parameters.{Parameters}
 use Rattle.checks.specs.declared.job.Sizes.{Sizes}
 
--- a job: the adjustment k, the bits of its three scales, the number of units, and its seven tables; codes are those of the values, weights are bits
+-- a job: the adjustment k, the bits of its three scales, the number of units, and its seven tables; codes are those of the
+-- values, weights are bits
 pub record Job : Type 0 where
   pub k : ℕ
   pub cheaperThanMove : ℕ

@@ -82,11 +82,14 @@ line3 blocks = record { number = 3; places = length blocks; broken = badBlock bl
 abbrev pub line4 : List ℕ → Line
 line4 codes = record { number = 4; places = length codes; broken = badValue codes }
 
--- segment: start not below end, slot 3, end above 4 times the last block's end, start before the previous end, unknown value, flags above 15, use list not starting where the last one ended (0 at first), ending before it starts or past the uses, or, for the last, short of them
+-- segment: start not below end, slot 3, end above 4 times the last block's end, start before the previous end, unknown value,
+-- flags above 15, use list not starting where the last one ended (0 at first), ending before it starts or past the uses, or, for
+-- the last, short of them
 abbrev pub line5 : Limits → List Segment → Line
 line5 limits segments = record { number = 5; places = length segments; broken = badSegment limits segments }
 
--- fixed-def flag, and the start isn't a Boundary of instruction 1 or later, or the first use is missing or isn't kind 0 at the instruction before
+-- fixed-def flag, and the start isn't a Boundary of instruction 1 or later, or the first use is missing or isn't kind 0 at the
+-- instruction before
 abbrev pub line6 : List Use → List Segment → Line
 line6 uses segments = record { number = 6; places = length segments; broken = badDefAt uses segments }
 
@@ -94,7 +97,8 @@ line6 uses segments = record { number = 6; places = length segments; broken = ba
 abbrev pub line7 : Limits → List Use → List Segment → Line
 line7 limits uses segments = record { number = 7; places = length uses; broken = badUseAt limits uses segments }
 
--- live-out segment whose end isn't a Boundary or that has a use at its end's instruction; last segment not live-out and either without a use or with an end that, rounded up to an instruction, is later than one after its last use
+-- live-out segment whose end isn't a Boundary or that has a use at its end's instruction; last segment not live-out and either
+-- without a use or with an end that, rounded up to an instruction, is later than one after its last use
 abbrev pub line8 : List Use → List Segment → Line
 line8 uses segments = record { number = 8; places = length segments; broken = badEndAt uses segments }
 
