@@ -1,0 +1,12 @@
+// Checks: document 01's refusals 1 to 12 in order, for a whole job and the tables that are lent with it.
+//
+// Here: `check_tables` (lines 1 to 11) and `check_job` (lines 1 to 12), which answer the first line that a job breaks, with the
+// first place at which it does, or Sound.
+// Proved: each answer is that of specs/Refusals, where the table is a list of lines in the table's order. proofs/FirstBroken says of
+// any such list that a refusal names a line and a place exactly if the line is broken there, at no place before, and no line before
+// it is broken. proofs/Accepted says what an accepted job satisfies.
+// A caller should know: neither has a `requires`, and nothing is lent to be written. The functions of groups of lines (`lines`) are
+// for this crate alone: each relies on the lines before its own.
+pub mod job;
+pub mod lines;
+pub mod refusals;
