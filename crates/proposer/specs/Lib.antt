@@ -1,0 +1,2 @@
+-- The proposal of a whole job
+pub mod View

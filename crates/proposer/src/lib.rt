@@ -1,0 +1,1 @@
+// Proposer: the call that proposes a split for a whole job.
