@@ -10,8 +10,8 @@ use Rattle.walkers.specs.Gaps.{GapColumns, gapColumns}
 use Rattle.gaps.specs.Gaps.{Gap, weightOf, gapsOf, initialGap}
 use Rattle.tables.specs.GapTables.{fromsOf, livesOf, segmentsOf}
 use Rattle.region.specs.Growth.{GapsSeen}
-use Rattle.split.specs.Find.{seenBy}
-use Rattle.checks.specs.Job.{Job, sourceOfJob, reservedOfJob, registerOf}
+use Rattle.region.specs.Find.{seenBy}
+use Rattle.verdict.specs.Job.{Job, sourceOfJob, reservedOfJob, registerOf}
 
 -- the starts, ends and values of a job's segments
 abbrev pub startsOf : Job → List ℕ

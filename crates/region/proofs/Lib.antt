@@ -8,4 +8,5 @@ pub mod Proposals
 pub mod Evictions
 pub mod Steps
 pub mod Loop
+pub mod Growing
 pub mod Cases

@@ -1,6 +1,8 @@
--- What the region layer computes: growth, the proposal, what demand 3 says of it, and evictions. Columns is for private functions.
+-- What the region layer computes: growth, the proposal, what demand 3 says of it, and evictions. Columns and OneTry are for private functions.
 pub mod Growth
 pub mod Proposal
 pub mod Demand
 pub mod Evictions
 pub mod Columns
+pub mod OneTry
+pub mod Find

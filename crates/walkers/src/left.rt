@@ -1,6 +1,6 @@
 // To the left: gap segments come in falling order.
-use crate::gaps::last_is_of_gap;
-use crate::gaps::segment_at;
+use crate::gap_rows::last_is_of_gap;
+use crate::gap_rows::segment_at;
 use crate::meeting::GapSegment;
 use crate::meeting::Met;
 use crate::meeting::Register;

@@ -8,7 +8,7 @@
 // Seen).
 // A caller should know: the rows and fixed uses are as lines 10 and 11 leave them (proofs/Checked), and gap segments come in order,
 // to the right rising, to the left falling: specs/Standing and specs/Gaps say where a walker must stand.
-mod gaps;
+mod gap_rows;
 pub mod left;
 pub mod meeting;
 pub mod right;

@@ -1,6 +1,6 @@
 // To the right: gap segments come in rising order.
-use crate::gaps::is_of_gap;
-use crate::gaps::segment_at;
+use crate::gap_rows::is_of_gap;
+use crate::gap_rows::segment_at;
 use crate::meeting::GapSegment;
 use crate::meeting::Met;
 use crate::meeting::Register;

@@ -1,0 +1,327 @@
+// The region around the best use's gap, grown try by try.
+use crate::growth::Grown;
+use crate::growth::Growth;
+use crate::growth::Tried;
+use crate::growth::Turn;
+use crate::growth::grow_next;
+use crate::growth::tested;
+use crate::one_try::try_left;
+use crate::one_try::try_right;
+use crate::proposal::Region;
+use crate::proposal::proposal_of;
+use links::lower::Side;
+use links::search::first_at_least;
+use numbers::Point;
+use walkers::left::LeftWalker;
+use walkers::meeting::Register;
+use walkers::right::RightWalker;
+ghost use mathlib.Core.Path.{_≡_};
+ghost use Prim.Native.Nat.{_≤_};
+ghost use lib.ListN.{length};
+ghost use Rattle.walkers.specs.Meeting.{reservedOf};
+ghost use Rattle.walkers.specs.Gaps.{gapColumns};
+ghost use Rattle.region.specs.Proposal.{regionOf};
+ghost use Rattle.region.specs.OneTry.{Walkable, Triable, triedOn};
+ghost use Rattle.region.specs.Find.{seenBy, InTable, Standing, Moved, Reached, Answers, pointAt};
+
+// Growth so far, and the walkers on both sides of its region.
+pub struct Stand {
+    pub growth: Growth,
+    pub left: LeftWalker,
+    pub right: RightWalker,
+}
+
+// A try on a side.
+fn try_side(
+    unit: &[u32],
+    start: &[u32],
+    end: &[u32],
+    kind: &[u32],
+    index: &[u32],
+    fixed: &[u32],
+    f_unit: &[u32],
+    f_point: &[u32],
+    f_value: &[u32],
+    spill_weight: &[u32],
+    out_from: &[u32],
+    out_to: &[u32],
+    out_value: &[u32],
+    out_gap: &[u32],
+    weight: &[f32],
+    live: &[u32],
+    register: Register,
+    k: u32,
+    side: Side,
+    stand: Stand,
+) -> Stand
+    requires { ⌜ Walkable register (reservedOf (now unit) (now start) (now end) (now kind) (now index) (now fixed) (now «f_unit») (now «f_point») (now «f_value») (now «spill_weight»)) (gapColumns (now «out_from») (now «out_to») (now «out_value») (now «out_gap») (length (now «out_from»))) × Standing side register (reservedOf (now unit) (now start) (now end) (now kind) (now index) (now fixed) (now «f_unit») (now «f_point») (now «f_value») (now «spill_weight»)) (gapColumns (now «out_from») (now «out_to») (now «out_value») (now «out_gap») (length (now «out_from»))) stand × Triable side (now weight) (now live) (stand .growth) ⌝ }
+    ensures { λ r. ⌜ (r .growth ≡ triedOn side register (reservedOf (now (unit .entry)) (now (start .entry)) (now (end .entry)) (now (kind .entry)) (now (index .entry)) (now (fixed .entry)) (now («f_unit» .entry)) (now («f_point» .entry)) (now («f_value» .entry)) (now («spill_weight» .entry))) (gapColumns (now («out_from» .entry)) (now («out_to» .entry)) (now («out_value» .entry)) (now («out_gap» .entry)) (length (now («out_from» .entry)))) (now (weight .entry)) (now (live .entry)) k (stand .growth)) × Moved side register (reservedOf (now (unit .entry)) (now (start .entry)) (now (end .entry)) (now (kind .entry)) (now (index .entry)) (now (fixed .entry)) (now («f_unit» .entry)) (now («f_point» .entry)) (now («f_value» .entry)) (now («spill_weight» .entry))) (gapColumns (now («out_from» .entry)) (now («out_to» .entry)) (now («out_value» .entry)) (now («out_gap» .entry)) (length (now («out_from» .entry)))) stand r ⌝ }
+{
+    let growth = stand.growth;
+    let left = stand.left;
+    let right = stand.right;
+    if let Side::Previous = side {
+        let t = try_left(
+            unit,
+            start,
+            end,
+            kind,
+            index,
+            fixed,
+            f_unit,
+            f_point,
+            f_value,
+            spill_weight,
+            out_from,
+            out_to,
+            out_value,
+            out_gap,
+            weight,
+            live,
+            register,
+            k,
+            growth,
+            left,
+        );
+        let growth = t.growth;
+        let left = t.walker;
+        return Stand {
+            growth,
+            left,
+            right,
+        };
+    }
+    let t = try_right(
+        unit,
+        start,
+        end,
+        kind,
+        index,
+        fixed,
+        f_unit,
+        f_point,
+        f_value,
+        spill_weight,
+        out_from,
+        out_to,
+        out_value,
+        out_gap,
+        weight,
+        live,
+        register,
+        k,
+        growth,
+        right,
+    );
+    let growth = t.growth;
+    let right = t.walker;
+    Stand {
+        growth,
+        left,
+        right,
+    }
+}
+
+// Grows until no side is open: the region with which growth ends, and the heaviest weight that it meets.
+fn grow(
+    from: &[u32],
+    weight: &[f32],
+    live: &[u32],
+    min_freq: &[f32],
+    initial: usize,
+    out_from: &[u32],
+    out_to: &[u32],
+    out_value: &[u32],
+    out_gap: &[u32],
+    unit: &[u32],
+    start: &[u32],
+    end: &[u32],
+    kind: &[u32],
+    index: &[u32],
+    fixed: &[u32],
+    f_unit: &[u32],
+    f_point: &[u32],
+    f_value: &[u32],
+    spill_weight: &[u32],
+    register: Register,
+    k: u32,
+    stand: Stand,
+) -> Grown
+    requires { ⌜ Walkable register (reservedOf (now unit) (now start) (now end) (now kind) (now index) (now fixed) (now «f_unit») (now «f_point») (now «f_value») (now «spill_weight»)) (gapColumns (now «out_from») (now «out_to») (now «out_value») (now «out_gap») (length (now «out_from»))) × InTable (seenBy register (reservedOf (now unit) (now start) (now end) (now kind) (now index) (now fixed) (now «f_unit») (now «f_point») (now «f_value») (now «spill_weight»)) (gapColumns (now «out_from») (now «out_to») (now «out_value») (now «out_gap») (length (now «out_from»))) (now from) (now weight) (now live) (now «min_freq») initial k) (now weight) (now live) (now «min_freq») ⌝ }
+    requires { ⌜ Reached (seenBy register (reservedOf (now unit) (now start) (now end) (now kind) (now index) (now fixed) (now «f_unit») (now «f_point») (now «f_value») (now «spill_weight»)) (gapColumns (now «out_from») (now «out_to») (now «out_value») (now «out_gap») (length (now «out_from»))) (now from) (now weight) (now live) (now «min_freq») initial k) register (reservedOf (now unit) (now start) (now end) (now kind) (now index) (now fixed) (now «f_unit») (now «f_point») (now «f_value») (now «spill_weight»)) (gapColumns (now «out_from») (now «out_to») (now «out_value») (now «out_gap») (length (now «out_from»))) stand ⌝ }
+    ensures { λ r. ⌜ Answers (seenBy register (reservedOf (now (unit .entry)) (now (start .entry)) (now (end .entry)) (now (kind .entry)) (now (index .entry)) (now (fixed .entry)) (now («f_unit» .entry)) (now («f_point» .entry)) (now («f_value» .entry)) (now («spill_weight» .entry))) (gapColumns (now («out_from» .entry)) (now («out_to» .entry)) (now («out_value» .entry)) (now («out_gap» .entry)) (length (now («out_from» .entry)))) (now (from .entry)) (now (weight .entry)) (now (live .entry)) (now («min_freq» .entry)) initial k) r ⌝ }
+{
+    let gaps = from.len();
+    let mut stand = stand;
+    let region = 'grow: loop {
+        let growth = stand.growth;
+        let Turn::Try(side) = grow_next(min_freq, live, gaps, growth) else {
+            let region = growth.region;
+            break 'grow region;
+        };
+        stand = try_side(
+            unit,
+            start,
+            end,
+            kind,
+            index,
+            fixed,
+            f_unit,
+            f_point,
+            f_value,
+            spill_weight,
+            out_from,
+            out_to,
+            out_value,
+            out_gap,
+            weight,
+            live,
+            register,
+            k,
+            side,
+            stand,
+        );
+    };
+    region
+}
+
+// Where a row's gap segment begins, and past the last one the last point.
+fn point_at(out_from: &[u32], next: usize) -> Point
+    ensures { λ r. ⌜ r .0 ≡ pointAt (now («out_from» .entry)) next ⌝ }
+{
+    if next < out_from.len() {
+        return Point(out_from[next]);
+    }
+    Point(4294967295)
+}
+
+// The proposal of the region with which growth from the best use's gap ends, or nothing where that gap fails.
+pub fn find_split_region(
+    from: &[u32],
+    weight: &[f32],
+    live: &[u32],
+    min_freq: &[f32],
+    initial: usize,
+    out_from: &[u32],
+    out_to: &[u32],
+    out_value: &[u32],
+    out_gap: &[u32],
+    unit: &[u32],
+    start: &[u32],
+    end: &[u32],
+    kind: &[u32],
+    index: &[u32],
+    fixed: &[u32],
+    f_unit: &[u32],
+    f_point: &[u32],
+    f_value: &[u32],
+    spill_weight: &[u32],
+    register: Register,
+    k: u32,
+) -> Region
+    requires { ⌜ Walkable register (reservedOf (now unit) (now start) (now end) (now kind) (now index) (now fixed) (now «f_unit») (now «f_point») (now «f_value») (now «spill_weight»)) (gapColumns (now «out_from») (now «out_to») (now «out_value») (now «out_gap») (length (now «out_from»))) × InTable (seenBy register (reservedOf (now unit) (now start) (now end) (now kind) (now index) (now fixed) (now «f_unit») (now «f_point») (now «f_value») (now «spill_weight»)) (gapColumns (now «out_from») (now «out_to») (now «out_value») (now «out_gap») (length (now «out_from»))) (now from) (now weight) (now live) (now «min_freq») initial k) (now weight) (now live) (now «min_freq») ⌝ }
+    ensures { λ r. ⌜ r ≡ regionOf (seenBy register (reservedOf (now (unit .entry)) (now (start .entry)) (now (end .entry)) (now (kind .entry)) (now (index .entry)) (now (fixed .entry)) (now («f_unit» .entry)) (now («f_point» .entry)) (now («f_value» .entry)) (now («spill_weight» .entry))) (gapColumns (now («out_from» .entry)) (now («out_to» .entry)) (now («out_value» .entry)) (now («out_gap» .entry)) (length (now («out_from» .entry)))) (now (from .entry)) (now (weight .entry)) (now (live .entry)) (now («min_freq» .entry)) initial k) ⌝ }
+{
+    let gaps = from.len();
+    let next = first_at_least(out_gap, 0, out_from.len(), initial as u32);
+    let point = point_at(out_from, next);
+    let left = LeftWalker::new(
+        unit,
+        start,
+        end,
+        kind,
+        index,
+        fixed,
+        f_unit,
+        f_point,
+        f_value,
+        register,
+        next,
+        point,
+    );
+    let right = RightWalker::new(
+        unit,
+        start,
+        end,
+        kind,
+        index,
+        fixed,
+        f_unit,
+        f_point,
+        f_value,
+        register,
+        next,
+        point,
+    );
+    let own = right.take_gap(
+        unit,
+        start,
+        end,
+        kind,
+        index,
+        fixed,
+        f_unit,
+        f_point,
+        f_value,
+        spill_weight,
+        out_from,
+        out_to,
+        out_value,
+        out_gap,
+        out_from.len(),
+        register,
+        initial as u32,
+        0.0,
+    );
+    let none = Grown {
+        left: initial,
+        right: initial,
+        weight: 0.0,
+        insts: 0,
+        heaviest: 0.0,
+    };
+    let tried = tested(
+        !own.fixed,
+        none,
+        weight[initial],
+        1,
+        own.heaviest,
+        k,
+        initial,
+        initial + 1,
+    );
+    let Tried::Grows(region) = tried else {
+        return Region::Nothing;
+    };
+    let right = own.walker;
+    let growth = Growth::new(region);
+    let g = grow(
+        from,
+        weight,
+        live,
+        min_freq,
+        initial,
+        out_from,
+        out_to,
+        out_value,
+        out_gap,
+        unit,
+        start,
+        end,
+        kind,
+        index,
+        fixed,
+        f_unit,
+        f_point,
+        f_value,
+        spill_weight,
+        register,
+        k,
+        Stand {
+            growth,
+            left,
+            right,
+        },
+    );
+    Region::Found(proposal_of(from, min_freq, gaps, g))
+}

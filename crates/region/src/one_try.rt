@@ -1,0 +1,161 @@
+// One try of growth: the gap segments of the gap on a side, walked, and the region with that gap, tested.
+use crate::growth::Growth;
+use crate::growth::tested;
+use links::lower::Side;
+use walkers::left::LeftWalker;
+use walkers::meeting::Register;
+use walkers::right::RightWalker;
+ghost use mathlib.Core.Path.{_≡_};
+ghost use Prim.Native.Nat.{_+_, _-_};
+ghost use lib.ListN.{length};
+ghost use Rattle.links.specs.declared.lower.Side.the-variants.{Previous, Next};
+ghost use Rattle.jobs.specs.Rows.{reservationsOf, fixedUsesOf};
+ghost use Rattle.walkers.specs.Meeting.{reservedOf};
+ghost use Rattle.walkers.specs.Gaps.{gapColumns, RightAt, LeftAt};
+ghost use Rattle.region.specs.OneTry.{Walkable, Triable, triedOn};
+
+// Growth after a try on the left, and the walker behind the gap that was tried.
+pub struct TriedLeft {
+    pub growth: Growth,
+    pub walker: LeftWalker,
+}
+
+// A try on the left: the walker takes the gap's segments, and the region with the gap is tested.
+pub fn try_left(
+    unit: &[u32],
+    start: &[u32],
+    end: &[u32],
+    kind: &[u32],
+    index: &[u32],
+    fixed: &[u32],
+    f_unit: &[u32],
+    f_point: &[u32],
+    f_value: &[u32],
+    spill_weight: &[u32],
+    out_from: &[u32],
+    out_to: &[u32],
+    out_value: &[u32],
+    out_gap: &[u32],
+    weight: &[f32],
+    live: &[u32],
+    register: Register,
+    k: u32,
+    growth: Growth,
+    walker: LeftWalker,
+) -> TriedLeft
+    requires { ⌜ Walkable register (reservedOf (now unit) (now start) (now end) (now kind) (now index) (now fixed) (now «f_unit») (now «f_point») (now «f_value») (now «spill_weight»)) (gapColumns (now «out_from») (now «out_to») (now «out_value») (now «out_gap») (length (now «out_from»))) ⌝ }
+    requires { ⌜ LeftAt register (reservationsOf (now unit) (now start) (now end) (now kind) (now index) (now fixed)) (fixedUsesOf (now «f_unit») (now «f_point») (now «f_value»)) (gapColumns (now «out_from») (now «out_to») (now «out_value») (now «out_gap») (length (now «out_from»))) (growth .region .left) walker ⌝ }
+    requires { ⌜ Triable Previous (now weight) (now live) growth ⌝ }
+    ensures { λ r. ⌜ (r .growth ≡ triedOn Previous register (reservedOf (now (unit .entry)) (now (start .entry)) (now (end .entry)) (now (kind .entry)) (now (index .entry)) (now (fixed .entry)) (now («f_unit» .entry)) (now («f_point» .entry)) (now («f_value» .entry)) (now («spill_weight» .entry))) (gapColumns (now («out_from» .entry)) (now («out_to» .entry)) (now («out_value» .entry)) (now («out_gap» .entry)) (length (now («out_from» .entry)))) (now (weight .entry)) (now (live .entry)) k growth) × LeftAt register (reservationsOf (now (unit .entry)) (now (start .entry)) (now (end .entry)) (now (kind .entry)) (now (index .entry)) (now (fixed .entry))) (fixedUsesOf (now («f_unit» .entry)) (now («f_point» .entry)) (now («f_value» .entry))) (gapColumns (now («out_from» .entry)) (now («out_to» .entry)) (now («out_value» .entry)) (now («out_gap» .entry)) (length (now («out_from» .entry)))) (growth .region .left - 1) (r .walker) ⌝ }
+{
+    let g = growth.region;
+    let gap = g.left - 1;
+    let met = walker.take_gap(
+        unit,
+        start,
+        end,
+        kind,
+        index,
+        fixed,
+        f_unit,
+        f_point,
+        f_value,
+        spill_weight,
+        out_from,
+        out_to,
+        out_value,
+        out_gap,
+        out_from.len(),
+        register,
+        gap as u32,
+        g.heaviest,
+    );
+    let tried = tested(
+        !met.fixed,
+        g,
+        weight[gap],
+        live[gap],
+        met.heaviest,
+        k,
+        gap,
+        g.right,
+    );
+    let walker = met.walker;
+    TriedLeft {
+        growth: growth.after(Side::Previous, tried),
+        walker,
+    }
+}
+
+// Growth after a try on the right, and the walker behind the gap that was tried.
+pub struct TriedRight {
+    pub growth: Growth,
+    pub walker: RightWalker,
+}
+
+// A try on the right: the walker takes the gap's segments, and the region with the gap is tested.
+pub fn try_right(
+    unit: &[u32],
+    start: &[u32],
+    end: &[u32],
+    kind: &[u32],
+    index: &[u32],
+    fixed: &[u32],
+    f_unit: &[u32],
+    f_point: &[u32],
+    f_value: &[u32],
+    spill_weight: &[u32],
+    out_from: &[u32],
+    out_to: &[u32],
+    out_value: &[u32],
+    out_gap: &[u32],
+    weight: &[f32],
+    live: &[u32],
+    register: Register,
+    k: u32,
+    growth: Growth,
+    walker: RightWalker,
+) -> TriedRight
+    requires { ⌜ Walkable register (reservedOf (now unit) (now start) (now end) (now kind) (now index) (now fixed) (now «f_unit») (now «f_point») (now «f_value») (now «spill_weight»)) (gapColumns (now «out_from») (now «out_to») (now «out_value») (now «out_gap») (length (now «out_from»))) ⌝ }
+    requires { ⌜ RightAt register (reservationsOf (now unit) (now start) (now end) (now kind) (now index) (now fixed)) (fixedUsesOf (now «f_unit») (now «f_point») (now «f_value»)) (gapColumns (now «out_from») (now «out_to») (now «out_value») (now «out_gap») (length (now «out_from»))) (growth .region .right) walker ⌝ }
+    requires { ⌜ Triable Next (now weight) (now live) growth ⌝ }
+    ensures { λ r. ⌜ (r .growth ≡ triedOn Next register (reservedOf (now (unit .entry)) (now (start .entry)) (now (end .entry)) (now (kind .entry)) (now (index .entry)) (now (fixed .entry)) (now («f_unit» .entry)) (now («f_point» .entry)) (now («f_value» .entry)) (now («spill_weight» .entry))) (gapColumns (now («out_from» .entry)) (now («out_to» .entry)) (now («out_value» .entry)) (now («out_gap» .entry)) (length (now («out_from» .entry)))) (now (weight .entry)) (now (live .entry)) k growth) × RightAt register (reservationsOf (now (unit .entry)) (now (start .entry)) (now (end .entry)) (now (kind .entry)) (now (index .entry)) (now (fixed .entry))) (fixedUsesOf (now («f_unit» .entry)) (now («f_point» .entry)) (now («f_value» .entry))) (gapColumns (now («out_from» .entry)) (now («out_to» .entry)) (now («out_value» .entry)) (now («out_gap» .entry)) (length (now («out_from» .entry)))) (growth .region .right + 1) (r .walker) ⌝ }
+{
+    let g = growth.region;
+    let gap = g.right;
+    let met = walker.take_gap(
+        unit,
+        start,
+        end,
+        kind,
+        index,
+        fixed,
+        f_unit,
+        f_point,
+        f_value,
+        spill_weight,
+        out_from,
+        out_to,
+        out_value,
+        out_gap,
+        out_from.len(),
+        register,
+        gap as u32,
+        g.heaviest,
+    );
+    let tried = tested(
+        !met.fixed,
+        g,
+        weight[gap],
+        live[gap],
+        met.heaviest,
+        k,
+        g.left,
+        gap + 1,
+    );
+    let walker = met.walker;
+    TriedRight {
+        growth: growth.after(Side::Next, tried),
+        walker,
+    }
+}
