@@ -32,6 +32,17 @@ pub record InTable (seen : GapsSeen) (weights : List Float) (lives : List ℕ) (
   pub lives-long : length lives ≡ seen .count
   pub freqs-long : length freqs ≡ seen .count
 
+-- rows that the columns of gaps and those of gap segments have
+pub record RowsInside (gaps : ℕ) (froms : List ℕ) (weights : List Float) (lives : List ℕ) (freqs : List Float) (segments : ℕ) (out-froms out-tos out-values out-gaps : List ℕ) : Type 0 where
+  pub from : gaps ≤ length froms
+  pub weight : gaps ≤ length weights
+  pub live : gaps ≤ length lives
+  pub freq : gaps ≤ length freqs
+  pub out-from : segments ≤ length out-froms
+  pub out-to : segments ≤ length out-tos
+  pub out-value : segments ≤ length out-values
+  pub out-gap : segments ≤ length out-gaps
+
 -- ---- for contracts of private functions
 -- the walker of a side stands at the region's end
 abbrev pub Standing : Side → Register → Reserved → GapColumns → Stand → Type 0

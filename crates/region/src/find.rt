@@ -17,12 +17,12 @@ use walkers::meeting::Register;
 use walkers::right::RightWalker;
 ghost use mathlib.Core.Path.{_≡_};
 ghost use Prim.Native.Nat.{_≤_};
-ghost use lib.ListN.{length};
+ghost use lib.ListN.{length, take};
 ghost use Rattle.walkers.specs.Meeting.{reservedOf};
 ghost use Rattle.walkers.specs.Gaps.{gapColumns};
 ghost use Rattle.region.specs.Proposal.{regionOf};
 ghost use Rattle.region.specs.OneTry.{Walkable, Triable, triedOn};
-ghost use Rattle.region.specs.Find.{seenBy, InTable, Standing, Moved, Reached, Answers, pointAt};
+ghost use Rattle.region.specs.Find.{seenBy, InTable, RowsInside, Standing, Moved, Reached, Answers, pointAt};
 
 // Growth so far, and the walkers on both sides of its region.
 pub struct Stand {
@@ -324,4 +324,59 @@ pub fn find_split_region(
         },
     );
     Region::Found(proposal_of(from, min_freq, gaps, g))
+}
+
+// The same for work tables of which only the first rows count: so many gaps, so many gap segments.
+pub fn find_in_tables(
+    from: &[u32],
+    weight: &[f32],
+    live: &[u32],
+    min_freq: &[f32],
+    gaps: usize,
+    initial: usize,
+    out_from: &[u32],
+    out_to: &[u32],
+    out_value: &[u32],
+    out_gap: &[u32],
+    segments: usize,
+    unit: &[u32],
+    start: &[u32],
+    end: &[u32],
+    kind: &[u32],
+    index: &[u32],
+    fixed: &[u32],
+    f_unit: &[u32],
+    f_point: &[u32],
+    f_value: &[u32],
+    spill_weight: &[u32],
+    register: Register,
+    k: u32,
+) -> Region
+    requires { ⌜ RowsInside gaps (now from) (now weight) (now live) (now «min_freq») segments (now «out_from») (now «out_to») (now «out_value») (now «out_gap») ⌝ }
+    requires { ⌜ Walkable register (reservedOf (now unit) (now start) (now end) (now kind) (now index) (now fixed) (now «f_unit») (now «f_point») (now «f_value») (now «spill_weight»)) (gapColumns (take segments (now «out_from»)) (take segments (now «out_to»)) (take segments (now «out_value»)) (take segments (now «out_gap»)) (length (take segments (now «out_from»)))) × InTable (seenBy register (reservedOf (now unit) (now start) (now end) (now kind) (now index) (now fixed) (now «f_unit») (now «f_point») (now «f_value») (now «spill_weight»)) (gapColumns (take segments (now «out_from»)) (take segments (now «out_to»)) (take segments (now «out_value»)) (take segments (now «out_gap»)) (length (take segments (now «out_from»)))) (take gaps (now from)) (take gaps (now weight)) (take gaps (now live)) (take gaps (now «min_freq»)) initial k) (take gaps (now weight)) (take gaps (now live)) (take gaps (now «min_freq»)) ⌝ }
+    ensures { λ r. ⌜ r ≡ regionOf (seenBy register (reservedOf (now (unit .entry)) (now (start .entry)) (now (end .entry)) (now (kind .entry)) (now (index .entry)) (now (fixed .entry)) (now («f_unit» .entry)) (now («f_point» .entry)) (now («f_value» .entry)) (now («spill_weight» .entry))) (gapColumns (take segments (now («out_from» .entry))) (take segments (now («out_to» .entry))) (take segments (now («out_value» .entry))) (take segments (now («out_gap» .entry))) (length (take segments (now («out_from» .entry))))) (take gaps (now (from .entry))) (take gaps (now (weight .entry))) (take gaps (now (live .entry))) (take gaps (now («min_freq» .entry))) initial k) ⌝ }
+{
+    find_split_region(
+        &from[..gaps],
+        &weight[..gaps],
+        &live[..gaps],
+        &min_freq[..gaps],
+        initial,
+        &out_from[..segments],
+        &out_to[..segments],
+        &out_value[..segments],
+        &out_gap[..segments],
+        unit,
+        start,
+        end,
+        kind,
+        index,
+        fixed,
+        f_unit,
+        f_point,
+        f_value,
+        spill_weight,
+        register,
+        k,
+    )
 }

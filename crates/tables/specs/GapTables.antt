@@ -6,6 +6,7 @@ use lib.Ieee.{Float}
 use lib.ListN.{length}
 use Rattle.links.specs.Table.{filled}
 use Rattle.walks.specs.Live.{liveColumn}
+use Rattle.walks.specs.UseColumns.{UseColumns}
 use Rattle.walks.specs.GapSegments.{GapSegment, gapSegments}
 use Rattle.gaps.specs.Gaps.{Gap, weightOf}
 
@@ -64,3 +65,15 @@ pub record GapsFilled (gaps : List Gap) (starts ends values : List ℕ) (lent no
   pub out-to : now .out-tos ≡ filled (map (λ (s : GapSegment). s .to) (segmentsOf gaps starts ends values)) (lent .out-tos)
   pub out-value : now .out-values ≡ filled (map (λ (s : GapSegment). s .value) (segmentsOf gaps starts ends values)) (lent .out-values)
   pub out-gap : now .out-gaps ≡ filled (map (λ (s : GapSegment). s .gap) (segmentsOf gaps starts ends values)) (lent .out-gaps)
+
+-- rows that the use columns, links for so many blocks that the columns of links, and segments that their columns have
+pub record CutInside (rows : ℕ) (uses : UseColumns) (blocks : ℕ) (prevs nexts : List ℕ) (segments : ℕ) (starts ends values : List ℕ) : Type 0 where
+  pub inst : rows ≤ length (uses .insts)
+  pub main : rows ≤ length (uses .mains)
+  pub left : rows ≤ length (uses .lefts)
+  pub right : rows ≤ length (uses .rights)
+  pub prev : blocks ≤ length prevs
+  pub next : blocks ≤ length nexts
+  pub start : segments ≤ length starts
+  pub end : segments ≤ length ends
+  pub value : segments ≤ length values

@@ -4,14 +4,14 @@ use walks::gap_segments::build_gap_segments;
 use walks::live::count_live_insts;
 ghost use mathlib.Core.Path.{_≡_};
 ghost use Prim.Native.Nat.{_≤_};
-ghost use lib.ListN.{length};
+ghost use lib.ListN.{length, take};
 ghost use Rattle.links.specs.Blocks.{blocksOf};
 ghost use Rattle.walks.specs.UseColumns.{columns as useColumns};
 ghost use Rattle.links.specs.Table.{filled};
 ghost use Rattle.walks.specs.Live.{Gaps, Uncounted, liveColumn};
 ghost use Rattle.walks.specs.GapSegments.{Valued, gapSegments, columns as segmentColumns, Room, Filled};
 ghost use Rattle.gaps.specs.Gaps.{gapsOf, initialGap, usesIn, Cuttable};
-ghost use Rattle.tables.specs.GapTables.{lentTables, GapRoom, GapsFilled};
+ghost use Rattle.tables.specs.GapTables.{lentTables, GapRoom, GapsFilled, CutInside};
 
 // How many gaps there are, which is the best use's own, and how many gap segments there are.
 pub struct GapTables {
@@ -116,4 +116,64 @@ pub fn fill_gaps(
         initial: g.initial,
         segments,
     }
+}
+
+// The same for work tables and segments of which only the first rows count: so many rows of the use table, a link for each block, so
+// many segments.
+pub fn fill_gap_tables(
+    inst: &[u32],
+    weight: &[f32],
+    left_weight: &[f32],
+    right_weight: &[f32],
+    rows: usize,
+    best: usize,
+    freq: &[u32],
+    first: &[u32],
+    end: &[u32],
+    prev_lower_freq: &[u32],
+    next_lower_freq: &[u32],
+    start: &[u32],
+    segment_end: &[u32],
+    value: &[u32],
+    segments: usize,
+    from: &mut [u32],
+    to: &mut [u32],
+    gap_weight: &mut [f32],
+    live: &mut [u32],
+    min_freq: &mut [f32],
+    out_from: &mut [u32],
+    out_to: &mut [u32],
+    out_value: &mut [u32],
+    out_gap: &mut [u32],
+) -> GapTables
+    requires { ⌜ CutInside rows (useColumns (now inst) (now weight) (now «left_weight») (now «right_weight»)) (length (now freq)) (now «prev_lower_freq») (now «next_lower_freq») segments (now start) (now «segment_end») (now value) ⌝ }
+    requires { ⌜ Cuttable (now freq) (now first) (now end) (take (length (now freq)) (now «prev_lower_freq»)) (take (length (now freq)) (now «next_lower_freq»)) (useColumns (take rows (now inst)) (take rows (now weight)) (take rows (now «left_weight»)) (take rows (now «right_weight»))) best × Valued (take segments (now start)) (take segments (now «segment_end»)) (take segments (now value)) ⌝ }
+    requires { ⌜ GapRoom (gapsOf (blocksOf (now freq) (now first) (now end)) (usesIn (useColumns (take rows (now inst)) (take rows (now weight)) (take rows (now «left_weight»)) (take rows (now «right_weight»)))) best) (take segments (now start)) (take segments (now «segment_end»)) (take segments (now value)) (lentTables (now from) (now to) (now «gap_weight») (now live) (now «min_freq») (now «out_from») (now «out_to») (now «out_value») (now «out_gap»)) ⌝ }
+    ensures { λ r. ⌜ GapsFilled (gapsOf (blocksOf (now (freq .entry)) (now (first .entry)) (now (end .entry))) (usesIn (useColumns (take rows (now (inst .entry))) (take rows (now (weight .entry))) (take rows (now («left_weight» .entry))) (take rows (now («right_weight» .entry))))) best) (take segments (now (start .entry))) (take segments (now («segment_end» .entry))) (take segments (now (value .entry))) (lentTables (now (from .entry)) (now (to .entry)) (now («gap_weight» .entry)) (now (live .entry)) (now («min_freq» .entry)) (now («out_from» .entry)) (now («out_to» .entry)) (now («out_value» .entry)) (now («out_gap» .entry))) (lentTables (now (from .exit)) (now (to .exit)) (now («gap_weight» .exit)) (now (live .exit)) (now («min_freq» .exit)) (now («out_from» .exit)) (now («out_to» .exit)) (now («out_value» .exit)) (now («out_gap» .exit))) (r .gaps) (r .segments) × (r .initial ≡ initialGap (blocksOf (now (freq .entry)) (now (first .entry)) (now (end .entry))) (usesIn (useColumns (take rows (now (inst .entry))) (take rows (now (weight .entry))) (take rows (now («left_weight» .entry))) (take rows (now («right_weight» .entry))))) best) ⌝ }
+{
+    let blocks = freq.len();
+    fill_gaps(
+        &inst[..rows],
+        &weight[..rows],
+        &left_weight[..rows],
+        &right_weight[..rows],
+        best,
+        freq,
+        first,
+        end,
+        &prev_lower_freq[..blocks],
+        &next_lower_freq[..blocks],
+        &start[..segments],
+        &segment_end[..segments],
+        &value[..segments],
+        from,
+        to,
+        gap_weight,
+        live,
+        min_freq,
+        out_from,
+        out_to,
+        out_value,
+        out_gap,
+    )
 }
