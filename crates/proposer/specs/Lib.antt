@@ -1,2 +1,3 @@
 -- The proposal of a whole job
 pub mod View
+pub mod Answer

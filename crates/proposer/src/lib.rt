@@ -1,1 +1,2 @@
 // Proposer: the call that proposes a split for a whole job.
+pub mod propose;
