@@ -1,0 +1,2 @@
+-- What growth sees of an accepted job is sound
+pub mod SegmentOrder
