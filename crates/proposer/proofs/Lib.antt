@@ -1,0 +1,4 @@
+-- What growth sees of an accepted job is sound; what holds of every proposal
+pub mod SegmentOrder
+pub mod JobView
+pub mod JobTheorems
