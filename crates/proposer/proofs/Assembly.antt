@@ -13,10 +13,11 @@ use Rattle.links.specs.Links.{linkColumn, lowerLink}
 use Rattle.links.specs.declared.lower.Side.{Side}
 use Rattle.links.specs.declared.lower.Side.the-variants.{Previous, Next}
 use Rattle.links.specs.declared.blocks.Checked.{Checked}
-use Rattle.links.specs.declared.blocks.Checked.the-variants.{Sound}
+use Rattle.links.specs.declared.blocks.Checked.the-variants.{Sound, Refused}
+use Rattle.links.specs.declared.blocks.Refusal.{Refusal}
 use Rattle.links.proofs.Tables.{table-length, table-map, table-same, shortest-at-most}
-use Rattle.links.proofs.Columns.{list-long, frequency-column}
-use Rattle.jobs.specs.Rows.{segmentRow, segmentsOf}
+use Rattle.links.proofs.Columns.{list-long, frequency-column, part-list}
+use Rattle.jobs.specs.Rows.{segmentRow, segmentsOf, usesOf, reservationsOf, fixedUsesOf}
 use Rattle.jobs.specs.declared.rows.Segment.{Segment}
 use Rattle.walks.specs.Uses.{Source, sourceOf, useTableOf}
 use Rattle.walks.specs.UseColumns.{UseColumns, columns, Inside, Holds}
@@ -43,8 +44,9 @@ use Rattle.verdict.specs.Refusals.{refusalOf}
 use Rattle.verdict.proofs.Accepted.{Accepted, job-accepted, job-roomy}
 use Rattle.verdict.proofs.Sizes.{Roomy}
 use Rattle.proposer.specs.View.{startsOf, endsOf, valuesOf, usesOfJob, gapsOfJob, livesOfJob, segmentsOfJob, segmentColumns, seenOfJob}
-use Rattle.proposer.specs.Answer.{ofRegion, ofBest, ifAccepted, ofChecked, answerOf, Tables, freqsOf, tablesOfBest, tablesOf, WorkColumns, workColumns, roomsOf, FilledBy, IsProposed}
+use Rattle.proposer.specs.Answer.{ofRegion, ofBest, ifAccepted, ofChecked, answerOf, Tables, noTables, freqsOf, tablesOfBest, tablesOf, WorkColumns, workColumns, roomsOf, FilledBy, IsProposed}
 use Rattle.proposer.specs.declared.propose.Answer.{Answer}
+use Rattle.proposer.specs.declared.propose.Answer.the-variants as Answer·is
 use Rattle.proposer.specs.declared.propose.Proposed.{Proposed}
 use Rattle.proposer.proofs.JobView.{job-valued, job-in-table, job-walkable, job-segments-few}
 use Rattle.proposer.proofs.JobTheorems.{job-best-inside}
@@ -61,7 +63,7 @@ module _ (job : Job) (lent : WorkColumns) (sound : refusalOf job (roomsOf lent) 
   pub accepted-proposed : (now : WorkColumns) (r : Proposed) (best : BestUse) → best ≡ bestOf (sourceOfJob job) → r .answer ≡ ofBest job best → r .uses ≡ length (tablesOfBest job best .uses)
       → r .gaps ≡ length (tablesOfBest job best .gaps) → r .«gap_segments» ≡ length (tablesOfBest job best .segments) → FilledBy (tablesOfBest job best) lent now → IsProposed job lent now r
   accepted-proposed now r best b a u g s f =
-      let t : tablesOfBest job best ≡ tablesOf job (roomsOf lent) = ap (tablesOfBest job) b ∙ sym (ap (λ (c : Checked). ifAccepted c (tablesOfBest job (bestOf (sourceOfJob job))) (record { prevs = []; nexts = []; uses = []; gaps = []; lives = []; segments = [] })) sound) in
+      let t : tablesOfBest job best ≡ tablesOf job (roomsOf lent) = ap (tablesOfBest job) b ∙ sym (ap (λ (c : Checked). ifAccepted c (tablesOfBest job (bestOf (sourceOfJob job))) noTables) sound) in
       record {
         answer = a ∙ ap (ofBest job) b ∙ sym (ap (λ (c : Checked). ofChecked c (ofBest job (bestOf (sourceOfJob job)))) sound);
         uses = u ∙ ap (λ (x : Tables). length (x .uses)) t;
@@ -401,3 +403,37 @@ module _ (prm : Parameters) (freqs firsts ends codes starts stops values first-u
                 out-value = d .out-value;
                 out-gap = d .out-gap;
               })
+
+-- ---- a refused job
+pub refused-proposed : (job : Job) (lent : WorkColumns) (x : Refusal) → refusalOf job (roomsOf lent) ≡ Refused x → IsProposed job lent lent (record { answer = Answer·is.Refused x; uses = 0; gaps = 0; «gap_segments» = 0 })
+refused-proposed job lent x e =
+    let t : noTables ≡ tablesOf job (roomsOf lent) = sym (ap (λ (c : Checked). ifAccepted c (tablesOfBest job (bestOf (sourceOfJob job))) noTables) e) in
+    record {
+      answer = sym (ap (λ (c : Checked). ofChecked c (ofBest job (bestOf (sourceOfJob job)))) e);
+      uses = ap (λ (x : Tables). length (x .uses)) t;
+      gaps = ap (λ (x : Tables). length (x .gaps)) t;
+      segments = ap (λ (x : Tables). length (x .segments)) t;
+      tables = subst (λ (x : Tables). FilledBy x lent lent) t
+          (record { prev = refl; next = refl; inst = refl; main = refl; left = refl; right = refl; from = refl; to = refl; weight = refl; live = refl; freq = refl; out-from = refl; out-to = refl; out-value = refl; out-gap = refl });
+    }
+
+-- ---- blocks in columns that are cut to as many as there are
+module _ (prm : Parameters) (freqs firsts ends codes starts stops values first-uses end-uses flags positions kinds costs spills units r-starts r-ends r-kinds indices fixed f-units points f-values : List ℕ) (n : ℕ) (long : n ≡ length (blocksOf freqs firsts ends)) where
+  pub cut-job : jobOf prm (take n freqs) (take n firsts) (take n ends) codes starts stops values first-uses end-uses flags positions kinds costs spills units r-starts r-ends r-kinds indices fixed f-units points f-values
+      ≡ jobOf prm freqs firsts ends codes starts stops values first-uses end-uses flags positions kinds costs spills units r-starts r-ends r-kinds indices fixed f-units points f-values
+  cut-job =
+      ap (λ (b : List BlockRow). record {
+        k = prm .k;
+        cheaperThanMove = prm .«cheaper_than_move»;
+        cheaperThanLoad = prm .«cheaper_than_load»;
+        indirect = prm .indirect;
+        units = prm .units;
+        blocks = b;
+        codes = codes;
+        segments = segmentsOf starts stops values first-uses end-uses flags;
+        uses = usesOf positions kinds costs;
+        weights = spills;
+        reservations = reservationsOf units r-starts r-ends r-kinds indices fixed;
+        fixedUses = fixedUsesOf f-units points f-values;
+      })
+      (part-list freqs firsts ends n long)
