@@ -3,24 +3,27 @@ use mathlib.Core.Path.{_≡_, refl, sym, ap, _∙_, subst}
 use mathlib.Core.Logic.{_⊎_, inl, inr, ⊎-elim, _↔_}
 use mathlib.Core.Bool.{Bool, true, false, not, cond}
 use mathlib.Core.List.{List, [], _∷_, map}
-use Prim.Native.Nat.{ℕ, zero, suc, _+_, _*_, _/_, _≤_, _<_}
-use native.Mathlib.Nat.{le-refl, le-trans, le-of-eq, lt-irrefl, eq-or-lt-of-le}
+use Prim.Native.Nat.{ℕ, zero, suc, _+_, _*_, _/_, _≤_, _<_, zero-le}
+use native.Mathlib.Nat.{le-refl, le-trans, le-of-eq, lt-trans, lt-of-lt-of-le, lt-irrefl, not-suc-le-zero, le-of-suc-le-suc, eq-or-lt-of-le}
 use native.Mathlib.Omega.{arith}
-use lib.Dec.{T, leb, lit≤}
+use lib.Dec.{T, leb, leb→le, nleb→lt, nltb→le, lit≤}
 use lib.Ieee.{Float, binary32, lt, toBits}
 use lib.ListN.{length, getD, length-map, List·getD-eq-default}
+use borrow.Author.Tests.{le-ltb, le-leb}
 use Rattle.numbers.specs.Weight.{Weight, finite, unitsOf, zeroWeight, heaviest}
 use Rattle.numbers.specs.Point.{instOf}
 use Rattle.numbers.specs.Normal.{normalised, exceeds}
 use Rattle.numbers.specs.Chain.{longest}
-use Rattle.numbers.proofs.Units.{units-lt, zero-finite}
-use Rattle.numbers.proofs.Heaviest.{Among, heaviest-among}
+use Rattle.numbers.proofs.Tests.{cond-true, cond-false}
+use Rattle.numbers.proofs.Units.{units-order, units-lt, zero-finite, zero-units}
+use Rattle.numbers.proofs.Heaviest.{Weights, Among, heaviest-weight, heaviest-among, heaviest-above}
 use Rattle.links.specs.First.{firstBelow, FirstIn}
 use Rattle.links.specs.declared.lower.Side.{Side}
 use Rattle.links.proofs.Firsts.{split, first-in}
 use Rattle.walks.specs.Uses.{AllWeights, isLargest, bestUse}
 use Rattle.walks.specs.Live.{Gaps}
 use Rattle.walks.specs.declared.uses.SplitUse.{SplitUse}
+use Rattle.walks.specs.declared.uses.BestUse.{BestUse}
 use Rattle.walks.specs.declared.uses.BestUse.the-variants.{At, Nothing}
 use Rattle.walks.proofs.UseTable.{use-table-weights}
 use Rattle.walkers.specs.Meeting.{weightOf}
@@ -54,6 +57,33 @@ among-row (v ∷ ws) w (inr a) = let r = among-row ws w a in (suc (r .0), up (r 
     up : (k n : ℕ) → k < n → suc k < suc n
     up k n h = omega (arith, h)
 
+row-among : (ws : List Float) (k : ℕ) → k < length ws → Among (getD ws k zeroWeight) ws
+row-among [] k h = absurd (not-suc-le-zero h)
+row-among (w ∷ ws) zero h = inl refl
+row-among (w ∷ ws) (suc k) h = inr (row-among ws k (le-of-suc-le-suc h))
+
+weights-of : (ws : List Float) → AllWeights ws → Weights ws
+weights-of [] f = tt
+weights-of (w ∷ ws) f = (f 0 (some (length ws)), weights-of ws (λ k h. f (suc k) (up k (length ws) h)))
+  where
+    some : (n : ℕ) → 0 < suc n
+    some n = omega arith
+
+    up : (k n : ℕ) → k < n → suc k < suc n
+    up k n h = omega (arith, h)
+
+unnot : (b : Bool) → not b ≡ false → T b
+unnot true e = tt
+unnot false e = absurd (let z : _≡_ {A = ℕ} 0 1 = cc in omega arith)
+
+-- a best use among main weights: the largest, above zero, earliest on ties, in a table of more than one row
+pub record IsBest (ws : List Float) (best : ℕ) : Type 0 where
+  pub several : 1 < length ws
+  pub inside : best < length ws
+  pub above-zero : 0 < unitsOf (getD ws best zeroWeight)
+  pub largest : (k : ℕ) → k < length ws → unitsOf (getD ws k zeroWeight) ≤ unitsOf (getD ws best zeroWeight)
+  pub earliest : (k : ℕ) → k < best → unitsOf (getD ws k zeroWeight) < unitsOf (getD ws best zeroWeight)
+
 -- no weight is below itself
 not-below : (x : Float) → Weight x → T (lt x x) → ⊥
 not-below x w t = lt-irrefl (unitsOf x) (units-lt w w t)
@@ -70,10 +100,6 @@ module _ (ws : List Float) (given : AllWeights ws) where
       here k h e n =
           not-below (getD ws k zeroWeight) (given k h)
           (subst (λ (x : Float). T (lt (getD ws k zeroWeight) x)) (sym e) (unnot (lt (getD ws k zeroWeight) (heaviest ws)) n))
-        where
-          unnot : (b : Bool) → not b ≡ false → T b
-          unnot true e = tt
-          unnot false e = absurd (let z : _≡_ {A = ℕ} 0 1 = cc in omega arith)
 
       by : (heaviest ws ≡ zeroWeight) ⊎ Among (heaviest ws) ws → firstBelow (isLargest ws) (length ws) < length ws
       by (inl e) = absurd (not-below zeroWeight (finite zero-finite) (subst (λ (x : Float). T (lt zeroWeight x)) e t))
@@ -84,16 +110,80 @@ module _ (ws : List Float) (given : AllWeights ws) where
             | inr l ↦ l
           ]
 
-  pub best-inside : (best : ℕ) → bestUse ws ≡ At best → best < length ws
-  unfolding bestUse
-  best-inside best e = by (leb (length ws) 1) (lt zeroWeight (heaviest ws)) refl e
+  -- none is lighter than the largest
+  heaviest-is : Weight (heaviest ws)
+  heaviest-is = heaviest-weight ws (weights-of ws given)
+
+  at-most-heaviest : (k : ℕ) → k < length ws → unitsOf (getD ws k zeroWeight) ≤ unitsOf (heaviest ws)
+  at-most-heaviest k h = heaviest-above ws (weights-of ws given) (getD ws k zeroWeight) (row-among ws k h)
+
+  -- whether there is a best use, and which: by what the definition asks
+  best-is-found : T (not (leb (length ws) 1)) → T (lt zeroWeight (heaviest ws)) → IsBest ws (firstBelow (isLargest ws) (length ws))
+  best-is-found l t =
+      record {
+        several = nleb→lt (length ws) 1 l;
+        inside = inside;
+        above-zero = let z = units-lt (finite zero-finite) heaviest-is t in let h = top in omega (arith, z, h);
+        largest = λ k h. le-trans (at-most-heaviest k h) top;
+        earliest = λ k h. lt-of-lt-of-le (units-lt (given k (lt-trans h inside)) heaviest-is (unnot (lt (getD ws k zeroWeight) (heaviest ws)) (first-in (isLargest ws) (length ws) .passed k zero-le h))) top;
+      }
     where
-      by : (a b : Bool) → lt zeroWeight (heaviest ws) ≡ b → cond a Nothing (cond b (At (firstBelow (isLargest ws) (length ws))) Nothing) ≡ At best → best < length ws
-      by true b q e = absurd (let z : _≡_ {A = ℕ} 0 1 = cc in omega arith)
-      by false false q e = absurd (let z : _≡_ {A = ℕ} 0 1 = cc in omega arith)
-      by false true q e =
+      best : ℕ
+      best = firstBelow (isLargest ws) (length ws)
+
+      inside : best < length ws
+      inside = largest-inside t
+
+      top : unitsOf (heaviest ws) ≤ unitsOf (getD ws best zeroWeight)
+      top =
+          nltb→le (unitsOf (getD ws best zeroWeight)) (unitsOf (heaviest ws))
+          (subst (λ (b : Bool). T (not b)) (units-order (given best inside) heaviest-is) (subst T (sym (first-in (isLargest ws) (length ws) .found inside)) tt))
+
+  -- the best use: the largest main weight, above zero, earliest on ties
+  pub best-is : (best : ℕ) → bestUse ws ≡ At best → IsBest ws best
+  unfolding bestUse
+  best-is best e = by (leb (length ws) 1) (lt zeroWeight (heaviest ws)) refl refl e
+    where
+      by : (a b : Bool) → leb (length ws) 1 ≡ a → lt zeroWeight (heaviest ws) ≡ b → cond a Nothing (cond b (At (firstBelow (isLargest ws) (length ws))) Nothing) ≡ At best → IsBest ws best
+      by true b p q e = absurd (let z : _≡_ {A = ℕ} 0 1 = cc in omega arith)
+      by false false p q e = absurd (let z : _≡_ {A = ℕ} 0 1 = cc in omega arith)
+      by false true p q e =
           let same : firstBelow (isLargest ws) (length ws) ≡ best = cc in
-          subst (λ (n : ℕ). n < length ws) same (largest-inside (subst T (sym q) tt))
+          subst (IsBest ws) same (best-is-found (subst (λ (b : Bool). T (not b)) (sym p) tt) (subst T (sym q) tt))
+
+  -- there is none exactly in a table of one row, or if no weight is above zero
+  pub no-best-exactly : (bestUse ws ≡ Nothing) ↔ ((length ws ≤ 1) ⊎ ((k : ℕ) → k < length ws → unitsOf (getD ws k zeroWeight) ≡ 0))
+  unfolding bestUse
+  no-best-exactly = (none (leb (length ws) 1) (lt zeroWeight (heaviest ws)) refl refl, λ h. ⊎-elim short light h)
+    where
+      none : (a b : Bool) → leb (length ws) 1 ≡ a → lt zeroWeight (heaviest ws) ≡ b → cond a Nothing (cond b (At (firstBelow (isLargest ws) (length ws))) Nothing) ≡ Nothing
+          → (length ws ≤ 1) ⊎ ((k : ℕ) → k < length ws → unitsOf (getD ws k zeroWeight) ≡ 0)
+      none true b p q e = inl (leb→le (length ws) 1 (subst T (sym p) tt))
+      none false true p q e = absurd (let z : _≡_ {A = ℕ} 0 1 = cc in omega arith)
+      none false false p q e =
+          inr (λ k h.
+          let l = at-most-heaviest k h in
+          let z = nltb→le (unitsOf zeroWeight) (unitsOf (heaviest ws)) (subst (λ (b : Bool). T (not b)) (sym q ∙ units-order (finite zero-finite) heaviest-is) tt) in
+          let n = zero-units in
+          omega (arith, l, z, n))
+
+      short : length ws ≤ 1 → cond (leb (length ws) 1) Nothing (cond (lt zeroWeight (heaviest ws)) (At (firstBelow (isLargest ws) (length ws))) Nothing) ≡ Nothing
+      short h = cond-true Nothing (cond (lt zeroWeight (heaviest ws)) (At (firstBelow (isLargest ws) (length ws))) Nothing) (le-leb (length ws) 1 h)
+
+      either : (a : Bool) → cond a Nothing Nothing ≡ Nothing
+      either true = refl
+      either false = refl
+
+      light : ((k : ℕ) → k < length ws → unitsOf (getD ws k zeroWeight) ≡ 0) → cond (leb (length ws) 1) Nothing (cond (lt zeroWeight (heaviest ws)) (At (firstBelow (isLargest ws) (length ws))) Nothing) ≡ Nothing
+      light h =
+          ap (λ (x : BestUse). cond (leb (length ws) 1) Nothing x)
+          (cond-false (At (firstBelow (isLargest ws) (length ws))) Nothing
+          (units-order (finite zero-finite) heaviest-is ∙ le-ltb (unitsOf zeroWeight) (unitsOf (heaviest ws)) (le-trans (le-of-eq (by (heaviest-among ws))) zero-le)))
+          ∙ either (leb (length ws) 1)
+        where
+          by : (heaviest ws ≡ zeroWeight) ⊎ Among (heaviest ws) ws → unitsOf (heaviest ws) ≡ 0
+          by (inl e) = ap unitsOf e ∙ zero-units
+          by (inr a) = let r = among-row ws (heaviest ws) a in ap unitsOf (sym (r .2)) ∙ h (r .0) (r .1)
 
 -- the main weights of a job's uses
 abbrev pub mainsOf : Job → List Float
@@ -105,11 +195,19 @@ pub record Proposed (job : Job) (best : ℕ) (p : SplitProposal) : Type 0 where
   pub is-best : bestUse (mainsOf job) ≡ At best
   pub found : regionOf (seenOfJob job best) ≡ Region·is.Found p
 
+-- it is one as document 01 says, and stands in the use table
+pub job-best : (job : Job) → Accepted job → (best : ℕ) → bestUse (mainsOf job) ≡ At best → IsBest (mainsOf job) best
+job-best job accepted best e = best-is (mainsOf job) (use-table-weights (sourceOfJob job) (accepted .scales)) best e
+
 pub job-best-inside : (job : Job) → Accepted job → (best : ℕ) → bestUse (mainsOf job) ≡ At best → best < length (usesOfJob job)
 job-best-inside job accepted best e =
-    let i = best-inside (mainsOf job) (use-table-weights (sourceOfJob job) (accepted .scales)) best e in
+    let i = job-best job accepted best e .inside in
     let l = length-map (usesOfJob job) (λ (u : SplitUse). u .weight) in
     omega (arith, i, l)
+
+-- none of kind 1: exactly if the use table has one row, or no main weight is above zero
+pub job-no-best-exactly : (job : Job) → Accepted job → (bestUse (mainsOf job) ≡ Nothing) ↔ ((length (mainsOf job) ≤ 1) ⊎ ((k : ℕ) → k < length (mainsOf job) → unitsOf (getD (mainsOf job) k zeroWeight) ≡ 0))
+job-no-best-exactly job accepted = no-best-exactly (mainsOf job) (use-table-weights (sourceOfJob job) (accepted .scales))
 
 -- ---- demand 3
 module _ (job : Job) (best : ℕ) (p : SplitProposal) (given : Proposed job best p) where
