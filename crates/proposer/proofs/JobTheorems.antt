@@ -27,6 +27,7 @@ use Rattle.walks.specs.declared.uses.BestUse.{BestUse}
 use Rattle.walks.specs.declared.uses.BestUse.the-variants.{At, Nothing}
 use Rattle.walks.proofs.UseTable.{use-table-weights}
 use Rattle.walkers.specs.Meeting.{weightOf}
+use Rattle.gaps.specs.Gaps.{initialGap}
 use Rattle.tables.specs.GapTables.{fromsOf, tosOf}
 use Rattle.region.specs.Growth.{GapsSeen, Span, ownSpan, weightsMet, heaviestMet, weightTest, usedUp, growth}
 use Rattle.region.specs.Proposal.{regionOf, covers, gapsCovered}
@@ -42,7 +43,7 @@ use Rattle.verdict.specs.Job.{Job, sourceOfJob}
 use Rattle.verdict.proofs.Accepted.{Accepted}
 use Rattle.proposer.specs.View.{usesOfJob, gapsOfJob, segmentsOfJob, seenOfJob}
 use Rattle.proposer.proofs.SegmentOrder.{InGap, fromColumn, toColumn}
-use Rattle.proposer.proofs.JobView.{segmentOfJob, gapOfSegment, reservationOf, Weighs, CountsAsFixed, gap-weighs, gap-weighed-by, gap-fixed, job-tiles, job-sound, segment-in-gap}
+use Rattle.proposer.proofs.JobView.{segmentOfJob, gapOfSegment, reservationOf, Weighs, CountsAsFixed, FixedMet, gap-weighs, gap-weighed-by, gap-fixed, gap-fixed-exactly, job-tiles, job-sound, segment-in-gap}
 
 -- ---- the best use stands in the table
 -- a weight of a list stands in one of its rows
@@ -253,10 +254,16 @@ module _ (job : Job) (best : ℕ) (p : SplitProposal) (given : Proposed job best
   pub job-strict : T (exceeds 2007 (normalised (p .«use_weight») (p .«live_insts») (job .k)) (p .«interference_weight»))
   job-strict = found-strict (seenOfJob job best) p (given .found) proposed-sound
 
--- none of kind 2: exactly if the best use's own gap meets something fixed or fails the weight test by itself, with 1 instruction
+-- none of kind 2: exactly if a gap segment of the best use's own gap meets something that counts as fixed, or the weight test fails for that gap
+-- alone, with 1 instruction
 pub job-nothing-exactly : (job : Job) (best : ℕ)
-    → (regionOf (seenOfJob job best) ≡ Region·is.Nothing) ↔ (T (seenOfJob job best .fixed (seenOfJob job best .own)) ⊎ T (not (weightTest (seenOfJob job best) (ownSpan (seenOfJob job best)))))
-job-nothing-exactly job best = nothing-exactly (seenOfJob job best)
+    → (regionOf (seenOfJob job best) ≡ Region·is.Nothing) ↔ (FixedMet job best (initialGap (job .blocks) (usesOfJob job) best) ⊎ T (not (weightTest (seenOfJob job best) (ownSpan (seenOfJob job best)))))
+job-nothing-exactly job best =
+    let own = gap-fixed-exactly job best (seenOfJob job best .own) in
+    let all = nothing-exactly (seenOfJob job best) in (
+      (λ e. elim (all .0 e) [ inl f ↦ inl (own .0 f) | inr t ↦ inr t ]),
+      (λ h. all .1 (elim h [ inl m ↦ inl (own .1 m) | inr t ↦ inr t ])),
+    )
 
 -- ---- what a proposal's region meets, in the job's own rows
 -- a proposal's region: the gap segments from its left to before its right

@@ -1,6 +1,6 @@
 -- What growth sees of an accepted job is as the walkers and growth rely on
 use mathlib.Core.Path.{_≡_, refl, sym, ap, _∙_, subst}
-use mathlib.Core.Logic.{_⊎_, inl, inr, ⊎-elim}
+use mathlib.Core.Logic.{_⊎_, inl, inr, ⊎-elim, _↔_}
 use mathlib.Core.Bool.{Bool, true, false, _||_, cond}
 use mathlib.Core.List.{List, [], _∷_, _++_, map}
 use Prim.Native.Nat.{ℕ, zero, suc, _+_, _-_, _^_, _≤_, _<_}
@@ -144,12 +144,42 @@ any-row test [] i h t = absurd (not-suc-le-zero h)
 any-row test (r ∷ rows) zero h t = or-left (test r) (anyOf test rows) t
 any-row test (r ∷ rows) (suc i) h t = or-right (test r) (anyOf test rows) (any-row test rows i (le-of-suc-le-suc h) t)
 
+record RowThat (test : Reservation → Bool) (rows : List Reservation) : Type 0 where
+  row : ℕ
+  inside : row < length rows
+  passes : T (test (getD rows row noReservation))
+
+or-parts : (a b : Bool) → T (a || b) → T a ⊎ T b
+or-parts true b t = inl tt
+or-parts false b t = inr t
+
+row-any : (test : Reservation → Bool) (rows : List Reservation) → T (anyOf test rows) → RowThat test rows
+unfolding anyOf
+row-any test [] t = absurd t
+row-any test (r ∷ rows) t =
+    elim (or-parts (test r) (anyOf test rows) t) [
+      | inl h ↦ record { row = 0; inside = some (length rows); passes = h }
+      | inr h ↦ let m = row-any test rows h in record { row = suc (m .row); inside = up (m .row) (length rows) (m .inside); passes = m .passes }
+    ]
+  where
+    some : (n : ℕ) → 0 < suc n
+    some n = omega arith
+
+    up : (i n : ℕ) → i < n → suc i < suc n
+    up i n h = omega (arith, h)
+
 -- gap segments picked by a test meet what each of them meets
 record PickedWith (p : Register) (t : Reserved) (test : ℕ → Bool) (at : ℕ → Seen.GapSegment) (n : ℕ) (w : Float) : Type 0 where
   segment : ℕ
   inside : segment < n
   is-picked : test segment ≡ true
   meets : Among w (weightsMet p t (at segment))
+
+record PickedFixed (p : Register) (t : Reserved) (test : ℕ → Bool) (at : ℕ → Seen.GapSegment) (n : ℕ) : Type 0 where
+  segment : ℕ
+  inside : segment < n
+  is-picked : test segment ≡ true
+  meets : T (fixedMet p t (at segment))
 
 module _ (p : Register) (t : Reserved) (test : ℕ → Bool) (at : ℕ → Seen.GapSegment) where
   abbrev last : ℕ → List Seen.GapSegment
@@ -199,6 +229,24 @@ module _ (p : Register) (t : Reserved) (test : ℕ → Bool) (at : ℕ → Seen.
           (or-left (fixedMet p t (at n)) false (subst (λ (x : ℕ). T (fixedMet p t (at x))) q f)))
       by on (inr l) = or-left (fixedMetAny p t (picked test at n)) (fixedMetAny p t (last n)) (on l e f)
 
+  picked-fixed : (n : ℕ) → T (fixedMetAny p t (picked test at n)) → PickedFixed p t test at n
+  unfolding picked fixedMetAny anyOf
+  picked-fixed zero f = absurd f
+  picked-fixed (suc n) f =
+      by (picked-fixed n) (or-parts (fixedMetAny p t (picked test at n)) (fixedMetAny p t (last n)) (subst T (fixed-append p t (picked test at n) (last n)) f))
+    where
+      next : (k n : ℕ) → k < n → k < suc n
+      next k n h = omega (arith, h)
+
+      this : (b : Bool) → test n ≡ b → T (fixedMetAny p t (cond b (at n ∷ []) [])) → PickedFixed p t test at (suc n)
+      this true e m =
+          record { segment = n; inside = le-of-eq refl; is-picked = e; meets = ⊎-elim (λ x. x) (λ x. absurd x) (or-parts (fixedMet p t (at n)) false m) }
+      this false e m = absurd m
+
+      by : (T (fixedMetAny p t (picked test at n)) → PickedFixed p t test at n) → T (fixedMetAny p t (picked test at n)) ⊎ T (fixedMetAny p t (last n)) → PickedFixed p t test at (suc n)
+      by on (inl m) = let r = on m in record { segment = r .segment; inside = next (r .segment) n (r .inside); is-picked = r .is-picked; meets = r .meets }
+      by on (inr m) = this (test n) refl m
+
 -- a gap segment of a job, as the walkers see it
 abbrev pub segmentOfJob : Job → ℕ → ℕ → Seen.GapSegment
 segmentOfJob job best k = segmentIn (segmentColumns (segmentsOfJob job best)) k
@@ -230,6 +278,13 @@ pub record WeightMet (job : Job) (best g : ℕ) (w : Float) : Type 0 where
   pub weighs : Weighs job best segment row
   pub of-gap : gapOfSegment job best segment ≡ g
   pub has : Meeting.weightOf (job .weights) (reservationOf job row) ≡ w
+
+-- and something that counts as fixed likewise
+pub record FixedMet (job : Job) (best g : ℕ) : Type 0 where
+  pub segment : ℕ
+  pub row : ℕ
+  pub counts : CountsAsFixed job best segment row
+  pub of-gap : gapOfSegment job best segment ≡ g
 
 module _ (job : Job) (best : ℕ) where
   abbrev columns : GapColumns
@@ -266,6 +321,21 @@ module _ (job : Job) (best : ℕ) where
       fixed-picked (registerOf job) (reservedOfJob job) (ofGap columns (gapOfSegment job best k)) (segmentIn columns) (columns .used) k (let s = m .segment in let u = used in omega (arith, s, u))
       (eq-eqb (gapOfSegment job best k) (gapOfSegment job best k) refl)
       (any-row (fixedAgainst (registerOf job) (job .fixedUses) (segmentOfJob job best k)) (job .reservations) i (m .row) (m .meets))
+
+  pub gap-fixed-by : (g : ℕ) → T (seenOfJob job best .fixed g) → FixedMet job best g
+  unfolding fixedMet
+  gap-fixed-by g f =
+      let s = picked-fixed (registerOf job) (reservedOfJob job) (ofGap columns g) (segmentIn columns) (columns .used) f in
+      let r = row-any (fixedAgainst (registerOf job) (job .fixedUses) (segmentOfJob job best (s .segment))) (job .reservations) (s .meets) in
+      record {
+        segment = s .segment;
+        row = r .row;
+        counts = record { segment = let i = s .inside in let u = used in omega (arith, i, u); row = r .inside; meets = r .passes };
+        of-gap = eqb-true (gapOfSegment job best (s .segment)) g (s .is-picked);
+      }
+
+  pub gap-fixed-exactly : (g : ℕ) → T (seenOfJob job best .fixed g) ↔ FixedMet job best g
+  gap-fixed-exactly g = (gap-fixed-by g, λ m. subst (λ (x : ℕ). T (seenOfJob job best .fixed x)) (m .of-gap) (gap-fixed (m .segment) (m .row) (m .counts)))
 
 -- ---- an accepted job
 module _ (job : Job) (accepted : Accepted job) where
