@@ -1,4 +1,4 @@
--- What holds of every accepted job that is answered a proposal, or none of kind 2; and the ring and chain law over every list of them
+-- What holds of every accepted job that is answered a proposal, or none of either kind; and the ring and chain law over every list of proposals
 use mathlib.Core.Path.{_≡_, refl, sym, ap, _∙_, subst}
 use mathlib.Core.Logic.{_⊎_, inl, inr, ⊎-elim, _↔_}
 use mathlib.Core.Bool.{Bool, true, false, not, cond}
@@ -111,7 +111,7 @@ module _ (ws : List Float) (given : AllWeights ws) where
             | inr l ↦ l
           ]
 
-  -- none is lighter than the largest
+  -- none is heavier than the largest
   heaviest-is : Weight (heaviest ws)
   heaviest-is = heaviest-weight ws (weights-of ws given)
 
