@@ -1,38 +1,49 @@
--- What holds of every accepted job that is answered a proposal, or none of kind 2; and the ring and chain law over every list of them
-use mathlib.Core.Path.{_≡_, refl, sym, ap, subst}
-use mathlib.Core.Logic.{_⊎_, inl, inr, _↔_}
+-- What holds of every accepted job that is answered a proposal, or none of either kind; and the ring and chain law over every list of proposals
+use mathlib.Core.Path.{_≡_, refl, sym, ap, _∙_, subst}
+use mathlib.Core.Logic.{_⊎_, inl, inr, ⊎-elim, _↔_}
 use mathlib.Core.Bool.{Bool, true, false, not, cond}
 use mathlib.Core.List.{List, [], _∷_, map}
-use Prim.Native.Nat.{ℕ, zero, suc, _+_, _≤_, _<_}
-use native.Mathlib.Nat.{le-refl, lt-irrefl, eq-or-lt-of-le}
+use Prim.Native.Nat.{ℕ, zero, suc, _+_, _*_, _/_, _≤_, _<_, zero-le}
+use native.Mathlib.Nat.{le-refl, le-trans, le-of-eq, lt-trans, lt-of-lt-of-le, lt-irrefl, not-suc-le-zero, le-of-suc-le-suc, eq-or-lt-of-le}
 use native.Mathlib.Omega.{arith}
-use lib.Dec.{T, leb}
-use lib.Ieee.{Float, lt}
-use lib.ListN.{length, getD, length-map}
+use lib.Dec.{T, leb, leb→le, nleb→lt, nltb→le, lit≤}
+use lib.Ieee.{Float, binary32, lt, toBits}
+use lib.ListN.{length, getD, length-map, List·getD-eq-default}
+use borrow.Author.Tests.{le-ltb, le-leb}
 use Rattle.numbers.specs.Weight.{Weight, finite, unitsOf, zeroWeight, heaviest}
+use Rattle.numbers.specs.Point.{instOf}
 use Rattle.numbers.specs.Normal.{normalised, exceeds}
 use Rattle.numbers.specs.Chain.{longest}
-use Rattle.numbers.proofs.Units.{units-lt, zero-finite}
-use Rattle.numbers.proofs.Heaviest.{Among, heaviest-among}
+use Rattle.numbers.proofs.Tests.{cond-true, cond-false}
+use Rattle.numbers.proofs.Units.{units-order, units-lt, zero-finite, zero-units}
+use Rattle.numbers.proofs.Heaviest.{Weights, Among, heaviest-weight, heaviest-among, heaviest-above}
 use Rattle.links.specs.First.{firstBelow, FirstIn}
 use Rattle.links.specs.declared.lower.Side.{Side}
-use Rattle.links.proofs.Firsts.{first-in}
+use Rattle.links.proofs.Firsts.{split, first-in}
 use Rattle.walks.specs.Uses.{AllWeights, isLargest, bestUse}
+use Rattle.walks.specs.Live.{Gaps}
 use Rattle.walks.specs.declared.uses.SplitUse.{SplitUse}
+use Rattle.walks.specs.declared.uses.BestUse.{BestUse}
 use Rattle.walks.specs.declared.uses.BestUse.the-variants.{At, Nothing}
 use Rattle.walks.proofs.UseTable.{use-table-weights}
-use Rattle.region.specs.Growth.{ownSpan, heaviestMet, weightTest, usedUp, growth}
-use Rattle.region.specs.Proposal.{regionOf}
-use Rattle.region.specs.Demand.{Around, Ended, FailedBefore, MeetsFixed, SoundGaps, Demand3, sumOver, addedTo, gapsBeside, gapsGrown}
-use Rattle.region.specs.Evictions.{Promise, Each, Evicts, EvictionsEnd, MeetsCarrier, member, Given, IsFound, promised}
+use Rattle.walkers.specs.Meeting.{weightOf}
+use Rattle.gaps.specs.Gaps.{initialGap}
+use Rattle.tables.specs.GapTables.{fromsOf, tosOf}
+use Rattle.region.specs.Growth.{GapsSeen, Span, ownSpan, weightsMet, heaviestMet, weightTest, usedUp, growth}
+use Rattle.region.specs.Proposal.{regionOf, covers, gapsCovered}
+use Rattle.region.specs.Demand.{Around, Ended, In, FailedBefore, MeetsFixed, SoundGaps, Demand3, sumOver, addedTo, gapsBeside, gapsGrown}
+use Rattle.region.specs.Evictions.{Promise, Each, EvictsAfter, Evicts, EvictionsEnd, MeetsCarrier, member, promiseOf, Given, IsFound, promised}
 use Rattle.region.specs.declared.proposal.SplitProposal.{SplitProposal}
 use Rattle.region.specs.declared.proposal.Region.the-variants as Region·is
+use Rattle.region.proofs.Meetings.{met-of-gap, gap-of-met}
+use Rattle.region.proofs.Ends.{covers-exactly}
 use Rattle.region.proofs.Proposals.{nothing-exactly, found-ended, found-side-ends, found-demand3, found-around, found-use-weight, found-live-insts, found-no-fixed, found-heaviest, found-strict}
-use Rattle.region.proofs.Evictions.{found-evictions-end}
+use Rattle.region.proofs.Evictions.{found-evictions-end, carried-bits}
 use Rattle.verdict.specs.Job.{Job, sourceOfJob}
 use Rattle.verdict.proofs.Accepted.{Accepted}
-use Rattle.proposer.specs.View.{usesOfJob, seenOfJob}
-use Rattle.proposer.proofs.JobView.{job-sound}
+use Rattle.proposer.specs.View.{usesOfJob, gapsOfJob, segmentsOfJob, seenOfJob}
+use Rattle.proposer.proofs.SegmentOrder.{InGap, fromColumn, toColumn}
+use Rattle.proposer.proofs.JobView.{segmentOfJob, gapOfSegment, reservationOf, Weighs, CountsAsFixed, FixedMet, gap-weighs, gap-weighed-by, gap-fixed, gap-fixed-exactly, job-tiles, job-sound, segment-in-gap}
 
 -- ---- the best use stands in the table
 -- a weight of a list stands in one of its rows
@@ -46,6 +57,33 @@ among-row (v ∷ ws) w (inr a) = let r = among-row ws w a in (suc (r .0), up (r 
   where
     up : (k n : ℕ) → k < n → suc k < suc n
     up k n h = omega (arith, h)
+
+row-among : (ws : List Float) (k : ℕ) → k < length ws → Among (getD ws k zeroWeight) ws
+row-among [] k h = absurd (not-suc-le-zero h)
+row-among (w ∷ ws) zero h = inl refl
+row-among (w ∷ ws) (suc k) h = inr (row-among ws k (le-of-suc-le-suc h))
+
+weights-of : (ws : List Float) → AllWeights ws → Weights ws
+weights-of [] f = tt
+weights-of (w ∷ ws) f = (f 0 (some (length ws)), weights-of ws (λ k h. f (suc k) (up k (length ws) h)))
+  where
+    some : (n : ℕ) → 0 < suc n
+    some n = omega arith
+
+    up : (k n : ℕ) → k < n → suc k < suc n
+    up k n h = omega (arith, h)
+
+unnot : (b : Bool) → not b ≡ false → T b
+unnot true e = tt
+unnot false e = absurd (let z : _≡_ {A = ℕ} 0 1 = cc in omega arith)
+
+-- a best use among main weights: the largest, above zero, earliest on ties, in a table of more than one row
+pub record IsBest (ws : List Float) (best : ℕ) : Type 0 where
+  pub several : 1 < length ws
+  pub inside : best < length ws
+  pub above-zero : 0 < unitsOf (getD ws best zeroWeight)
+  pub largest : (k : ℕ) → k < length ws → unitsOf (getD ws k zeroWeight) ≤ unitsOf (getD ws best zeroWeight)
+  pub earliest : (k : ℕ) → k < best → unitsOf (getD ws k zeroWeight) < unitsOf (getD ws best zeroWeight)
 
 -- no weight is below itself
 not-below : (x : Float) → Weight x → T (lt x x) → ⊥
@@ -63,10 +101,6 @@ module _ (ws : List Float) (given : AllWeights ws) where
       here k h e n =
           not-below (getD ws k zeroWeight) (given k h)
           (subst (λ (x : Float). T (lt (getD ws k zeroWeight) x)) (sym e) (unnot (lt (getD ws k zeroWeight) (heaviest ws)) n))
-        where
-          unnot : (b : Bool) → not b ≡ false → T b
-          unnot true e = tt
-          unnot false e = absurd (let z : _≡_ {A = ℕ} 0 1 = cc in omega arith)
 
       by : (heaviest ws ≡ zeroWeight) ⊎ Among (heaviest ws) ws → firstBelow (isLargest ws) (length ws) < length ws
       by (inl e) = absurd (not-below zeroWeight (finite zero-finite) (subst (λ (x : Float). T (lt zeroWeight x)) e t))
@@ -77,16 +111,80 @@ module _ (ws : List Float) (given : AllWeights ws) where
             | inr l ↦ l
           ]
 
-  pub best-inside : (best : ℕ) → bestUse ws ≡ At best → best < length ws
-  unfolding bestUse
-  best-inside best e = by (leb (length ws) 1) (lt zeroWeight (heaviest ws)) refl e
+  -- none is heavier than the largest
+  heaviest-is : Weight (heaviest ws)
+  heaviest-is = heaviest-weight ws (weights-of ws given)
+
+  at-most-heaviest : (k : ℕ) → k < length ws → unitsOf (getD ws k zeroWeight) ≤ unitsOf (heaviest ws)
+  at-most-heaviest k h = heaviest-above ws (weights-of ws given) (getD ws k zeroWeight) (row-among ws k h)
+
+  -- whether there is a best use, and which: by what the definition asks
+  best-is-found : T (not (leb (length ws) 1)) → T (lt zeroWeight (heaviest ws)) → IsBest ws (firstBelow (isLargest ws) (length ws))
+  best-is-found l t =
+      record {
+        several = nleb→lt (length ws) 1 l;
+        inside = inside;
+        above-zero = let z = units-lt (finite zero-finite) heaviest-is t in let h = top in omega (arith, z, h);
+        largest = λ k h. le-trans (at-most-heaviest k h) top;
+        earliest = λ k h. lt-of-lt-of-le (units-lt (given k (lt-trans h inside)) heaviest-is (unnot (lt (getD ws k zeroWeight) (heaviest ws)) (first-in (isLargest ws) (length ws) .passed k zero-le h))) top;
+      }
     where
-      by : (a b : Bool) → lt zeroWeight (heaviest ws) ≡ b → cond a Nothing (cond b (At (firstBelow (isLargest ws) (length ws))) Nothing) ≡ At best → best < length ws
-      by true b q e = absurd (let z : _≡_ {A = ℕ} 0 1 = cc in omega arith)
-      by false false q e = absurd (let z : _≡_ {A = ℕ} 0 1 = cc in omega arith)
-      by false true q e =
+      best : ℕ
+      best = firstBelow (isLargest ws) (length ws)
+
+      inside : best < length ws
+      inside = largest-inside t
+
+      top : unitsOf (heaviest ws) ≤ unitsOf (getD ws best zeroWeight)
+      top =
+          nltb→le (unitsOf (getD ws best zeroWeight)) (unitsOf (heaviest ws))
+          (subst (λ (b : Bool). T (not b)) (units-order (given best inside) heaviest-is) (subst T (sym (first-in (isLargest ws) (length ws) .found inside)) tt))
+
+  -- the best use: the largest main weight, above zero, earliest on ties
+  pub best-is : (best : ℕ) → bestUse ws ≡ At best → IsBest ws best
+  unfolding bestUse
+  best-is best e = by (leb (length ws) 1) (lt zeroWeight (heaviest ws)) refl refl e
+    where
+      by : (a b : Bool) → leb (length ws) 1 ≡ a → lt zeroWeight (heaviest ws) ≡ b → cond a Nothing (cond b (At (firstBelow (isLargest ws) (length ws))) Nothing) ≡ At best → IsBest ws best
+      by true b p q e = absurd (let z : _≡_ {A = ℕ} 0 1 = cc in omega arith)
+      by false false p q e = absurd (let z : _≡_ {A = ℕ} 0 1 = cc in omega arith)
+      by false true p q e =
           let same : firstBelow (isLargest ws) (length ws) ≡ best = cc in
-          subst (λ (n : ℕ). n < length ws) same (largest-inside (subst T (sym q) tt))
+          subst (IsBest ws) same (best-is-found (subst (λ (b : Bool). T (not b)) (sym p) tt) (subst T (sym q) tt))
+
+  -- there is none exactly in a table of one row, or if no weight is above zero
+  pub no-best-exactly : (bestUse ws ≡ Nothing) ↔ ((length ws ≤ 1) ⊎ ((k : ℕ) → k < length ws → unitsOf (getD ws k zeroWeight) ≡ 0))
+  unfolding bestUse
+  no-best-exactly = (none (leb (length ws) 1) (lt zeroWeight (heaviest ws)) refl refl, λ h. ⊎-elim short light h)
+    where
+      none : (a b : Bool) → leb (length ws) 1 ≡ a → lt zeroWeight (heaviest ws) ≡ b → cond a Nothing (cond b (At (firstBelow (isLargest ws) (length ws))) Nothing) ≡ Nothing
+          → (length ws ≤ 1) ⊎ ((k : ℕ) → k < length ws → unitsOf (getD ws k zeroWeight) ≡ 0)
+      none true b p q e = inl (leb→le (length ws) 1 (subst T (sym p) tt))
+      none false true p q e = absurd (let z : _≡_ {A = ℕ} 0 1 = cc in omega arith)
+      none false false p q e =
+          inr (λ k h.
+          let l = at-most-heaviest k h in
+          let z = nltb→le (unitsOf zeroWeight) (unitsOf (heaviest ws)) (subst (λ (b : Bool). T (not b)) (sym q ∙ units-order (finite zero-finite) heaviest-is) tt) in
+          let n = zero-units in
+          omega (arith, l, z, n))
+
+      short : length ws ≤ 1 → cond (leb (length ws) 1) Nothing (cond (lt zeroWeight (heaviest ws)) (At (firstBelow (isLargest ws) (length ws))) Nothing) ≡ Nothing
+      short h = cond-true Nothing (cond (lt zeroWeight (heaviest ws)) (At (firstBelow (isLargest ws) (length ws))) Nothing) (le-leb (length ws) 1 h)
+
+      either : (a : Bool) → cond a Nothing Nothing ≡ Nothing
+      either true = refl
+      either false = refl
+
+      light : ((k : ℕ) → k < length ws → unitsOf (getD ws k zeroWeight) ≡ 0) → cond (leb (length ws) 1) Nothing (cond (lt zeroWeight (heaviest ws)) (At (firstBelow (isLargest ws) (length ws))) Nothing) ≡ Nothing
+      light h =
+          ap (λ (x : BestUse). cond (leb (length ws) 1) Nothing x)
+          (cond-false (At (firstBelow (isLargest ws) (length ws))) Nothing
+          (units-order (finite zero-finite) heaviest-is ∙ le-ltb (unitsOf zeroWeight) (unitsOf (heaviest ws)) (le-trans (le-of-eq (by (heaviest-among ws))) zero-le)))
+          ∙ either (leb (length ws) 1)
+        where
+          by : (heaviest ws ≡ zeroWeight) ⊎ Among (heaviest ws) ws → unitsOf (heaviest ws) ≡ 0
+          by (inl e) = ap unitsOf e ∙ zero-units
+          by (inr a) = let r = among-row ws (heaviest ws) a in ap unitsOf (sym (r .2)) ∙ h (r .0) (r .1)
 
 -- the main weights of a job's uses
 abbrev pub mainsOf : Job → List Float
@@ -98,11 +196,19 @@ pub record Proposed (job : Job) (best : ℕ) (p : SplitProposal) : Type 0 where
   pub is-best : bestUse (mainsOf job) ≡ At best
   pub found : regionOf (seenOfJob job best) ≡ Region·is.Found p
 
+-- it is one as document 01 says, and stands in the use table
+pub job-best : (job : Job) → Accepted job → (best : ℕ) → bestUse (mainsOf job) ≡ At best → IsBest (mainsOf job) best
+job-best job accepted best e = best-is (mainsOf job) (use-table-weights (sourceOfJob job) (accepted .scales)) best e
+
 pub job-best-inside : (job : Job) → Accepted job → (best : ℕ) → bestUse (mainsOf job) ≡ At best → best < length (usesOfJob job)
 job-best-inside job accepted best e =
-    let i = best-inside (mainsOf job) (use-table-weights (sourceOfJob job) (accepted .scales)) best e in
+    let i = job-best job accepted best e .inside in
     let l = length-map (usesOfJob job) (λ (u : SplitUse). u .weight) in
     omega (arith, i, l)
+
+-- none of kind 1: exactly if the use table has one row, or no main weight is above zero
+pub job-no-best-exactly : (job : Job) → Accepted job → (bestUse (mainsOf job) ≡ Nothing) ↔ ((length (mainsOf job) ≤ 1) ⊎ ((k : ℕ) → k < length (mainsOf job) → unitsOf (getD (mainsOf job) k zeroWeight) ≡ 0))
+job-no-best-exactly job accepted = no-best-exactly (mainsOf job) (use-table-weights (sourceOfJob job) (accepted .scales))
 
 -- ---- demand 3
 module _ (job : Job) (best : ℕ) (p : SplitProposal) (given : Proposed job best p) where
@@ -148,10 +254,125 @@ module _ (job : Job) (best : ℕ) (p : SplitProposal) (given : Proposed job best
   pub job-strict : T (exceeds 2007 (normalised (p .«use_weight») (p .«live_insts») (job .k)) (p .«interference_weight»))
   job-strict = found-strict (seenOfJob job best) p (given .found) proposed-sound
 
--- none of kind 2: exactly if the best use's own gap meets something fixed or fails the weight test by itself, with 1 instruction
+-- none of kind 2: exactly if a gap segment of the best use's own gap meets something that counts as fixed, or the weight test fails for that gap
+-- alone, with 1 instruction
 pub job-nothing-exactly : (job : Job) (best : ℕ)
-    → (regionOf (seenOfJob job best) ≡ Region·is.Nothing) ↔ (T (seenOfJob job best .fixed (seenOfJob job best .own)) ⊎ T (not (weightTest (seenOfJob job best) (ownSpan (seenOfJob job best)))))
-job-nothing-exactly job best = nothing-exactly (seenOfJob job best)
+    → (regionOf (seenOfJob job best) ≡ Region·is.Nothing) ↔ (FixedMet job best (initialGap (job .blocks) (usesOfJob job) best) ⊎ T (not (weightTest (seenOfJob job best) (ownSpan (seenOfJob job best)))))
+job-nothing-exactly job best =
+    let own = gap-fixed-exactly job best (seenOfJob job best .own) in
+    let all = nothing-exactly (seenOfJob job best) in (
+      (λ e. elim (all .0 e) [ inl f ↦ inl (own .0 f) | inr t ↦ inr t ]),
+      (λ h. all .1 (elim h [ inl m ↦ inl (own .1 m) | inr t ↦ inr t ])),
+    )
+
+-- ---- what a proposal's region meets, in the job's own rows
+-- a proposal's region: the gap segments from its left to before its right
+abbrev pub InRegion : Job → ℕ → SplitProposal → ℕ → Type 0
+InRegion job best p k = T (covers p (instOf (segmentOfJob job best k .from .0)))
+
+-- it meets a kind 0 reservation with a weight
+pub record RegionMeets (job : Job) (best : ℕ) (p : SplitProposal) (w : Float) : Type 0 where
+  pub segment : ℕ
+  pub row : ℕ
+  pub in-region : InRegion job best p segment
+  pub weighs : Weighs job best segment row
+  pub has : weightOf (job .weights) (reservationOf job row) ≡ w
+
+-- it meets a reservation that carries a weight: kind 0, and the spill weight at its index has those bits
+pub record MeetsCarrying (job : Job) (best : ℕ) (p : SplitProposal) (w : Float) : Type 0 where
+  pub segment : ℕ
+  pub row : ℕ
+  pub in-region : InRegion job best p segment
+  pub weighs : Weighs job best segment row
+  pub carries : getD (job .weights) (reservationOf job row .index) 0 ≡ toBits binary32 w
+
+-- the bits of a job's spill weights are those of the weights
+bits-of : (job : Job) → Accepted job → (i : ℕ) → toBits binary32 (weightOf (job .weights) (reservationOf job i)) ≡ getD (job .weights) (reservationOf job i .index) 0
+unfolding weightOf
+bits-of job accepted i = carried-bits (getD (job .weights) x 0) (⊎-elim (accepted .weights x) (λ h. le-trans (le-of-eq (List·getD-eq-default (job .weights) 0 h)) (lit≤ tt)) (split x (length (job .weights))))
+  where
+    x : ℕ
+    x = reservationOf job i .index
+
+module _ (job : Job) (best : ℕ) (p : SplitProposal) (given : Proposed job best p) where
+  abbrev seen : GapsSeen
+  seen = seenOfJob job best
+
+  abbrev region : Span
+  region = growth (seenOfJob job best) (seenOfJob job best .count + 1) .region
+
+  -- its gap segments are those of the gaps grown
+  pub region-gaps : (k : ℕ) → k < length (segmentsOfJob job best) → InRegion job best p k ↔ In (growth (seenOfJob job best) (seenOfJob job best .count + 1) .region) (gapOfSegment job best k)
+  region-gaps k h =
+      subst (λ (q : SplitProposal). InRegion job best q k ↔ In region (gapOfSegment job best k)) (sym (job-demand3 job best p given .is-grown))
+      (covers-exactly seen (proposed-sound job best p given .rising) region (job-around job best p given) (heaviestMet seen region) (gapOfSegment job best k) (instOf (segmentOfJob job best k .from .0)) (inside .known)
+      (let l = inside .low in from-inst (getD (fromsOf (gapsOfJob job best)) (gapOfSegment job best k) 0) (segmentOfJob job best k .from .0) l)
+      (λ m. before-inst (segmentOfJob job best k .from .0) (getD (toColumn (segmentsOfJob job best)) k 0) (getD (tosOf (gapsOfJob job best)) (gapOfSegment job best k) 0) (getD (fromsOf (gapsOfJob job best)) (gapOfSegment job best k + 1) 0)
+      (inside .some) (inside .high) (tiles .follows (gapOfSegment job best k) m)))
+    where
+      best-in : best < length (usesOfJob job)
+      best-in = job-best-inside job (given .accepted) best (given .is-best)
+
+      tiles : Gaps (fromsOf (gapsOfJob job best)) (tosOf (gapsOfJob job best))
+      tiles = job-tiles job (given .accepted) best best-in
+
+      inside : InGap (fromsOf (gapsOfJob job best)) (tosOf (gapsOfJob job best)) (getD (fromColumn (segmentsOfJob job best)) k 0) (getD (toColumn (segmentsOfJob job best)) k 0) (gapOfSegment job best k)
+      inside = segment-in-gap job (given .accepted) best best-in k h
+
+      from-inst : (f x : ℕ) → 4 * f ≤ x → f ≤ x / 4
+      from-inst f x l = omega (arith, l)
+
+      before-inst : (x y t f : ℕ) → x < y → y ≤ 4 * t → f ≡ t → x / 4 < f
+      before-inst x y t f a b c = omega (arith, a, b, c)
+
+  -- what counts as fixed there counts against it: there is none
+  pub region-no-fixed : (k i : ℕ) → InRegion job best p k → CountsAsFixed job best k i → ⊥
+  region-no-fixed k i r m = job-no-fixed job best p given (gapOfSegment job best k, region-gaps k (m .segment) .0 r, gap-fixed job best k i m)
+
+  -- no kind 0 reservation that it meets is heavier than its interference weight
+  pub region-none-heavier : (k i : ℕ) → InRegion job best p k → Weighs job best k i → unitsOf (weightOf (job .weights) (reservationOf job i)) ≤ unitsOf (p .«interference_weight»)
+  region-none-heavier k i r m =
+      job-demand3 job best p given .none-heavier (gapOfSegment job best k) (region-gaps k (m .segment) .0 r) (weightOf (job .weights) (reservationOf job i)) (gap-weighs job best k i m)
+
+  -- which is the weight of one that it meets, or zero
+  pub region-heaviest-met : (p .«interference_weight» ≡ zeroWeight) ⊎ RegionMeets job best p (p .«interference_weight»)
+  region-heaviest-met =
+      elim (job-demand3 job best p given .heaviest-met) [
+        | inl e ↦ inl e
+        | inr m ↦
+            let w = gap-weighed-by job best (m .0) (p .«interference_weight») (m .2) in
+            inr (record {
+              segment = w .segment;
+              row = w .row;
+              in-region = region-gaps (w .segment) (w .weighs .segment) .1 (subst (In region) (sym (w .of-gap)) (m .1));
+              weighs = w .weighs;
+              has = w .has;
+            })
+      ]
+
+  -- it meets a reservation that carries a weight exactly if the weights that its gaps meet say so
+  pub carrying-exactly : (w : Float) → MeetsCarrying job best p w ↔ MeetsCarrier (promiseOf (seenOfJob job best) p) w
+  carrying-exactly w = (
+    (λ m. (
+      weightOf (job .weights) (reservationOf job (m .row)),
+      subst (λ (gs : List ℕ). Among (weightOf (job .weights) (reservationOf job (m .row))) (weightsMet (seen .met) gs)) (sym (job-demand3 job best p given .covered))
+          (met-of-gap seen region (gapOfSegment job best (m .segment)) (weightOf (job .weights) (reservationOf job (m .row))) (region-gaps (m .segment) (m .weighs .segment) .0 (m .in-region)) (gap-weighs job best (m .segment) (m .row) (m .weighs))),
+      bits-of job (given .accepted) (m .row) ∙ m .carries,
+    )),
+    (λ c. back (c .0) (c .1) (c .2)),
+  )
+    where
+      back : (v : Float) → Among v (weightsMet (seen .met) (gapsCovered seen p)) → toBits binary32 v ≡ toBits binary32 w → MeetsCarrying job best p w
+      back v a e =
+          let g = gap-of-met seen region v (subst (λ (gs : List ℕ). Among v (weightsMet (seen .met) gs)) (job-demand3 job best p given .covered) a) in
+          let m = gap-weighed-by job best (g .0) v (g .2) in
+          record {
+            segment = m .segment;
+            row = m .row;
+            in-region = region-gaps (m .segment) (m .weighs .segment) .1 (subst (In region) (sym (m .of-gap)) (g .1));
+            weighs = m .weighs;
+            carries = sym (bits-of job (given .accepted) (m .row)) ∙ ap (toBits binary32) (m .has) ∙ e;
+          }
 
 -- ---- the ring and chain law
 -- an accepted job with its best use and its proposal
@@ -161,49 +382,91 @@ pub record Entry : Type 0 where
   pub proposal : SplitProposal
   pub answered : Proposed job best proposal
 
-abbrev pub givenOf : Entry → Given
+-- its proposal's normalised weight, in that job's k
+abbrev pub weightIn : Entry → Float
+weightIn e = normalised (e .proposal .«use_weight») (e .proposal .«live_insts») (e .job .k)
+
+-- its proposal's region meets a reservation that carries a weight
+abbrev pub Meets : Entry → Float → Type 0
+Meets e w = MeetsCarrying (e .job) (e .best) (e .proposal) w
+
+-- each after an entry meets a reservation that carries the normalised weight of the one before
+abbrev pub ChainAfter : Entry → List Entry → Type 0
+ChainAfter e [] = Unit {0}
+ChainAfter e (f ∷ fs) = Meets f (weightIn e) × ChainAfter f fs
+
+-- each after the first
+abbrev pub Chain : List Entry → Type 0
+Chain [] = Unit {0}
+Chain (e ∷ es) = ChainAfter e es
+
+-- entry i of a list
+abbrev pub Stands : List Entry → ℕ → Entry → Type 0
+Stands [] i e = ⊥
+Stands (x ∷ es) zero e = x ≡ e
+Stands (x ∷ es) (suc i) e = Stands es i e
+
+-- no ring, and no long chain
+pub record ChainEnds (es : List Entry) : Type 0 where
+  -- no member's region meets a reservation that carries its own or a later one's normalised weight
+  pub no-ring : (i j : ℕ) → i ≤ j → (e f : Entry) → Stands es i e → Stands es j f → Meets e (weightIn f) → ⊥
+  -- there are at most 10,000 members, 9,495 if the first normalised weight is above zero
+  pub few : length es ≤ 10000
+  pub few-above-zero : (e : Entry) → Stands es 0 e → 0 < unitsOf (weightIn e) → length es ≤ longest
+
+abbrev givenOf : Entry → Given
 givenOf e = record { seen = seenOfJob (e .job) (e .best); proposal = e .proposal }
 
--- what its proposal promises
-abbrev pub promiseIn : Entry → Promise
-promiseIn e = promised (givenOf e)
+abbrev promises : List Entry → List Promise
+promises es = map promised (map givenOf es)
 
-entry-found : (e : Entry) → IsFound (givenOf e)
-entry-found e = record { sound = proposed-sound (e .job) (e .best) (e .proposal) (e .answered); found = e .answered .found }
+promises-long : (es : List Entry) → length (promises es) ≡ length es
+promises-long es = length-map (map givenOf es) promised ∙ length-map es givenOf
+
+promise-at : (es : List Entry) (i : ℕ) (e : Entry) → Stands es i e → (i < length (promises es)) × (member (promises es) i ≡ promised (givenOf e))
+promise-at [] i e s = absurd s
+promise-at (x ∷ es) zero e s = (some (length (promises es)), ap (λ (y : Entry). promised (givenOf y)) s)
+  where
+    some : (n : ℕ) → 0 < suc n
+    some n = omega arith
+promise-at (x ∷ es) (suc i) e s = let r = promise-at es i e s in (up i (length (promises es)) (r .0), r .1)
+  where
+    up : (i n : ℕ) → i < n → suc i < suc n
+    up i n h = omega (arith, h)
 
 each-found : (es : List Entry) → Each IsFound (map givenOf es)
 each-found [] = tt
-each-found (e ∷ es) = (entry-found e, each-found es)
-
-map-twice : (es : List Entry) → map promised (map givenOf es) ≡ map promiseIn es
-map-twice [] = refl
-map-twice (e ∷ es) = ap (λ (ps : List Promise). promiseIn e ∷ ps) (map-twice es)
+each-found (e ∷ es) = (record { sound = proposed-sound (e .job) (e .best) (e .proposal) (e .answered); found = e .answered .found }, each-found es)
 
 -- every weight test has numerator 2007
-each-2007 : (es : List Entry) → Each (λ (p : Promise). p .numerator ≤ 2007) (map promiseIn es)
+each-2007 : (es : List Entry) → Each (λ (p : Promise). p .numerator ≤ 2007) (promises es)
 each-2007 [] = tt
 each-2007 (e ∷ es) = (le-refl 2007, each-2007 es)
 
--- no ring, and no long chain
-pub record JobEvictionsEnd (es : List Entry) : Type 0 where
-  -- no member's region meets a reservation that carries its own or a later one's normalised weight
-  pub no-ring : (i j : ℕ) → i ≤ j → j < length es → MeetsCarrier (member (map promiseIn es) i) (member (map promiseIn es) j .weight) → ⊥
-  -- there are at most 10,000 members, 9,495 if the first normalised weight is above zero
-  pub few : length es ≤ 10000
-  pub few-above-zero : 0 < unitsOf (member (map promiseIn es) 0 .weight) → length es ≤ longest
+evicts-after : (e : Entry) (es : List Entry) → ChainAfter e es → EvictsAfter (promised (givenOf e)) (promises es)
+evicts-after e [] c = tt
+evicts-after e (f ∷ fs) c = (carrying-exactly (f .job) (f .best) (f .proposal) (f .answered) (weightIn e) .0 (c .0), evicts-after f fs (c .1))
+
+evicts : (es : List Entry) → Chain es → Evicts (promises es)
+evicts [] c = tt
+evicts (e ∷ es) c = evicts-after e es c
 
 -- the ring and chain law, of every list of accepted jobs and their proposals in which the region of each after the first meets a reservation that
--- carries the normalised weight of the one before; a job may stand in it twice
-pub job-evictions-end : (es : List Entry) → Evicts (map promiseIn es) → JobEvictionsEnd es
-job-evictions-end es evicts =
+-- carries the normalised weight of the one before; nothing is kept between the jobs, and a job may stand twice
+pub job-evictions-end : (es : List Entry) → Chain es → ChainEnds es
+job-evictions-end es chain =
     record {
-      no-ring = λ i j h l. ended .no-ring i j h (let e = long in omega (arith, l, e));
-      few = let f = ended .few (each-2007 es) in let e = long in omega (arith, f, e);
-      few-above-zero = λ z. subst (λ (n : ℕ). n ≤ longest) long (ended .few-above-zero (each-2007 es) z);
+      no-ring = λ i j h e f s t m.
+          let a = promise-at es i e s in
+          let b = promise-at es j f t in
+          ended .no-ring i j h (b .0)
+          (subst (λ (q : Promise). MeetsCarrier q (member (promises es) j .weight)) (sym (a .1))
+          (subst (λ (q : Promise). MeetsCarrier (promised (givenOf e)) (q .weight)) (sym (b .1)) (carrying-exactly (e .job) (e .best) (e .proposal) (e .answered) (weightIn f) .0 m)));
+      few = let f = ended .few (each-2007 es) in let e = promises-long es in omega (arith, f, e);
+      few-above-zero = λ e s z.
+          subst (λ (n : ℕ). n ≤ longest) (promises-long es)
+          (ended .few-above-zero (each-2007 es) (subst (λ (q : Promise). 0 < unitsOf (q .weight)) (sym (promise-at es 0 e s .1)) z));
     }
   where
-    ended : EvictionsEnd (map promiseIn es)
-    ended = subst EvictionsEnd (map-twice es) (found-evictions-end (map givenOf es) (each-found es) (subst Evicts (sym (map-twice es)) evicts))
-
-    long : length (map promiseIn es) ≡ length es
-    long = length-map es promiseIn
+    ended : EvictionsEnd (promises es)
+    ended = found-evictions-end (map givenOf es) (each-found es) (evicts es chain)

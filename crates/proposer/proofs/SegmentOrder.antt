@@ -110,17 +110,18 @@ module _ (froms tos : List ℕ) (gaps : Gaps froms tos) where
     gap-segments-order = order-from (length starts) 0 (omega arith)
 
 -- ---- rows in columns
-abbrev fromColumn : List GapSegment → List ℕ
+abbrev pub fromColumn : List GapSegment → List ℕ
 fromColumn rows = map (λ (s : GapSegment). s .from) rows
 
-abbrev toColumn : List GapSegment → List ℕ
+abbrev pub toColumn : List GapSegment → List ℕ
 toColumn rows = map (λ (s : GapSegment). s .to) rows
 
-abbrev gapColumn : List GapSegment → List ℕ
+abbrev pub gapColumn : List GapSegment → List ℕ
 gapColumn rows = map (λ (s : GapSegment). s .gap) rows
 
 module _ (froms tos : List ℕ) where
-  row-in-gap : (p : ℕ) (rows : List GapSegment) (q : ℕ) → InOrder froms tos p rows q → (k : ℕ) → k < length rows → InGap froms tos (getD (fromColumn rows) k 0) (getD (toColumn rows) k 0) (getD (gapColumn rows) k 0)
+  -- each row lies in its gap
+  pub row-in-gap : (p : ℕ) (rows : List GapSegment) (q : ℕ) → InOrder froms tos p rows q → (k : ℕ) → k < length rows → InGap froms tos (getD (fromColumn rows) k 0) (getD (toColumn rows) k 0) (getD (gapColumn rows) k 0)
   row-in-gap p [] q w k h = absurd (not-suc-le-zero h)
   row-in-gap p (r ∷ rows) q w zero h = w .1
   row-in-gap p (r ∷ rows) q w (suc k) h = row-in-gap (r .to) rows q (w .2) k (le-of-suc-le-suc h)
