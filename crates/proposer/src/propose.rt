@@ -281,12 +281,7 @@ pub fn propose_split(
             live.len(),
             min_freq.len(),
         ),
-        gap_segments: rows_of_four(
-            out_from.len(),
-            out_to.len(),
-            out_value.len(),
-            out_gap.len(),
-        ),
+        gap_segments: rows_of_four(out_from.len(), out_to.len(), out_value.len(), out_gap.len()),
         links: shorter(prev_lower_freq.len(), next_lower_freq.len()),
     };
     let checked = check_job(
