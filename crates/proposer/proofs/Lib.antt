@@ -3,3 +3,4 @@ pub mod SegmentOrder
 pub mod JobView
 pub mod JobTheorems
 pub mod Assembly
+pub mod Answered
