@@ -4,3 +4,4 @@ pub mod JobView
 pub mod JobTheorems
 pub mod Assembly
 pub mod Answered
+pub mod Cases
