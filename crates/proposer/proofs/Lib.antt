@@ -3,3 +3,5 @@ pub mod SegmentOrder
 pub mod JobView
 pub mod JobTheorems
 pub mod Assembly
+pub mod Answered
+pub mod Cases

@@ -1,0 +1,157 @@
+-- From the answer's definition to the theorems: each of the four answers exactly, demand 3 of every proposal answered, and the ring and chain law over what the call answers
+use mathlib.Core.Path.{_≡_, refl, sym, ap, ap₂, _∙_, subst}
+use mathlib.Core.Logic.{_⊎_, _↔_}
+use mathlib.Core.Bool.{not}
+use mathlib.Core.List.{List, map}
+use Prim.Native.Nat.{ℕ, _+_, _≤_, _<_}
+use native.Mathlib.Omega.{arith}
+use lib.Dec.{T}
+use lib.ListN.{length, getD}
+use Rattle.numbers.specs.Weight.{unitsOf, zeroWeight}
+use Rattle.links.specs.declared.blocks.Checked.{Checked}
+use Rattle.links.specs.declared.blocks.Checked.the-variants as Checked·is
+use Rattle.links.specs.declared.blocks.Refusal.{Refusal}
+use Rattle.walks.specs.declared.uses.BestUse.{BestUse}
+use Rattle.walks.specs.declared.uses.BestUse.the-variants as BestUse·is
+use Rattle.gaps.specs.Gaps.{initialGap}
+use Rattle.tables.specs.UseTables.{bestOf}
+use Rattle.region.specs.Growth.{ownSpan, weightTest, growth}
+use Rattle.region.specs.Proposal.{regionOf}
+use Rattle.region.specs.Demand.{Demand3}
+use Rattle.region.specs.declared.proposal.SplitProposal.{SplitProposal}
+use Rattle.region.specs.declared.proposal.Region.{Region}
+use Rattle.region.specs.declared.proposal.Region.the-variants as Region·is
+use Rattle.verdict.specs.declared.job.Rooms.{Rooms}
+use Rattle.verdict.specs.Job.{Job, sourceOfJob}
+use Rattle.verdict.specs.Refusals.{refusalOf}
+use Rattle.verdict.proofs.Accepted.{job-accepted}
+use Rattle.proposer.specs.View.{usesOfJob, seenOfJob}
+use Rattle.proposer.specs.Answer.{ofRegion, ofBest, ofChecked, answerOf}
+use Rattle.proposer.specs.declared.propose.Answer.{Answer}
+use Rattle.proposer.specs.declared.propose.Answer.the-variants as Answer·is
+use Rattle.proposer.proofs.JobView.{FixedMet}
+use Rattle.proposer.proofs.JobTheorems.{mainsOf, Proposed, Entry, Chain, ChainEnds, job-no-best-exactly, job-nothing-exactly, job-demand3, job-evictions-end}
+
+-- ---- what an answer says of the verdict, the best use and the region
+region-found : (r : Region) (p : SplitProposal) → ofRegion r ≡ Answer·is.Found p → r ≡ Region·is.Found p
+region-found (Region·is.Found q) p e = let same : q ≡ p = cc in ap (λ (x : SplitProposal). Region·is.Found x) same
+region-found Region·is.Nothing p e = absurd (let z : _≡_ {A = ℕ} 0 1 = cc in omega arith)
+
+region-nothing : (r : Region) → ofRegion r ≡ Answer·is.NoRegion → r ≡ Region·is.Nothing
+region-nothing (Region·is.Found q) e = absurd (let z : _≡_ {A = ℕ} 0 1 = cc in omega arith)
+region-nothing Region·is.Nothing e = refl
+
+region-best : (r : Region) → ofRegion r ≡ Answer·is.NoBestUse → ⊥
+region-best (Region·is.Found q) e = let z : _≡_ {A = ℕ} 0 1 = cc in omega arith
+region-best Region·is.Nothing e = let z : _≡_ {A = ℕ} 0 1 = cc in omega arith
+
+region-refused : (r : Region) (f : Refusal) → ofRegion r ≡ Answer·is.Refused f → ⊥
+region-refused (Region·is.Found q) f e = let z : _≡_ {A = ℕ} 0 1 = cc in omega arith
+region-refused Region·is.Nothing f e = let z : _≡_ {A = ℕ} 0 1 = cc in omega arith
+
+module _ (job : Job) where
+  said-found : (c : Checked) (b : BestUse) (p : SplitProposal) → ofChecked c (ofBest job b) ≡ Answer·is.Found p
+      → (c ≡ Checked·is.Sound) × (best : ℕ) × (b ≡ BestUse·is.At best) × (regionOf (seenOfJob job best) ≡ Region·is.Found p)
+  said-found (Checked·is.Refused r) b p e = absurd (let z : _≡_ {A = ℕ} 0 1 = cc in omega arith)
+  said-found Checked·is.Sound BestUse·is.Nothing p e = absurd (let z : _≡_ {A = ℕ} 0 1 = cc in omega arith)
+  said-found Checked·is.Sound (BestUse·is.At best) p e = (refl, best, refl, region-found (regionOf (seenOfJob job best)) p e)
+
+  said-region : (c : Checked) (b : BestUse) → ofChecked c (ofBest job b) ≡ Answer·is.NoRegion
+      → (c ≡ Checked·is.Sound) × (best : ℕ) × (b ≡ BestUse·is.At best) × (regionOf (seenOfJob job best) ≡ Region·is.Nothing)
+  said-region (Checked·is.Refused r) b e = absurd (let z : _≡_ {A = ℕ} 0 1 = cc in omega arith)
+  said-region Checked·is.Sound BestUse·is.Nothing e = absurd (let z : _≡_ {A = ℕ} 0 1 = cc in omega arith)
+  said-region Checked·is.Sound (BestUse·is.At best) e = (refl, best, refl, region-nothing (regionOf (seenOfJob job best)) e)
+
+  said-best : (c : Checked) (b : BestUse) → ofChecked c (ofBest job b) ≡ Answer·is.NoBestUse → (c ≡ Checked·is.Sound) × (b ≡ BestUse·is.Nothing)
+  said-best (Checked·is.Refused r) b e = absurd (let z : _≡_ {A = ℕ} 0 1 = cc in omega arith)
+  said-best Checked·is.Sound BestUse·is.Nothing e = (refl, refl)
+  said-best Checked·is.Sound (BestUse·is.At best) e = absurd (region-best (regionOf (seenOfJob job best)) e)
+
+  said-refused : (c : Checked) (b : BestUse) (r : Refusal) → ofChecked c (ofBest job b) ≡ Answer·is.Refused r → c ≡ Checked·is.Refused r
+  said-refused (Checked·is.Refused q) b r e = let same : q ≡ r = cc in ap (λ (x : Refusal). Checked·is.Refused x) same
+  said-refused Checked·is.Sound BestUse·is.Nothing r e = absurd (let z : _≡_ {A = ℕ} 0 1 = cc in omega arith)
+  said-refused Checked·is.Sound (BestUse·is.At best) r e = absurd (region-refused (regionOf (seenOfJob job best)) r e)
+
+  -- and back
+  answer-by : (rooms : Rooms) (c : Checked) (b : BestUse) → refusalOf job rooms ≡ c → bestOf (sourceOfJob job) ≡ b → answerOf job rooms ≡ ofChecked c (ofBest job b)
+  answer-by rooms c b e f = ap₂ (λ (x : Checked) (y : BestUse). ofChecked x (ofBest job y)) e f
+
+-- ---- each answer, exactly
+-- the number of a job's best use
+abbrev pub numberOf : BestUse → ℕ
+numberOf (BestUse·is.At best) = best
+numberOf BestUse·is.Nothing = 0
+
+abbrev pub bestNumber : Job → ℕ
+bestNumber job = numberOf (bestOf (sourceOfJob job))
+
+module _ (job : Job) (rooms : Rooms) where
+  -- a job is refused exactly as document 01's table says
+  pub refused-exactly : (r : Refusal) → (answerOf job rooms ≡ Answer·is.Refused r) ↔ (refusalOf job rooms ≡ Checked·is.Refused r)
+  refused-exactly r = (
+    said-refused job (refusalOf job rooms) (bestOf (sourceOfJob job)) r,
+    λ e. answer-by job rooms (Checked·is.Refused r) (bestOf (sourceOfJob job)) e refl,
+  )
+
+  -- none of kind 1 exactly if it is accepted and has no best use
+  pub no-best-use-exactly : (answerOf job rooms ≡ Answer·is.NoBestUse) ↔ ((refusalOf job rooms ≡ Checked·is.Sound) × (bestOf (sourceOfJob job) ≡ BestUse·is.Nothing))
+  no-best-use-exactly = (
+    said-best job (refusalOf job rooms) (bestOf (sourceOfJob job)),
+    λ h. answer-by job rooms Checked·is.Sound BestUse·is.Nothing (h .0) (h .1),
+  )
+
+  -- that is, exactly if it is accepted and its use table has one row or no main weight above zero
+  pub no-best-use-rows : (answerOf job rooms ≡ Answer·is.NoBestUse)
+      ↔ ((refusalOf job rooms ≡ Checked·is.Sound) × ((length (mainsOf job) ≤ 1) ⊎ ((k : ℕ) → k < length (mainsOf job) → unitsOf (getD (mainsOf job) k zeroWeight) ≡ 0)))
+  no-best-use-rows = (
+    (λ e. let h = no-best-use-exactly .0 e in (h .0, job-no-best-exactly job (job-accepted job rooms (h .0)) .0 (h .1))),
+    (λ h. no-best-use-exactly .1 (h .0, job-no-best-exactly job (job-accepted job rooms (h .0)) .1 (h .1))),
+  )
+
+  -- none of kind 2 exactly if it is accepted and has a best use whose own gap meets something fixed or fails the weight test, with 1 instruction
+  pub no-region-exactly : (answerOf job rooms ≡ Answer·is.NoRegion)
+      ↔ ((refusalOf job rooms ≡ Checked·is.Sound) × (best : ℕ) × (bestOf (sourceOfJob job) ≡ BestUse·is.At best)
+      × (FixedMet job best (initialGap (job .blocks) (usesOfJob job) best) ⊎ T (not (weightTest (seenOfJob job best) (ownSpan (seenOfJob job best))))))
+  no-region-exactly = (
+    (λ e. let h = said-region job (refusalOf job rooms) (bestOf (sourceOfJob job)) e in (h .0, h .1, h .2, job-nothing-exactly job (h .1) .0 (h .3))),
+    (λ h. answer-by job rooms Checked·is.Sound (BestUse·is.At (h .1)) (h .0) (h .2) ∙ ap ofRegion (job-nothing-exactly job (h .1) .1 (h .3))),
+  )
+
+  -- a proposal exactly if it is accepted, has a best use and growth from it finds that region
+  pub found-exactly : (p : SplitProposal) → (answerOf job rooms ≡ Answer·is.Found p) ↔ ((refusalOf job rooms ≡ Checked·is.Sound) × (best : ℕ) × Proposed job best p)
+  found-exactly p = (
+    (λ e.
+        let h = said-found job (refusalOf job rooms) (bestOf (sourceOfJob job)) p e in
+        (h .0, h .1, record { accepted = job-accepted job rooms (h .0); is-best = h .2; found = h .3 })),
+    (λ h. answer-by job rooms Checked·is.Sound (BestUse·is.At (h .1)) (h .0) (h .2 .is-best) ∙ ap ofRegion (h .2 .found)),
+  )
+
+  -- around its best use
+  pub found-proposed : (p : SplitProposal) → answerOf job rooms ≡ Answer·is.Found p → Proposed job (bestNumber job) p
+  found-proposed p e =
+      let h = found-exactly p .0 e in
+      let same : bestNumber job ≡ h .1 = ap numberOf (h .2 .is-best) in
+      subst (λ (b : ℕ). Proposed job b p) (sym same) (h .2)
+
+  -- demand 3 of every proposal that is answered: it is that of the region grown, which meets nothing fixed; its interference weight is the
+  -- heaviest weight met; the weight test holds of it
+  pub answer-demand3 : (p : SplitProposal) → answerOf job rooms ≡ Answer·is.Found p
+      → Demand3 (seenOfJob job (bestNumber job)) (growth (seenOfJob job (bestNumber job)) (seenOfJob job (bestNumber job) .count + 1)) p
+  answer-demand3 p e = job-demand3 job (bestNumber job) p (found-proposed p e)
+
+-- ---- the ring and chain law of what is answered
+-- a job, the rows of its lent tables, and the proposal that it is answered
+pub record Answered : Type 0 where
+  pub job : Job
+  pub rooms : Rooms
+  pub proposal : SplitProposal
+  pub answered : answerOf job rooms ≡ Answer·is.Found proposal
+
+-- with its best use
+abbrev pub entryOf : Answered → Entry
+entryOf a = record { job = a .job; best = bestNumber (a .job); proposal = a .proposal; answered = found-proposed (a .job) (a .rooms) (a .proposal) (a .answered) }
+
+-- of every list of jobs and the proposals they are answered, in which the region of each after the first meets a reservation that carries the
+-- normalised weight of the one before: there is no ring, and no more than 10,000, or 9,495 if the first normalised weight is above zero
+pub evictions-end : (list : List Answered) → Chain (map entryOf list) → ChainEnds (map entryOf list)
+evictions-end list chain = job-evictions-end (map entryOf list) chain
