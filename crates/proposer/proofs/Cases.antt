@@ -114,60 +114,69 @@ pub record Case : Type 0 where
 abbrev case : Shown → Shown → Case
 case given said = record { given = given; said = said }
 
+-- case A's job, with another k, block list, segment, uses, weights or reservations
+abbrev jobLikeA : ℕ → List BlockRow → Segment → List Use → List ℕ → List Reservation → Job
+jobLikeA k blocks segment uses weights reservations = sheet k 1065353216 1065353216 1065353216 1 blocks (0 ∷ []) (segment ∷ []) uses weights reservations
+
+abbrev blocksOfA : ℕ → List BlockRow
+blocksOfA frequency = blockRow frequency 0 4 ∷ []
+
+abbrev segmentOfA : Segment
+segmentOfA = segmentRow 2 14 0 0 2 0
+
+abbrev usesOfA : List Use
+usesOfA = useRow 0 5 1065353216 ∷ useRow 3 4 1065353216 ∷ []
+
+-- with reservations, of these weights
+abbrev reserving : List ℕ → List Reservation → Job
+reserving weights reservations = jobLikeA 0 (blocksOfA 1065353216) segmentOfA usesOfA weights reservations
+
+-- with another k and another frequency
+abbrev scaledBy : ℕ → ℕ → Job
+scaledBy k frequency = jobLikeA k (blocksOfA frequency) segmentOfA usesOfA [] []
+
+-- with these blocks and this segment
+abbrev over : List BlockRow → Segment → Job
+over blocks segment = jobLikeA 0 blocks segment usesOfA [] []
+
 -- the table
 abbrev pub cases : List Case
 cases =
     -- A
-    case (answered (sheet 0 1065353216 1065353216 1065353216 1
-    (blockRow 1065353216 0 4 ∷ []) (0 ∷ []) (segmentRow 2 14 0 0 2 0 ∷ []) (useRow 0 5 1065353216 ∷ useRow 3 4 1065353216 ∷ []) [] [])) (Q absent absent 1073741824 4 0 0)
+    case (answered (reserving [] [])) (Q absent absent 1073741824 4 0 0)
     -- B: weight 1048576000 on 8 to 12
-    ∷ case (answered (sheet 0 1065353216 1065353216 1065353216 1
-    (blockRow 1065353216 0 4 ∷ []) (0 ∷ []) (segmentRow 2 14 0 0 2 0 ∷ []) (useRow 0 5 1065353216 ∷ useRow 3 4 1065353216 ∷ []) (1048576000 ∷ []) (reservedRow 0 8 12 0 0 noFixed ∷ []))) (Q absent absent 1073741824 4 1048576000 0)
+    ∷ case (answered (reserving (1048576000 ∷ []) (reservedRow 0 8 12 0 0 noFixed ∷ []))) (Q absent absent 1073741824 4 1048576000 0)
     -- C: 1056628736 there, equality
-    ∷ case (answered (sheet 0 1065353216 1065353216 1065353216 1
-    (blockRow 1065353216 0 4 ∷ []) (0 ∷ []) (segmentRow 2 14 0 0 2 0 ∷ []) (useRow 0 5 1065353216 ∷ useRow 3 4 1065353216 ∷ []) (1056628736 ∷ []) (reservedRow 0 8 12 0 0 noFixed ∷ []))) (Q absent 1 1065353216 1 0 1065353216)
+    ∷ case (answered (reserving (1056628736 ∷ []) (reservedRow 0 8 12 0 0 noFixed ∷ []))) (Q absent 1 1065353216 1 0 1065353216)
     -- D: 1056628735 there
-    ∷ case (answered (sheet 0 1065353216 1065353216 1065353216 1
-    (blockRow 1065353216 0 4 ∷ []) (0 ∷ []) (segmentRow 2 14 0 0 2 0 ∷ []) (useRow 0 5 1065353216 ∷ useRow 3 4 1065353216 ∷ []) (1056628735 ∷ []) (reservedRow 0 8 12 0 0 noFixed ∷ []))) (Q absent absent 1073741824 4 1056628735 0)
+    ∷ case (answered (reserving (1056628735 ∷ []) (reservedRow 0 8 12 0 0 noFixed ∷ []))) (Q absent absent 1073741824 4 1056628735 0)
     -- E: kind 1 on 8 to 12
-    ∷ case (answered (sheet 0 1065353216 1065353216 1065353216 1
-    (blockRow 1065353216 0 4 ∷ []) (0 ∷ []) (segmentRow 2 14 0 0 2 0 ∷ []) (useRow 0 5 1065353216 ∷ useRow 3 4 1065353216 ∷ []) [] (reservedRow 0 8 12 1 0 0 ∷ []))) (Q absent 1 1065353216 1 0 1065353216)
+    ∷ case (answered (reserving [] (reservedRow 0 8 12 1 0 0 ∷ []))) (Q absent 1 1065353216 1 0 1065353216)
     -- F: kind 2 there, value 0
-    ∷ case (answered (sheet 0 1065353216 1065353216 1065353216 1
-    (blockRow 1065353216 0 4 ∷ []) (0 ∷ []) (segmentRow 2 14 0 0 2 0 ∷ []) (useRow 0 5 1065353216 ∷ useRow 3 4 1065353216 ∷ []) [] (reservedRow 0 8 12 2 0 0 ∷ []))) (Q absent absent 1073741824 4 0 0)
+    ∷ case (answered (reserving [] (reservedRow 0 8 12 2 0 0 ∷ []))) (Q absent absent 1073741824 4 0 0)
     -- G: kind 1 on 2 to 4
-    ∷ case (answered (sheet 0 1065353216 1065353216 1065353216 1
-    (blockRow 1065353216 0 4 ∷ []) (0 ∷ []) (segmentRow 2 14 0 0 2 0 ∷ []) (useRow 0 5 1065353216 ∷ useRow 3 4 1065353216 ∷ []) [] (reservedRow 0 2 4 1 0 0 ∷ []))) (N 2)
+    ∷ case (answered (reserving [] (reservedRow 0 2 4 1 0 0 ∷ []))) (N 2)
     -- G: kind 1 on 0 to 2
-    ∷ case (answered (sheet 0 1065353216 1065353216 1065353216 1
-    (blockRow 1065353216 0 4 ∷ []) (0 ∷ []) (segmentRow 2 14 0 0 2 0 ∷ []) (useRow 0 5 1065353216 ∷ useRow 3 4 1065353216 ∷ []) [] (reservedRow 0 0 2 1 0 0 ∷ []))) (Q absent absent 1073741824 4 0 0)
+    ∷ case (answered (reserving [] (reservedRow 0 0 2 1 0 0 ∷ []))) (Q absent absent 1073741824 4 0 0)
     -- I: frequency 0
-    ∷ case (answered (sheet 0 1065353216 1065353216 1065353216 1
-    (blockRow 0 0 4 ∷ []) (0 ∷ []) (segmentRow 2 14 0 0 2 0 ∷ []) (useRow 0 5 1065353216 ∷ useRow 3 4 1065353216 ∷ []) [] [])) (N 1)
+    ∷ case (answered (scaledBy 0 0)) (N 1)
     -- J: frequency bits 1, k = 1
-    ∷ case (answered (sheet 1 1065353216 1065353216 1065353216 1
-    (blockRow 1 0 4 ∷ []) (0 ∷ []) (segmentRow 2 14 0 0 2 0 ∷ []) (useRow 0 5 1065353216 ∷ useRow 3 4 1065353216 ∷ []) [] [])) (N 2)
+    ∷ case (answered (scaledBy 1 1)) (N 2)
     -- J: frequency bits 1, k = 0
-    ∷ case (answered (sheet 0 1065353216 1065353216 1065353216 1
-    (blockRow 1 0 4 ∷ []) (0 ∷ []) (segmentRow 2 14 0 0 2 0 ∷ []) (useRow 0 5 1065353216 ∷ useRow 3 4 1065353216 ∷ []) [] [])) (Q absent 1 1 1 0 1)
+    ∷ case (answered (scaledBy 0 1)) (Q absent 1 1 1 0 1)
     -- K: frequencies 4, 2, 2, 1
-    ∷ case (linked (sheet 0 1065353216 1065353216 1065353216 1
-    (blockRow 1082130432 0 1 ∷ blockRow 1073741824 1 2 ∷ blockRow 1073741824 2 3 ∷ blockRow 1065353216 3 4 ∷ []) (0 ∷ []) (segmentRow 2 14 0 0 2 0 ∷ []) (useRow 0 5 1065353216 ∷ useRow 3 4 1065353216 ∷ []) [] [])) (Links (absent ∷ absent ∷ absent ∷ absent ∷ []) (1 ∷ 3 ∷ 3 ∷ absent ∷ []))
+    ∷ case (linked (over (blockRow 1082130432 0 1 ∷ blockRow 1073741824 1 2 ∷ blockRow 1073741824 2 3 ∷ blockRow 1065353216 3 4 ∷ []) segmentOfA))
+    (Links (absent ∷ absent ∷ absent ∷ absent ∷ []) (1 ∷ 3 ∷ 3 ∷ absent ∷ []))
     -- L: segment 0 to 2, both uses at 0
-    ∷ case (answered (sheet 0 1065353216 1065353216 1065353216 1
-    (blockRow 1065353216 0 4 ∷ []) (0 ∷ []) (segmentRow 0 2 0 0 2 0 ∷ []) (useRow 0 5 1065353216 ∷ useRow 0 4 1065353216 ∷ []) [] [])) (N 1)
+    ∷ case (answered (jobLikeA 0 (blocksOfA 1065353216) (segmentRow 0 2 0 0 2 0) (useRow 0 5 1065353216 ∷ useRow 0 4 1065353216 ∷ []) [] [])) (N 1)
     -- M: five instructions, end 16
-    ∷ case (answered (sheet 0 1065353216 1065353216 1065353216 1
-    (blockRow 1065353216 0 5 ∷ []) (0 ∷ []) (segmentRow 2 16 0 0 2 0 ∷ []) (useRow 0 5 1065353216 ∷ useRow 3 4 1065353216 ∷ []) [] [])) (Q absent absent 1073741824 4 0 0)
+    ∷ case (answered (over (blockRow 1065353216 0 5 ∷ []) (segmentRow 2 16 0 0 2 0))) (Q absent absent 1073741824 4 0 0)
     -- M: five instructions, end 17
-    ∷ case (answered (sheet 0 1065353216 1065353216 1065353216 1
-    (blockRow 1065353216 0 5 ∷ []) (0 ∷ []) (segmentRow 2 17 0 0 2 0 ∷ []) (useRow 0 5 1065353216 ∷ useRow 3 4 1065353216 ∷ []) [] [])) (R 8 0)
+    ∷ case (answered (over (blockRow 1065353216 0 5 ∷ []) (segmentRow 2 17 0 0 2 0))) (R 8 0)
     -- M: k 65,536
-    ∷ case (answered (sheet 65536 1065353216 1065353216 1065353216 1
-    (blockRow 1065353216 0 4 ∷ []) (0 ∷ []) (segmentRow 2 14 0 0 2 0 ∷ []) (useRow 0 5 1065353216 ∷ useRow 3 4 1065353216 ∷ []) [] [])) (Q absent absent 1073741824 4 0 0)
+    ∷ case (answered (scaledBy 65536 1065353216)) (Q absent absent 1073741824 4 0 0)
     -- M: k 65,537
-    ∷ case (answered (sheet 65537 1065353216 1065353216 1065353216 1
-    (blockRow 1065353216 0 4 ∷ []) (0 ∷ []) (segmentRow 2 14 0 0 2 0 ∷ []) (useRow 0 5 1065353216 ∷ useRow 3 4 1065353216 ∷ []) [] [])) (R 1 0)
+    ∷ case (answered (scaledBy 65537 1065353216)) (R 1 0)
     ∷ []
 
 -- every case holds

@@ -4,4 +4,5 @@ pub mod JobView
 pub mod JobTheorems
 pub mod Assembly
 pub mod Answered
+pub mod Kept
 pub mod Cases

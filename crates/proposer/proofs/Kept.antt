@@ -1,0 +1,47 @@
+-- A refused job leaves each lent column as it was
+use mathlib.Core.Path.{_≡_, refl, sym, _∙_, subst}
+use Prim.Native.Nat.{ℕ}
+use native.Mathlib.Omega.{arith}
+use Rattle.links.specs.declared.blocks.Checked.{Checked}
+use Rattle.links.specs.declared.blocks.Checked.the-variants as Checked·is
+use Rattle.links.specs.declared.blocks.Refusal.{Refusal}
+use Rattle.tables.specs.UseTables.{bestOf}
+use Rattle.verdict.specs.Job.{Job, sourceOfJob}
+use Rattle.verdict.specs.Refusals.{refusalOf}
+use Rattle.proposer.specs.Answer.{ifAccepted, Tables, noTables, tablesOfBest, WorkColumns, roomsOf, FilledBy, IsProposed}
+use Rattle.proposer.specs.declared.propose.Answer.the-variants as Answer·is
+use Rattle.proposer.specs.declared.propose.Proposed.{Proposed}
+use Rattle.proposer.proofs.Answered.{refused-exactly}
+
+-- a refused job has no rows
+refused-tables : (job : Job) (c : Checked) (x : Refusal) → c ≡ Checked·is.Refused x → ifAccepted c (tablesOfBest job (bestOf (sourceOfJob job))) noTables ≡ noTables
+refused-tables job (Checked·is.Refused q) x e = refl
+refused-tables job Checked·is.Sound x e = absurd (let z : _≡_ {A = ℕ} 0 1 = cc in omega arith)
+
+-- columns in which no row is filled are as they were lent
+none-filled : (lent now : WorkColumns) → FilledBy noTables lent now → now ≡ lent
+none-filled lent now f =
+    λ i. record {
+      prevs = f .prev i;
+      nexts = f .next i;
+      insts = f .inst i;
+      mains = f .main i;
+      lefts = f .left i;
+      rights = f .right i;
+      froms = f .from i;
+      tos = f .to i;
+      weights = f .weight i;
+      lives = f .live i;
+      freqs = f .freq i;
+      out-froms = f .out-from i;
+      out-tos = f .out-to i;
+      out-values = f .out-value i;
+      out-gaps = f .out-gap i;
+    }
+
+-- a refused job leaves each lent column as it was
+pub refused-kept : (job : Job) (lent now : WorkColumns) (r : Proposed) (x : Refusal) → IsProposed job lent now r → r .answer ≡ Answer·is.Refused x → now ≡ lent
+refused-kept job lent now r x given e =
+    none-filled lent now
+    (subst (λ (t : Tables). FilledBy t lent now)
+    (refused-tables job (refusalOf job (roomsOf lent)) x (refused-exactly job (roomsOf lent) x .0 (sym (given .answer) ∙ e))) (given .tables))
