@@ -1,4 +1,4 @@
-// Checks: document 01's refusals 1 to 12 in order, for a whole job and the tables that are lent with it.
+// Verdict: document 01's refusals 1 to 12 in order, for a whole job and the tables that are lent with it.
 //
 // Here: `check_tables` (lines 1 to 11) and `check_job` (lines 1 to 12), which answer the first line that a job breaks, with the
 // first place at which it does, or Sound.
