@@ -28,7 +28,6 @@ use Rattle.gaps.specs.Gaps.{plus, cutGaps, cuts, gapsBetween, gapsOf}
 use Rattle.region.specs.Growth as Growth
 use Rattle.region.specs.Growth.{numbersFrom, weightTest, passes, sideOpen, leftFirst, sideTried, tryOn, try, growth, grown}
 use Rattle.region.specs.Proposal.{splitCost, endOf, proposalWith, regionOf}
-use Rattle.region.specs.declared.proposal.SplitProposal.{SplitProposal}
 use Rattle.verdict.specs.declared.job.Rooms.{Rooms}
 use Rattle.verdict.specs.Job.{Job}
 use Rattle.verdict.specs.Refusals.{firstBroken, badParameters, someLong, badSizes}
