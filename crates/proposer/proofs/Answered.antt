@@ -1,4 +1,4 @@
--- From the answer's definition to the theorems: each of the four answers exactly, demand 3 of every proposal answered, and the ring and chain law over what the call answers
+-- What each of the four answers says, exactly; demand 3 and the ring and chain law of what is answered
 use mathlib.Core.Path.{_≡_, refl, sym, ap, ap₂, _∙_, subst}
 use mathlib.Core.Logic.{_⊎_, _↔_}
 use mathlib.Core.Bool.{not}
@@ -8,16 +8,19 @@ use native.Mathlib.Omega.{arith}
 use lib.Dec.{T}
 use lib.ListN.{length, getD}
 use Rattle.numbers.specs.Weight.{unitsOf, zeroWeight}
+use Rattle.numbers.specs.Normal.{normalised, exceeds}
+use Rattle.links.specs.declared.lower.Side.{Side}
 use Rattle.links.specs.declared.blocks.Checked.{Checked}
 use Rattle.links.specs.declared.blocks.Checked.the-variants as Checked·is
 use Rattle.links.specs.declared.blocks.Refusal.{Refusal}
 use Rattle.walks.specs.declared.uses.BestUse.{BestUse}
 use Rattle.walks.specs.declared.uses.BestUse.the-variants as BestUse·is
+use Rattle.walkers.specs.Meeting.{weightOf}
 use Rattle.gaps.specs.Gaps.{initialGap}
 use Rattle.tables.specs.UseTables.{bestOf}
-use Rattle.region.specs.Growth.{ownSpan, weightTest, growth}
+use Rattle.region.specs.Growth.{ownSpan, usedUp, weightTest, growth}
 use Rattle.region.specs.Proposal.{regionOf}
-use Rattle.region.specs.Demand.{Demand3}
+use Rattle.region.specs.Demand.{Around, Ended, FailedBefore, Demand3, sumOver, addedTo, gapsBeside, gapsGrown}
 use Rattle.region.specs.declared.proposal.SplitProposal.{SplitProposal}
 use Rattle.region.specs.declared.proposal.Region.{Region}
 use Rattle.region.specs.declared.proposal.Region.the-variants as Region·is
@@ -29,8 +32,8 @@ use Rattle.proposer.specs.View.{usesOfJob, seenOfJob}
 use Rattle.proposer.specs.Answer.{ofRegion, ofBest, ofChecked, answerOf}
 use Rattle.proposer.specs.declared.propose.Answer.{Answer}
 use Rattle.proposer.specs.declared.propose.Answer.the-variants as Answer·is
-use Rattle.proposer.proofs.JobView.{FixedMet}
-use Rattle.proposer.proofs.JobTheorems.{mainsOf, Proposed, Entry, Chain, ChainEnds, job-no-best-exactly, job-nothing-exactly, job-demand3, job-evictions-end}
+use Rattle.proposer.proofs.JobView.{reservationOf, Weighs, CountsAsFixed, FixedMet}
+use Rattle.proposer.proofs.JobTheorems.{IsBest, mainsOf, Proposed, InRegion, RegionMeets, Entry, Chain, ChainEnds, job-best, job-no-best-exactly, job-nothing-exactly, job-around, job-ended, job-side-ends, job-demand3, job-use-weight, job-live-insts, job-strict, region-no-fixed, region-none-heavier, region-heaviest-met, job-evictions-end}
 
 -- ---- what an answer says of the verdict, the best use and the region
 region-found : (r : Region) (p : SplitProposal) → ofRegion r ≡ Answer·is.Found p → r ≡ Region·is.Found p
@@ -85,6 +88,30 @@ numberOf BestUse·is.Nothing = 0
 abbrev pub bestNumber : Job → ℕ
 bestNumber job = numberOf (bestOf (sourceOfJob job))
 
+-- demand 3 of a proposal of a job, around a best use: growth ends with its region; nothing fixed counts against it; its
+-- interference weight is exactly the heaviest one met; the weight test holds of it
+pub record AnswerDemand3 (job : Job) (best : ℕ) (p : SplitProposal) : Type 0 where
+  -- the best use is the largest main weight, above zero, earliest on ties; its gap lies in the region grown
+  pub is-best : IsBest (mainsOf job) best
+  pub around : Around (seenOfJob job best) (growth (seenOfJob job best) (seenOfJob job best .count + 1) .region)
+  -- growth has ended there: on each side the gaps are used up, or the gap just outside has failed
+  pub ended : Ended (seenOfJob job best) (growth (seenOfJob job best) (seenOfJob job best .count + 1))
+  pub side-ends : (side : Side) → T (usedUp side (seenOfJob job best .count) (growth (seenOfJob job best) (seenOfJob job best .count + 1) .region))
+      ⊎ FailedBefore (seenOfJob job best) side (seenOfJob job best .count + 1) (growth (seenOfJob job best) (seenOfJob job best .count + 1) .region)
+  -- it is the proposal of that region, and what holds of it over the gaps
+  pub of-gaps : Demand3 (seenOfJob job best) (growth (seenOfJob job best) (seenOfJob job best .count + 1)) p
+  -- its use weight: the best use's gap's, and then those of the gaps grown, added in the order grown
+  pub use-weight : p .«use_weight» ≡ addedTo (seenOfJob job best .weight (seenOfJob job best .own)) (seenOfJob job best .weight) (gapsGrown (seenOfJob job best) (seenOfJob job best .count + 1))
+  -- its live instructions: 1, and those of the region's other gaps
+  pub live-insts : p .«live_insts» ≡ 1 + sumOver (seenOfJob job best .live) (gapsBeside (ownSpan (seenOfJob job best)) (growth (seenOfJob job best) (seenOfJob job best .count + 1) .region))
+  -- no reservation of the job that its region meets counts as fixed
+  pub no-fixed : (k i : ℕ) → InRegion job best p k → CountsAsFixed job best k i → ⊥
+  -- no kind 0 reservation that it meets is heavier than its interference weight, which is the weight of one of them, or zero
+  pub none-heavier : (k i : ℕ) → InRegion job best p k → Weighs job best k i → unitsOf (weightOf (job .weights) (reservationOf job i)) ≤ unitsOf (p .«interference_weight»)
+  pub heaviest-met : (p .«interference_weight» ≡ zeroWeight) ⊎ RegionMeets job best p (p .«interference_weight»)
+  -- the normalised weight times 2007/2048, rounded once, strictly exceeds the interference weight
+  pub strict : T (exceeds 2007 (normalised (p .«use_weight») (p .«live_insts») (job .k)) (p .«interference_weight»))
+
 module _ (job : Job) (rooms : Rooms) where
   -- a job is refused exactly as document 01's table says
   pub refused-exactly : (r : Refusal) → (answerOf job rooms ≡ Answer·is.Refused r) ↔ (refusalOf job rooms ≡ Checked·is.Refused r)
@@ -108,7 +135,8 @@ module _ (job : Job) (rooms : Rooms) where
     (λ h. no-best-use-exactly .1 (h .0, job-no-best-exactly job (job-accepted job rooms (h .0)) .1 (h .1))),
   )
 
-  -- none of kind 2 exactly if it is accepted and has a best use whose own gap meets something fixed or fails the weight test, with 1 instruction
+  -- none of kind 2 exactly if it is accepted and has a best use whose own gap meets something fixed, or fails the weight test
+  -- with 1 instruction
   pub no-region-exactly : (answerOf job rooms ≡ Answer·is.NoRegion)
       ↔ ((refusalOf job rooms ≡ Checked·is.Sound) × (best : ℕ) × (bestOf (sourceOfJob job) ≡ BestUse·is.At best)
       × (FixedMet job best (initialGap (job .blocks) (usesOfJob job) best) ⊎ T (not (weightTest (seenOfJob job best) (ownSpan (seenOfJob job best))))))
@@ -133,11 +161,23 @@ module _ (job : Job) (rooms : Rooms) where
       let same : bestNumber job ≡ h .1 = ap numberOf (h .2 .is-best) in
       subst (λ (b : ℕ). Proposed job b p) (sym same) (h .2)
 
-  -- demand 3 of every proposal that is answered: it is that of the region grown, which meets nothing fixed; its interference weight is the
-  -- heaviest weight met; the weight test holds of it
-  pub answer-demand3 : (p : SplitProposal) → answerOf job rooms ≡ Answer·is.Found p
-      → Demand3 (seenOfJob job (bestNumber job)) (growth (seenOfJob job (bestNumber job)) (seenOfJob job (bestNumber job) .count + 1)) p
-  answer-demand3 p e = job-demand3 job (bestNumber job) p (found-proposed p e)
+  -- demand 3 of every proposal that is answered
+  pub answer-demand3 : (p : SplitProposal) → answerOf job rooms ≡ Answer·is.Found p → AnswerDemand3 job (bestNumber job) p
+  answer-demand3 p e =
+      let given = found-proposed p e in
+      record {
+        is-best = job-best job (given .accepted) (bestNumber job) (given .is-best);
+        around = job-around job (bestNumber job) p given;
+        ended = job-ended job (bestNumber job) p given;
+        side-ends = job-side-ends job (bestNumber job) p given;
+        of-gaps = job-demand3 job (bestNumber job) p given;
+        use-weight = job-use-weight job (bestNumber job) p given;
+        live-insts = job-live-insts job (bestNumber job) p given;
+        no-fixed = region-no-fixed job (bestNumber job) p given;
+        none-heavier = region-none-heavier job (bestNumber job) p given;
+        heaviest-met = region-heaviest-met job (bestNumber job) p given;
+        strict = job-strict job (bestNumber job) p given;
+      }
 
 -- ---- the ring and chain law of what is answered
 -- a job, the rows of its lent tables, and the proposal that it is answered
@@ -151,7 +191,8 @@ pub record Answered : Type 0 where
 abbrev pub entryOf : Answered → Entry
 entryOf a = record { job = a .job; best = bestNumber (a .job); proposal = a .proposal; answered = found-proposed (a .job) (a .rooms) (a .proposal) (a .answered) }
 
--- of every list of jobs and the proposals they are answered, in which the region of each after the first meets a reservation that carries the
--- normalised weight of the one before: there is no ring, and no more than 10,000, or 9,495 if the first normalised weight is above zero
+-- of every list of jobs and the proposals they are answered, in which the region of each after the first meets a reservation
+-- that carries the normalised weight of the one before: there is no ring, and there are at most 10,000, or 9,495 if the first
+-- normalised weight is above zero
 pub evictions-end : (list : List Answered) → Chain (map entryOf list) → ChainEnds (map entryOf list)
 evictions-end list chain = job-evictions-end (map entryOf list) chain

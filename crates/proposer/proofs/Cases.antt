@@ -28,7 +28,6 @@ use Rattle.gaps.specs.Gaps.{plus, cutGaps, cuts, gapsBetween, gapsOf}
 use Rattle.region.specs.Growth as Growth
 use Rattle.region.specs.Growth.{numbersFrom, weightTest, passes, sideOpen, leftFirst, sideTried, tryOn, try, growth, grown}
 use Rattle.region.specs.Proposal.{splitCost, endOf, proposalWith, regionOf}
-use Rattle.region.specs.declared.proposal.SplitProposal.{SplitProposal}
 use Rattle.verdict.specs.declared.job.Rooms.{Rooms}
 use Rattle.verdict.specs.Job.{Job}
 use Rattle.verdict.specs.Refusals.{firstBroken, badParameters, someLong, badSizes}
@@ -36,8 +35,8 @@ use Rattle.proposer.specs.Answer.{answerOf, kindOf, freqsOf}
 use Rattle.proposer.specs.declared.propose.Answer.{Answer}
 use Rattle.proposer.specs.declared.propose.Answer.the-variants as Answer·is
 
--- what is shown, in numbers: a proposal (left, right, the bits of its use weight, its live instructions, the bits of its interference weight and of its
--- split cost), none and its kind, a refusal and its place, or the previous and the next links
+-- what is shown, in numbers: a proposal (left, right, the bits of its use weight, its live instructions, the bits of its
+-- interference weight and of its split cost), none and its kind, a refusal and its place, or the previous and the next links
 pub data Shown : Type 0 where
   Q : ℕ → ℕ → ℕ → ℕ → ℕ → ℕ → Shown
   N : ℕ → Shown
