@@ -1,0 +1,2 @@
+-- What an answer's figures are
+pub mod Shown

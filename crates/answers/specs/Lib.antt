@@ -1,0 +1,2 @@
+-- What a sheet's job is answered
+pub mod Figures
