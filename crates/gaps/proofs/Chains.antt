@@ -16,7 +16,7 @@ use Rattle.numbers.proofs.Units.{units-order}
 use Rattle.numbers.proofs.Bits.{value-finite}
 use Rattle.numbers.proofs.Tests.{cond-true, cond-false, cond-both}
 use Rattle.links.specs.Blocks.{BlockRow, noBlock, blockAt, blockOf, startOf, itemLimit, SoundBlocks}
-use Rattle.links.specs.Links.{absent, beside, isLower, lowerLink, Beyond}
+use Rattle.links.specs.Links.{absent, beside, isLower, lowerLink, Beyond, onSide}
 use Rattle.links.specs.Split.{follow, edge, preferred, home, reaches}
 use Rattle.links.specs.declared.lower.Side.{Side}
 use Rattle.links.specs.declared.lower.Side.the-variants.{Previous, Next}
@@ -27,7 +27,7 @@ use Rattle.links.proofs.Rows.{row-good, ends-rise, firsts-rise}
 use Rattle.links.proofs.Columns.{last-end}
 use Rattle.walks.specs.Uses.{frequencyAt}
 use Rattle.walks.specs.declared.uses.SplitUse.{SplitUse}
-use Rattle.gaps.specs.Gaps.{Gap, onSide, near, far, nearWeight, farWeights, farEnd, spanned, inOrder, cutGaps, frequencyOf, cuts, gapsBetween, ownGap}
+use Rattle.gaps.specs.Gaps.{Gap, near, far, nearWeight, farWeights, farEnd, spanned, inOrder, cutGaps, frequencyOf, cuts, gapsBetween, ownGap}
 use Rattle.gaps.proofs.Cuts.{and-parts, all-enough}
 use Rattle.gaps.proofs.Spaces.{cut-gaps-length}
 use Rattle.gaps.proofs.Homes.{Home, home-of, home-only, homes-rise, At, at-home, at-edge, at-beyond, home-block, target-block, at-start, start-beyond, edge-beyond, home-reaches, blocks-rise}

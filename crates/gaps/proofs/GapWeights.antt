@@ -6,18 +6,18 @@ use native.Mathlib.Omega.{arith}
 use lib.Dec.{lit≤}
 use lib.Ieee.{Float}
 use lib.ListN.{length}
-use Rattle.numbers.specs.Weight.{Weight, Finite, finite, zeroWeight, frequencyLimit}
+use Rattle.numbers.specs.Weight.{Weight, Finite, finite, zeroWeight, frequencyLimit, Weights}
 use Rattle.numbers.proofs.Units.{zero-finite}
 use Rattle.numbers.proofs.Bits.{value-finite}
 use Rattle.numbers.proofs.Operations.{sum-weight}
-use Rattle.numbers.proofs.Heaviest.{Weights}
 use Rattle.links.specs.Blocks.{BlockRow, blockAt, blockOf}
 use Rattle.links.specs.Split.{edge, preferred, home}
 use Rattle.links.specs.declared.lower.Side.{Side}
 use Rattle.links.specs.declared.lower.Side.the-variants.{Previous, Next}
 use Rattle.walks.specs.Uses.{frequencyAt}
 use Rattle.walks.specs.declared.uses.SplitUse.{SplitUse}
-use Rattle.gaps.specs.Gaps.{Gap, plus, weightOf, onSide, near, far, nearWeight, farWeights, farEnd, spanned, cutGaps, frequencyOf, cuts, gapsBetween, ownGap, useOf, gapsOn, gapsOf}
+use Rattle.links.specs.Links.{onSide}
+use Rattle.gaps.specs.Gaps.{Gap, plus, weightOf, near, far, nearWeight, farWeights, farEnd, spanned, cutGaps, frequencyOf, cuts, gapsBetween, ownGap, useOf, gapsOn, gapsOf}
 use Rattle.gaps.proofs.Chains.{Each, each-append, each-in-order}
 use Rattle.gaps.proofs.GapTable.{each-joined}
 

@@ -10,14 +10,14 @@ use lib.Dec.{leb, ltb}
 use lib.ListN.{length}
 use borrow.Author.Tests.{ltb-true, leb-true, lt-ltb, le-leb, le-ltb}
 use Rattle.links.specs.Blocks.{BlockRow, blockAt, blockOf, startOf, holds, SoundBlocks}
-use Rattle.links.specs.Links.{Beyond}
+use Rattle.links.specs.Links.{Beyond, onSide}
 use Rattle.links.specs.Split.{edge, preferred, home, reaches}
 use Rattle.links.specs.declared.lower.Side.{Side}
 use Rattle.links.specs.declared.lower.Side.the-variants.{Previous, Next}
 use Rattle.links.proofs.Firsts.{split, first-in, first-at-most, first-found}
 use Rattle.links.proofs.Columns.{last-end}
 use Rattle.links.proofs.Rows.{row-good, ends-rise, firsts-rise, block-of-holds}
-use Rattle.gaps.specs.Gaps.{onSide, farEnd}
+use Rattle.gaps.specs.Gaps.{farEnd}
 use Rattle.gaps.proofs.Cuts.{and-parts, and-both, and-right}
 
 module _ (blocks : List BlockRow) (sound : SoundBlocks blocks) where

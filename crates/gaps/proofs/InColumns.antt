@@ -13,7 +13,7 @@ use borrow.Author.Tests.{ltb-true}
 use Rattle.numbers.specs.Weight.{frequencyLimit, valueOf}
 use Rattle.links.specs.Table.{table}
 use Rattle.links.specs.Blocks.{BlockRow, blocksOf, blockAt, blockOf, startOf, itemLimit, Ends, SoundColumns}
-use Rattle.links.specs.Links.{absent, lowerLink, linkColumn, Beyond}
+use Rattle.links.specs.Links.{absent, lowerLink, linkColumn, Beyond, onSide}
 use Rattle.links.specs.Split.{follow, edge, preferred, home, reaches}
 use Rattle.links.specs.declared.lower.Side.{Side}
 use Rattle.links.specs.declared.lower.Side.the-variants.{Previous, Next}
@@ -25,7 +25,7 @@ use Rattle.walks.specs.Uses.{noWeights, frequencyAt}
 use Rattle.walks.specs.UseColumns.{UseColumns, Inside, useIn}
 use Rattle.walks.specs.GapSegments.{joined}
 use Rattle.walks.specs.declared.uses.SplitUse.{SplitUse}
-use Rattle.gaps.specs.Gaps.{Gap, onSide, near, far, nearWeight, farWeights, farEnd, cutGaps, frequencyOf, cuts, gapsBetween, ownGap, useOf, gapsOn, usesIn, Cuttable}
+use Rattle.gaps.specs.Gaps.{Gap, near, far, nearWeight, farWeights, farEnd, cutGaps, frequencyOf, cuts, gapsBetween, ownGap, useOf, gapsOn, usesIn, Cuttable}
 use Rattle.gaps.proofs.Cuts.{and-parts}
 use Rattle.gaps.proofs.Sides.{space-inside}
 use Rattle.gaps.proofs.GapTable.{Rising}

@@ -13,7 +13,8 @@ use Rattle.links.specs.declared.lower.Side.the-variants.{Previous, Next}
 use Rattle.walks.specs.Live.{sumBelow}
 use Rattle.walks.specs.GapSegments.{joined}
 use Rattle.walks.specs.declared.uses.SplitUse.{SplitUse}
-use Rattle.gaps.specs.Gaps.{Gap, onSide, near, far, nearWeight, farWeights, farEnd, spanned, inOrder, cutGaps, frequencyOf, cuts, gapsBetween, ownGap, useOf, gapsOn, gapsOf}
+use Rattle.links.specs.Links.{onSide}
+use Rattle.gaps.specs.Gaps.{Gap, near, far, nearWeight, farWeights, farEnd, spanned, inOrder, cutGaps, frequencyOf, cuts, gapsBetween, ownGap, useOf, gapsOn, gapsOf}
 
 module _ (f : Float → ℕ) where
   -- of a list of weights, of the weights placed in gaps

@@ -7,12 +7,12 @@ use native.Mathlib.Omega.{arith}
 use lib.Ieee.{Float}
 use lib.ListN.{length, getD, length-map}
 use Rattle.links.specs.Blocks.{endLimit}
-use Rattle.links.specs.Links.{Beyond}
+use Rattle.links.specs.Links.{Beyond, onSide}
 use Rattle.links.specs.declared.lower.Side.{Side}
 use Rattle.links.specs.declared.lower.Side.the-variants.{Previous, Next}
 use Rattle.walks.specs.GapSegments.{joined}
 use Rattle.walks.specs.Live.{Gaps}
-use Rattle.gaps.specs.Gaps.{Gap, onSide, spanned, inOrder}
+use Rattle.gaps.specs.Gaps.{Gap, spanned, inOrder}
 
 -- the first begins at lo, each begins where the one before ends, the last ends at hi; none is empty
 abbrev pub Run : ℕ → ℕ → List Gap → Type 0

@@ -7,10 +7,10 @@ use lib.Ieee.{Float, binary32, add}
 use lib.ListN.{length, getD, length-set, length-append}
 use Rattle.numbers.specs.Weight.{zeroWeight}
 use Rattle.numbers.specs.declared.MaybeBlock.the-variants.{At, Absent}
-use Rattle.links.specs.Links.{beside}
+use Rattle.links.specs.Links.{beside, onSide}
 use Rattle.links.specs.declared.lower.Side.{Side}
 use Rattle.links.specs.declared.lower.Side.the-variants.{Previous, Next}
-use Rattle.gaps.specs.Gaps.{Gap, plus, weightOf, onSide, spanned, inOrder, cutGaps}
+use Rattle.gaps.specs.Gaps.{Gap, plus, weightOf, spanned, inOrder, cutGaps}
 use Rattle.gaps.specs.GapColumns.{GapColumns, withRow, withGap, stored, Rows}
 use Rattle.gaps.specs.Cutting.{Leads, nextCut, followed, cutsIn, freqIn, spaceGaps, Alike}
 use Rattle.gaps.specs.declared.gaps.Space.{Space}

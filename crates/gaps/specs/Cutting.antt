@@ -12,13 +12,13 @@ use Rattle.numbers.specs.declared.MaybeBlock.{MaybeBlock}
 use Rattle.numbers.specs.declared.MaybeBlock.the-variants.{At, Absent}
 use Rattle.links.specs.First.{firstBelow}
 use Rattle.links.specs.Blocks.{itemLimit, Ends}
-use Rattle.links.specs.Links.{absent, Beyond}
+use Rattle.links.specs.Links.{absent, Beyond, onSide}
 use Rattle.links.specs.Split.{preferred, home, reaches}
 use Rattle.links.specs.declared.lower.Side.{Side}
 use Rattle.walks.specs.UseColumns.{UseColumns, Inside, useIn}
 use Rattle.walks.specs.GapSegments.{joined}
 use Rattle.walks.specs.declared.uses.SplitUse.{SplitUse}
-use Rattle.gaps.specs.Gaps.{Gap, onSide, near, far, nearWeight, farEnd, cutGaps}
+use Rattle.gaps.specs.Gaps.{Gap, near, far, nearWeight, farEnd, cutGaps}
 use Rattle.gaps.specs.declared.gaps.Space.{Space}
 
 -- the first of n blocks that ends after an instruction

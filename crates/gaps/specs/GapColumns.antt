@@ -14,6 +14,7 @@ pub record GapColumns : Type 0 where
   pub weights : List Float
   pub freqs : List Float
 
+-- the four as one
 abbrev pub columns : List ℕ → List ℕ → List Float → List Float → GapColumns
 columns froms tos weights freqs = record { froms = froms; tos = tos; weights = weights; freqs = freqs }
 

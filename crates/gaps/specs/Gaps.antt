@@ -7,7 +7,7 @@ use lib.ListN.{length, getD}
 use Rattle.numbers.specs.Weight.{zeroWeight, frequencyLimit, valueOf}
 use Rattle.links.specs.Table.{table}
 use Rattle.links.specs.Blocks.{BlockRow, blocksOf, blockAt, blockOf, startOf, SoundColumns}
-use Rattle.links.specs.Links.{linkColumn}
+use Rattle.links.specs.Links.{linkColumn, onSide}
 use Rattle.links.specs.Split.{follow, edge, preferred, home, reaches}
 use Rattle.links.specs.declared.lower.Side.{Side}
 use Rattle.links.specs.declared.lower.Side.the-variants.{Previous, Next}
@@ -37,12 +37,7 @@ total (w ∷ ws) = plus w ws
 abbrev pub weightOf : Gap → Float
 weightOf g = total (g .weights)
 
--- gaps left of the best use lie on its side Previous, gaps right of it on its side Next: what holds there and here
-abbrev pub onSide : {A : Type 0} → Side → A → A → A
-onSide Previous left right = left
-onSide Next left right = right
-
--- of two neighbouring uses the one nearer to the best use, and the one farther from it
+-- of two neighbouring uses the one nearer to the best use, and the one farther from it; left of the best use is its side Previous
 abbrev pub near : Side → SplitUse → SplitUse → SplitUse
 near side earlier later = onSide side later earlier
 

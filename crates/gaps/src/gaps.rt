@@ -16,7 +16,8 @@ ghost use lib.ListN.{length, getD};
 ghost use Rattle.walks.specs.UseColumns.{columns as useColumns, useIn};
 ghost use Rattle.links.specs.Blocks.{blocksOf, Ends};
 ghost use Rattle.links.specs.Table.{table, filled};
-ghost use Rattle.gaps.specs.Gaps.{onSide, gapsOf, initialGap, Cuttable, usesIn};
+ghost use Rattle.links.specs.Links.{onSide};
+ghost use Rattle.gaps.specs.Gaps.{gapsOf, initialGap, Cuttable, usesIn};
 ghost use Rattle.gaps.specs.GapColumns.{columns, withRow, withGap, stored, Rows, GapsHeld};
 ghost use Rattle.gaps.specs.Cutting.{Ordered, spaceOf, Leads, nextCut, cutsIn, freqIn, Alike, spaceGaps, sideGaps, ownIn, InOrder};
 

@@ -54,6 +54,11 @@ pub record Frequencies (freqs : List ℕ) (room : ℕ) : Type 0 where
   pub long : length freqs ≤ room
   pub sound : (k : ℕ) → k < length freqs → getD freqs k 0 ≤ frequencyLimit
 
+-- what holds on the side Previous and what holds on the side Next
+abbrev pub onSide : {A : Type 0} → Side → A → A → A
+onSide Previous left right = left
+onSide Next left right = right
+
 -- ---- for contracts of private functions
 -- block k lies on a side of block b
 abbrev pub Beyond : Side → ℕ → ℕ → Type 0

@@ -8,7 +8,7 @@ use native.Mathlib.Omega.{arith}
 use mathlib.Core.Bool.{Bool, true, false, not, cond}
 use lib.Dec.{T, ltb, ltb→lt, nltb→le}
 use lib.Ieee.{Float, lt}
-use Rattle.numbers.specs.Weight.{Weight, finite, unitsOf, zeroWeight, heavier, heaviest}
+use Rattle.numbers.specs.Weight.{Weight, finite, unitsOf, zeroWeight, heavier, heaviest, Weights, Among}
 use Rattle.numbers.proofs.Tests.{cond-both}
 use Rattle.numbers.proofs.Units.{units-order, units-inj, zero-finite, zero-units}
 
@@ -33,15 +33,6 @@ pub heavier-among : (a b : Float) → (heavier a b ≡ a) ⊎ (heavier a b ≡ b
 heavier-among a b = cond-both (λ (x : Float). (x ≡ a) ⊎ (x ≡ b)) (lt a b) b a (λ _. inr refl) (λ _. inl refl)
 
 -- ---- a list of weights
-abbrev pub Weights : List Float → Type 0
-Weights [] = Unit {0}
-Weights (w ∷ ws) = Weight w × Weights ws
-
--- w stands in the list
-abbrev pub Among : Float → List Float → Type 0
-Among w [] = ⊥
-Among w (v ∷ vs) = (w ≡ v) ⊎ Among w vs
-
 pub heaviest-weight : (ws : List Float) → Weights ws → Weight (heaviest ws)
 heaviest-weight [] p = finite zero-finite
 heaviest-weight (w ∷ ws) p = heavier-weight (heaviest-weight ws (p .1)) (p .0)

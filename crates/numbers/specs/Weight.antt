@@ -1,5 +1,7 @@
 -- Weights: the binary32 values that are neither negative nor a NaN
 use Prim.Native.Nat.{ℕ, _*_, _/_, _^_}
+use mathlib.Core.Path.{_≡_}
+use mathlib.Core.Logic.{_⊎_}
 use mathlib.Core.Bool.{Bool, true, false, not, _&&_, cond}
 use mathlib.Core.List.{List, [], _∷_}
 use lib.IntN.{ℤ, pos}
@@ -65,3 +67,13 @@ heavier a b = cond (lt a b) b a
 abbrev pub heaviest : List Float → Float
 heaviest [] = zeroWeight
 heaviest (w ∷ ws) = heavier (heaviest ws) w
+
+-- each of a list is a weight
+abbrev pub Weights : List Float → Type 0
+Weights [] = Unit {0}
+Weights (w ∷ ws) = Weight w × Weights ws
+
+-- a weight stands in a list
+abbrev pub Among : Float → List Float → Type 0
+Among w [] = ⊥
+Among w (v ∷ vs) = (w ≡ v) ⊎ Among w vs

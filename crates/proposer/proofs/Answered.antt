@@ -2,7 +2,7 @@
 use mathlib.Core.Path.{_≡_, refl, sym, ap, ap₂, _∙_, subst}
 use mathlib.Core.Logic.{_⊎_, _↔_}
 use mathlib.Core.Bool.{not}
-use mathlib.Core.List.{List, map}
+use mathlib.Core.List.{List, [], _∷_, map}
 use Prim.Native.Nat.{ℕ, _+_, _≤_, _<_}
 use native.Mathlib.Omega.{arith}
 use lib.Dec.{T}
@@ -21,6 +21,7 @@ use Rattle.tables.specs.UseTables.{bestOf}
 use Rattle.region.specs.Growth.{ownSpan, usedUp, weightTest, growth}
 use Rattle.region.specs.Proposal.{regionOf}
 use Rattle.region.specs.Demand.{Around, Ended, FailedBefore, Demand3, sumOver, addedTo, gapsBeside, gapsGrown}
+use Rattle.region.specs.Evictions.{Each}
 use Rattle.region.specs.declared.proposal.SplitProposal.{SplitProposal}
 use Rattle.region.specs.declared.proposal.Region.{Region}
 use Rattle.region.specs.declared.proposal.Region.the-variants as Region·is
@@ -30,10 +31,11 @@ use Rattle.verdict.specs.Refusals.{refusalOf}
 use Rattle.verdict.proofs.Accepted.{job-accepted}
 use Rattle.proposer.specs.View.{usesOfJob, seenOfJob}
 use Rattle.proposer.specs.Answer.{ofRegion, ofBest, ofChecked, answerOf}
+use Rattle.proposer.specs.Demand.{mainsOf, numberOf, bestNumber, FixedMet, AnswerDemand3}
+use Rattle.proposer.specs.Evictions.{Entry, Chain, ChainEnds, Answered, entryOf}
 use Rattle.proposer.specs.declared.propose.Answer.{Answer}
 use Rattle.proposer.specs.declared.propose.Answer.the-variants as Answer·is
-use Rattle.proposer.proofs.JobView.{reservationOf, Weighs, CountsAsFixed, FixedMet}
-use Rattle.proposer.proofs.JobTheorems.{IsBest, mainsOf, Proposed, InRegion, RegionMeets, Entry, Chain, ChainEnds, job-best, job-no-best-exactly, job-nothing-exactly, job-around, job-ended, job-side-ends, job-demand3, job-use-weight, job-live-insts, job-strict, region-no-fixed, region-none-heavier, region-heaviest-met, job-evictions-end}
+use Rattle.proposer.proofs.JobTheorems.{ProposalOf, job-best, job-no-best-exactly, job-nothing-exactly, job-around, job-ended, job-side-ends, job-demand3, job-use-weight, job-live-insts, job-strict, region-no-fixed, region-none-heavier, region-heaviest-met, job-evictions-end}
 
 -- ---- what an answer says of the verdict, the best use and the region
 region-found : (r : Region) (p : SplitProposal) → ofRegion r ≡ Answer·is.Found p → r ≡ Region·is.Found p
@@ -80,38 +82,6 @@ module _ (job : Job) where
   answer-by rooms c b e f = ap₂ (λ (x : Checked) (y : BestUse). ofChecked x (ofBest job y)) e f
 
 -- ---- each answer, exactly
--- the number of a job's best use
-abbrev pub numberOf : BestUse → ℕ
-numberOf (BestUse·is.At best) = best
-numberOf BestUse·is.Nothing = 0
-
-abbrev pub bestNumber : Job → ℕ
-bestNumber job = numberOf (bestOf (sourceOfJob job))
-
--- demand 3 of a proposal of a job, around a best use: growth ends with its region; nothing fixed counts against it; its
--- interference weight is exactly the heaviest one met; the weight test holds of it
-pub record AnswerDemand3 (job : Job) (best : ℕ) (p : SplitProposal) : Type 0 where
-  -- the best use is the largest main weight, above zero, earliest on ties; its gap lies in the region grown
-  pub is-best : IsBest (mainsOf job) best
-  pub around : Around (seenOfJob job best) (growth (seenOfJob job best) (seenOfJob job best .count + 1) .region)
-  -- growth has ended there: on each side the gaps are used up, or the gap just outside has failed
-  pub ended : Ended (seenOfJob job best) (growth (seenOfJob job best) (seenOfJob job best .count + 1))
-  pub side-ends : (side : Side) → T (usedUp side (seenOfJob job best .count) (growth (seenOfJob job best) (seenOfJob job best .count + 1) .region))
-      ⊎ FailedBefore (seenOfJob job best) side (seenOfJob job best .count + 1) (growth (seenOfJob job best) (seenOfJob job best .count + 1) .region)
-  -- it is the proposal of that region, and what holds of it over the gaps
-  pub of-gaps : Demand3 (seenOfJob job best) (growth (seenOfJob job best) (seenOfJob job best .count + 1)) p
-  -- its use weight: the best use's gap's, and then those of the gaps grown, added in the order grown
-  pub use-weight : p .«use_weight» ≡ addedTo (seenOfJob job best .weight (seenOfJob job best .own)) (seenOfJob job best .weight) (gapsGrown (seenOfJob job best) (seenOfJob job best .count + 1))
-  -- its live instructions: 1, and those of the region's other gaps
-  pub live-insts : p .«live_insts» ≡ 1 + sumOver (seenOfJob job best .live) (gapsBeside (ownSpan (seenOfJob job best)) (growth (seenOfJob job best) (seenOfJob job best .count + 1) .region))
-  -- no reservation of the job that its region meets counts as fixed
-  pub no-fixed : (k i : ℕ) → InRegion job best p k → CountsAsFixed job best k i → ⊥
-  -- no kind 0 reservation that it meets is heavier than its interference weight, which is the weight of one of them, or zero
-  pub none-heavier : (k i : ℕ) → InRegion job best p k → Weighs job best k i → unitsOf (weightOf (job .weights) (reservationOf job i)) ≤ unitsOf (p .«interference_weight»)
-  pub heaviest-met : (p .«interference_weight» ≡ zeroWeight) ⊎ RegionMeets job best p (p .«interference_weight»)
-  -- the normalised weight times 2007/2048, rounded once, strictly exceeds the interference weight
-  pub strict : T (exceeds 2007 (normalised (p .«use_weight») (p .«live_insts») (job .k)) (p .«interference_weight»))
-
 module _ (job : Job) (rooms : Rooms) where
   -- a job is refused exactly as document 01's table says
   pub refused-exactly : (r : Refusal) → (answerOf job rooms ≡ Answer·is.Refused r) ↔ (refusalOf job rooms ≡ Checked·is.Refused r)
@@ -146,7 +116,7 @@ module _ (job : Job) (rooms : Rooms) where
   )
 
   -- a proposal exactly if it is accepted, has a best use and growth from it finds that region
-  pub found-exactly : (p : SplitProposal) → (answerOf job rooms ≡ Answer·is.Found p) ↔ ((refusalOf job rooms ≡ Checked·is.Sound) × (best : ℕ) × Proposed job best p)
+  pub found-exactly : (p : SplitProposal) → (answerOf job rooms ≡ Answer·is.Found p) ↔ ((refusalOf job rooms ≡ Checked·is.Sound) × (best : ℕ) × ProposalOf job best p)
   found-exactly p = (
     (λ e.
         let h = said-found job (refusalOf job rooms) (bestOf (sourceOfJob job)) p e in
@@ -155,11 +125,11 @@ module _ (job : Job) (rooms : Rooms) where
   )
 
   -- around its best use
-  pub found-proposed : (p : SplitProposal) → answerOf job rooms ≡ Answer·is.Found p → Proposed job (bestNumber job) p
+  pub found-proposed : (p : SplitProposal) → answerOf job rooms ≡ Answer·is.Found p → ProposalOf job (bestNumber job) p
   found-proposed p e =
       let h = found-exactly p .0 e in
       let same : bestNumber job ≡ h .1 = ap numberOf (h .2 .is-best) in
-      subst (λ (b : ℕ). Proposed job b p) (sym same) (h .2)
+      subst (λ (b : ℕ). ProposalOf job b p) (sym same) (h .2)
 
   -- demand 3 of every proposal that is answered
   pub answer-demand3 : (p : SplitProposal) → answerOf job rooms ≡ Answer·is.Found p → AnswerDemand3 job (bestNumber job) p
@@ -180,19 +150,12 @@ module _ (job : Job) (rooms : Rooms) where
       }
 
 -- ---- the ring and chain law of what is answered
--- a job, the rows of its lent tables, and the proposal that it is answered
-pub record Answered : Type 0 where
-  pub job : Job
-  pub rooms : Rooms
-  pub proposal : SplitProposal
-  pub answered : answerOf job rooms ≡ Answer·is.Found proposal
-
--- with its best use
-abbrev pub entryOf : Answered → Entry
-entryOf a = record { job = a .job; best = bestNumber (a .job); proposal = a .proposal; answered = found-proposed (a .job) (a .rooms) (a .proposal) (a .answered) }
-
 -- of every list of jobs and the proposals they are answered, in which the region of each after the first meets a reservation
 -- that carries the normalised weight of the one before: there is no ring, and there are at most 10,000, or 9,495 if the first
 -- normalised weight is above zero
 pub evictions-end : (list : List Answered) → Chain (map entryOf list) → ChainEnds (map entryOf list)
-evictions-end list chain = job-evictions-end (map entryOf list) chain
+evictions-end list chain = job-evictions-end (map entryOf list) (each-answered list) chain
+  where
+    each-answered : (list : List Answered) → Each (λ (e : Entry). ProposalOf (e .job) (e .best) (e .proposal)) (map entryOf list)
+    each-answered [] = tt
+    each-answered (a ∷ rest) = (found-proposed (a .job) (a .rooms) (a .proposal) (a .answered), each-answered rest)

@@ -10,13 +10,13 @@ use lib.Dec.{T, leb, leb→le, nleb→lt, nltb→le, lit≤}
 use lib.Ieee.{Float, binary32, lt, toBits}
 use lib.ListN.{length, getD, length-map, List·getD-eq-default}
 use borrow.Author.Tests.{le-ltb, le-leb}
-use Rattle.numbers.specs.Weight.{Weight, finite, unitsOf, zeroWeight, heaviest}
+use Rattle.numbers.specs.Weight.{Weight, finite, unitsOf, zeroWeight, heaviest, Weights, Among}
 use Rattle.numbers.specs.Point.{instOf}
 use Rattle.numbers.specs.Normal.{normalised, exceeds}
 use Rattle.numbers.specs.Chain.{longest}
 use Rattle.numbers.proofs.Tests.{cond-true, cond-false}
 use Rattle.numbers.proofs.Units.{units-order, units-lt, zero-finite, zero-units}
-use Rattle.numbers.proofs.Heaviest.{Weights, Among, heaviest-weight, heaviest-among, heaviest-above}
+use Rattle.numbers.proofs.Heaviest.{heaviest-weight, heaviest-among, heaviest-above}
 use Rattle.links.specs.First.{firstBelow, FirstIn}
 use Rattle.links.specs.declared.lower.Side.{Side}
 use Rattle.links.proofs.Firsts.{split, first-in}
@@ -25,6 +25,7 @@ use Rattle.walks.specs.Live.{Gaps}
 use Rattle.walks.specs.declared.uses.SplitUse.{SplitUse}
 use Rattle.walks.specs.declared.uses.BestUse.{BestUse}
 use Rattle.walks.specs.declared.uses.BestUse.the-variants.{At, Nothing}
+use Rattle.walks.proofs.Largest.{weights-of, at-among}
 use Rattle.walks.proofs.UseTable.{use-table-weights}
 use Rattle.walkers.specs.Meeting.{weightOf}
 use Rattle.gaps.specs.Gaps.{initialGap}
@@ -43,7 +44,9 @@ use Rattle.verdict.specs.Job.{Job, sourceOfJob}
 use Rattle.verdict.proofs.Accepted.{Accepted}
 use Rattle.proposer.specs.View.{usesOfJob, gapsOfJob, segmentsOfJob, seenOfJob}
 use Rattle.proposer.proofs.SegmentOrder.{InGap, fromColumn, toColumn}
-use Rattle.proposer.proofs.JobView.{segmentOfJob, gapOfSegment, reservationOf, Weighs, CountsAsFixed, FixedMet, gap-weighs, gap-weighed-by, gap-fixed, gap-fixed-exactly, job-tiles, job-sound, segment-in-gap}
+use Rattle.proposer.specs.Demand.{IsBest, mainsOf, segmentOfJob, gapOfSegment, reservationOf, Weighs, CountsAsFixed, FixedMet, InRegion, RegionMeets}
+use Rattle.proposer.specs.Evictions.{MeetsCarrying, Entry, weightIn, ChainAfter, Chain, Stands, ChainEnds}
+use Rattle.proposer.proofs.JobView.{gap-weighs, gap-weighed-by, gap-fixed, gap-fixed-exactly, job-tiles, job-sound, segment-in-gap}
 
 -- ---- the best use stands in the table
 -- a weight of a list stands in one of its rows
@@ -58,32 +61,9 @@ among-row (v ∷ ws) w (inr a) = let r = among-row ws w a in (suc (r .0), up (r 
     up : (k n : ℕ) → k < n → suc k < suc n
     up k n h = omega (arith, h)
 
-row-among : (ws : List Float) (k : ℕ) → k < length ws → Among (getD ws k zeroWeight) ws
-row-among [] k h = absurd (not-suc-le-zero h)
-row-among (w ∷ ws) zero h = inl refl
-row-among (w ∷ ws) (suc k) h = inr (row-among ws k (le-of-suc-le-suc h))
-
-weights-of : (ws : List Float) → AllWeights ws → Weights ws
-weights-of [] f = tt
-weights-of (w ∷ ws) f = (f 0 (some (length ws)), weights-of ws (λ k h. f (suc k) (up k (length ws) h)))
-  where
-    some : (n : ℕ) → 0 < suc n
-    some n = omega arith
-
-    up : (k n : ℕ) → k < n → suc k < suc n
-    up k n h = omega (arith, h)
-
 unnot : (b : Bool) → not b ≡ false → T b
 unnot true e = tt
 unnot false e = absurd (let z : _≡_ {A = ℕ} 0 1 = cc in omega arith)
-
--- a best use among main weights: the largest, above zero, earliest on ties, in a table of more than one row
-pub record IsBest (ws : List Float) (best : ℕ) : Type 0 where
-  pub several : 1 < length ws
-  pub inside : best < length ws
-  pub above-zero : 0 < unitsOf (getD ws best zeroWeight)
-  pub largest : (k : ℕ) → k < length ws → unitsOf (getD ws k zeroWeight) ≤ unitsOf (getD ws best zeroWeight)
-  pub earliest : (k : ℕ) → k < best → unitsOf (getD ws k zeroWeight) < unitsOf (getD ws best zeroWeight)
 
 -- no weight is below itself
 not-below : (x : Float) → Weight x → T (lt x x) → ⊥
@@ -116,7 +96,7 @@ module _ (ws : List Float) (given : AllWeights ws) where
   heaviest-is = heaviest-weight ws (weights-of ws given)
 
   at-most-heaviest : (k : ℕ) → k < length ws → unitsOf (getD ws k zeroWeight) ≤ unitsOf (heaviest ws)
-  at-most-heaviest k h = heaviest-above ws (weights-of ws given) (getD ws k zeroWeight) (row-among ws k h)
+  at-most-heaviest k h = heaviest-above ws (weights-of ws given) (getD ws k zeroWeight) (at-among ws k h)
 
   -- whether there is a best use, and which: by what the definition asks
   best-is-found : T (not (leb (length ws) 1)) → T (lt zeroWeight (heaviest ws)) → IsBest ws (firstBelow (isLargest ws) (length ws))
@@ -186,12 +166,8 @@ module _ (ws : List Float) (given : AllWeights ws) where
           by (inl e) = ap unitsOf e ∙ zero-units
           by (inr a) = let r = among-row ws (heaviest ws) a in ap unitsOf (sym (r .2)) ∙ h (r .0) (r .1)
 
--- the main weights of a job's uses
-abbrev pub mainsOf : Job → List Float
-mainsOf job = map (λ (u : SplitUse). u .weight) (usesOfJob job)
-
 -- an accepted job, its best use and its proposal
-pub record Proposed (job : Job) (best : ℕ) (p : SplitProposal) : Type 0 where
+pub record ProposalOf (job : Job) (best : ℕ) (p : SplitProposal) : Type 0 where
   pub accepted : Accepted job
   pub is-best : bestUse (mainsOf job) ≡ At best
   pub found : regionOf (seenOfJob job best) ≡ Region·is.Found p
@@ -211,7 +187,7 @@ pub job-no-best-exactly : (job : Job) → Accepted job → (bestUse (mainsOf job
 job-no-best-exactly job accepted = no-best-exactly (mainsOf job) (use-table-weights (sourceOfJob job) (accepted .scales))
 
 -- ---- demand 3
-module _ (job : Job) (best : ℕ) (p : SplitProposal) (given : Proposed job best p) where
+module _ (job : Job) (best : ℕ) (p : SplitProposal) (given : ProposalOf job best p) where
   -- the gaps that growth sees are sound
   pub proposed-sound : SoundGaps (seenOfJob job best)
   proposed-sound = job-sound job (given .accepted) best (job-best-inside job (given .accepted) best (given .is-best))
@@ -266,26 +242,6 @@ job-nothing-exactly job best =
     )
 
 -- ---- what a proposal's region meets, in the job's own rows
--- a proposal's region: the gap segments from its left to before its right
-abbrev pub InRegion : Job → ℕ → SplitProposal → ℕ → Type 0
-InRegion job best p k = T (covers p (instOf (segmentOfJob job best k .from .0)))
-
--- it meets a kind 0 reservation with a weight
-pub record RegionMeets (job : Job) (best : ℕ) (p : SplitProposal) (w : Float) : Type 0 where
-  pub segment : ℕ
-  pub row : ℕ
-  pub in-region : InRegion job best p segment
-  pub weighs : Weighs job best segment row
-  pub has : weightOf (job .weights) (reservationOf job row) ≡ w
-
--- it meets a reservation that carries a weight: kind 0, and the spill weight at its index has those bits
-pub record MeetsCarrying (job : Job) (best : ℕ) (p : SplitProposal) (w : Float) : Type 0 where
-  pub segment : ℕ
-  pub row : ℕ
-  pub in-region : InRegion job best p segment
-  pub weighs : Weighs job best segment row
-  pub carries : getD (job .weights) (reservationOf job row .index) 0 ≡ toBits binary32 w
-
 -- the bits of a job's spill weights are those of the weights
 bits-of : (job : Job) → Accepted job → (i : ℕ) → toBits binary32 (weightOf (job .weights) (reservationOf job i)) ≡ getD (job .weights) (reservationOf job i .index) 0
 unfolding weightOf
@@ -294,7 +250,7 @@ bits-of job accepted i = carried-bits (getD (job .weights) x 0) (⊎-elim (accep
     x : ℕ
     x = reservationOf job i .index
 
-module _ (job : Job) (best : ℕ) (p : SplitProposal) (given : Proposed job best p) where
+module _ (job : Job) (best : ℕ) (p : SplitProposal) (given : ProposalOf job best p) where
   abbrev seen : GapsSeen
   seen = seenOfJob job best
 
@@ -375,45 +331,6 @@ module _ (job : Job) (best : ℕ) (p : SplitProposal) (given : Proposed job best
           }
 
 -- ---- the ring and chain law
--- an accepted job with its best use and its proposal
-pub record Entry : Type 0 where
-  pub job : Job
-  pub best : ℕ
-  pub proposal : SplitProposal
-  pub answered : Proposed job best proposal
-
--- its proposal's normalised weight, in that job's k
-abbrev pub weightIn : Entry → Float
-weightIn e = normalised (e .proposal .«use_weight») (e .proposal .«live_insts») (e .job .k)
-
--- its proposal's region meets a reservation that carries a weight
-abbrev pub Meets : Entry → Float → Type 0
-Meets e w = MeetsCarrying (e .job) (e .best) (e .proposal) w
-
--- each after an entry meets a reservation that carries the normalised weight of the one before
-abbrev pub ChainAfter : Entry → List Entry → Type 0
-ChainAfter e [] = Unit {0}
-ChainAfter e (f ∷ fs) = Meets f (weightIn e) × ChainAfter f fs
-
--- each after the first
-abbrev pub Chain : List Entry → Type 0
-Chain [] = Unit {0}
-Chain (e ∷ es) = ChainAfter e es
-
--- entry i of a list
-abbrev pub Stands : List Entry → ℕ → Entry → Type 0
-Stands [] i e = ⊥
-Stands (x ∷ es) zero e = x ≡ e
-Stands (x ∷ es) (suc i) e = Stands es i e
-
--- no ring, and no long chain
-pub record ChainEnds (es : List Entry) : Type 0 where
-  -- no member's region meets a reservation that carries its own or a later one's normalised weight
-  pub no-ring : (i j : ℕ) → i ≤ j → (e f : Entry) → Stands es i e → Stands es j f → Meets e (weightIn f) → ⊥
-  -- there are at most 10,000 members, 9,495 if the first normalised weight is above zero
-  pub few : length es ≤ 10000
-  pub few-above-zero : (e : Entry) → Stands es 0 e → 0 < unitsOf (weightIn e) → length es ≤ longest
-
 abbrev givenOf : Entry → Given
 givenOf e = record { seen = seenOfJob (e .job) (e .best); proposal = e .proposal }
 
@@ -434,34 +351,42 @@ promise-at (x ∷ es) (suc i) e s = let r = promise-at es i e s in (up i (length
     up : (i n : ℕ) → i < n → suc i < suc n
     up i n h = omega (arith, h)
 
-each-found : (es : List Entry) → Each IsFound (map givenOf es)
-each-found [] = tt
-each-found (e ∷ es) = (record { sound = proposed-sound (e .job) (e .best) (e .proposal) (e .answered); found = e .answered .found }, each-found es)
+abbrev IsEntry : Entry → Type 0
+IsEntry e = ProposalOf (e .job) (e .best) (e .proposal)
+
+is-entry : (es : List Entry) → Each IsEntry es → (i : ℕ) (e : Entry) → Stands es i e → IsEntry e
+is-entry [] given i e s = absurd s
+is-entry (x ∷ es) given zero e s = subst IsEntry s (given .0)
+is-entry (x ∷ es) given (suc i) e s = is-entry es (given .1) i e s
+
+each-found : (es : List Entry) → Each IsEntry es → Each IsFound (map givenOf es)
+each-found [] given = tt
+each-found (e ∷ es) given = (record { sound = proposed-sound (e .job) (e .best) (e .proposal) (given .0); found = given .0 .found }, each-found es (given .1))
 
 -- every weight test has numerator 2007
 each-2007 : (es : List Entry) → Each (λ (p : Promise). p .numerator ≤ 2007) (promises es)
 each-2007 [] = tt
 each-2007 (e ∷ es) = (le-refl 2007, each-2007 es)
 
-evicts-after : (e : Entry) (es : List Entry) → ChainAfter e es → EvictsAfter (promised (givenOf e)) (promises es)
-evicts-after e [] c = tt
-evicts-after e (f ∷ fs) c = (carrying-exactly (f .job) (f .best) (f .proposal) (f .answered) (weightIn e) .0 (c .0), evicts-after f fs (c .1))
+evicts-after : (e : Entry) (es : List Entry) → Each IsEntry es → ChainAfter e es → EvictsAfter (promised (givenOf e)) (promises es)
+evicts-after e [] given c = tt
+evicts-after e (f ∷ fs) given c = (carrying-exactly (f .job) (f .best) (f .proposal) (given .0) (weightIn e) .0 (c .0), evicts-after f fs (given .1) (c .1))
 
-evicts : (es : List Entry) → Chain es → Evicts (promises es)
-evicts [] c = tt
-evicts (e ∷ es) c = evicts-after e es c
+evicts : (es : List Entry) → Each IsEntry es → Chain es → Evicts (promises es)
+evicts [] given c = tt
+evicts (e ∷ es) given c = evicts-after e es (given .1) c
 
 -- the ring and chain law, of every list of accepted jobs and their proposals in which the region of each after the first meets a reservation that
 -- carries the normalised weight of the one before; nothing is kept between the jobs, and a job may stand twice
-pub job-evictions-end : (es : List Entry) → Chain es → ChainEnds es
-job-evictions-end es chain =
+pub job-evictions-end : (es : List Entry) → Each (λ (e : Entry). ProposalOf (e .job) (e .best) (e .proposal)) es → Chain es → ChainEnds es
+job-evictions-end es given chain =
     record {
       no-ring = λ i j h e f s t m.
           let a = promise-at es i e s in
           let b = promise-at es j f t in
           ended .no-ring i j h (b .0)
           (subst (λ (q : Promise). MeetsCarrier q (member (promises es) j .weight)) (sym (a .1))
-          (subst (λ (q : Promise). MeetsCarrier (promised (givenOf e)) (q .weight)) (sym (b .1)) (carrying-exactly (e .job) (e .best) (e .proposal) (e .answered) (weightIn f) .0 m)));
+          (subst (λ (q : Promise). MeetsCarrier (promised (givenOf e)) (q .weight)) (sym (b .1)) (carrying-exactly (e .job) (e .best) (e .proposal) (is-entry es given i e s) (weightIn f) .0 m)));
       few = let f = ended .few (each-2007 es) in let e = promises-long es in omega (arith, f, e);
       few-above-zero = λ e s z.
           subst (λ (n : ℕ). n ≤ longest) (promises-long es)
@@ -469,4 +394,4 @@ job-evictions-end es chain =
     }
   where
     ended : EvictionsEnd (promises es)
-    ended = found-evictions-end (map givenOf es) (each-found es) (evicts es chain)
+    ended = found-evictions-end (map givenOf es) (each-found es given) (evicts es given chain)

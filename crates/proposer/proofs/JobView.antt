@@ -12,10 +12,9 @@ use lib.Ieee.{Float, nan}
 use lib.Ieee.Bits.{is-true}
 use lib.ListN.{length, getD, length-map, length-append, List·getD-map, List·getD-eq-default}
 use borrow.Author.Tests.{eq-eqb, eqb-true}
-use Rattle.numbers.specs.Weight.{Weight, finite, zeroWeight}
+use Rattle.numbers.specs.Weight.{Weight, finite, zeroWeight, Among}
 use Rattle.numbers.proofs.Tests.{cond-true}
 use Rattle.numbers.proofs.Units.{zero-finite}
-use Rattle.numbers.proofs.Heaviest.{Among}
 use Rattle.links.specs.Blocks.{endLimit}
 use Rattle.links.proofs.Firsts.{split}
 use Rattle.links.proofs.Tables.{table-length, table-at}
@@ -50,6 +49,7 @@ use Rattle.region.specs.Find.{InTable}
 use Rattle.region.proofs.Spans.{between-behind, between-none, sum-append, sum-one}
 use Rattle.verdict.specs.Job.{Job, sourceOfJob, reservedOfJob, registerOf}
 use Rattle.verdict.proofs.Accepted.{Accepted}
+use Rattle.proposer.specs.Demand.{segmentOfJob, gapOfSegment, reservationOf, Weighs, CountsAsFixed, FixedMet}
 use Rattle.proposer.specs.View.{startsOf, endsOf, valuesOf, usesOfJob, gapsOfJob, livesOfJob, segmentsOfJob, segmentColumns, seenOfJob}
 use Rattle.proposer.proofs.SegmentOrder.{InGap, gap-segments-order, fromColumn, toColumn, gapColumn, row-in-gap, segments-ordered}
 
@@ -247,30 +247,6 @@ module _ (p : Register) (t : Reserved) (test : ℕ → Bool) (at : ℕ → Seen.
       by on (inl m) = let r = on m in record { segment = r .segment; inside = next (r .segment) n (r .inside); is-picked = r .is-picked; meets = r .meets }
       by on (inr m) = this (test n) refl m
 
--- a gap segment of a job, as the walkers see it
-abbrev pub segmentOfJob : Job → ℕ → ℕ → Seen.GapSegment
-segmentOfJob job best k = segmentIn (segmentColumns (segmentsOfJob job best)) k
-
--- the gap that it lies in
-abbrev pub gapOfSegment : Job → ℕ → ℕ → ℕ
-gapOfSegment job best k = getD (gapColumn (segmentsOfJob job best)) k 0
-
--- a reservation of a job
-abbrev pub reservationOf : Job → ℕ → Reservation
-reservationOf job i = getD (job .reservations) i noReservation
-
--- gap segment k and reservation i of a job, which is kind 0, overlap: its weight counts
-pub record Weighs (job : Job) (best k i : ℕ) : Type 0 where
-  pub segment : k < length (segmentsOfJob job best)
-  pub row : i < length (job .reservations)
-  pub meets : T (weighsAgainst (registerOf job) (segmentOfJob job best k) (reservationOf job i))
-
--- they overlap, and the reservation counts as fixed
-pub record CountsAsFixed (job : Job) (best k i : ℕ) : Type 0 where
-  pub segment : k < length (segmentsOfJob job best)
-  pub row : i < length (job .reservations)
-  pub meets : T (fixedAgainst (registerOf job) (job .fixedUses) (segmentOfJob job best k) (reservationOf job i))
-
 -- a gap meets a weight if a gap segment of it does
 pub record WeightMet (job : Job) (best g : ℕ) (w : Float) : Type 0 where
   pub segment : ℕ
@@ -278,13 +254,6 @@ pub record WeightMet (job : Job) (best g : ℕ) (w : Float) : Type 0 where
   pub weighs : Weighs job best segment row
   pub of-gap : gapOfSegment job best segment ≡ g
   pub has : Meeting.weightOf (job .weights) (reservationOf job row) ≡ w
-
--- and something that counts as fixed likewise
-pub record FixedMet (job : Job) (best g : ℕ) : Type 0 where
-  pub segment : ℕ
-  pub row : ℕ
-  pub counts : CountsAsFixed job best segment row
-  pub of-gap : gapOfSegment job best segment ≡ g
 
 module _ (job : Job) (best : ℕ) where
   abbrev columns : GapColumns

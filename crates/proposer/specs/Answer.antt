@@ -38,11 +38,12 @@ abbrev pub ofBest : Job → BestUse → Answer
 ofBest job (BestUse·is.At best) = ofRegion (regionOf (seenOfJob job best))
 ofBest job BestUse·is.Nothing = Answer·is.NoBestUse
 
--- a refused job has no other answer
+-- one thing of an accepted job, another of a refused one
 abbrev pub ifAccepted : {A : Type 0} → Checked → A → A → A
 ifAccepted Checked·is.Sound accepted refused = accepted
 ifAccepted (Checked·is.Refused r) accepted refused = refused
 
+-- a refused job has no other answer
 abbrev pub ofChecked : Checked → Answer → Answer
 ofChecked Checked·is.Sound answer = answer
 ofChecked (Checked·is.Refused r) answer = Answer·is.Refused r
@@ -89,6 +90,7 @@ tablesOfBest job (BestUse·is.At best) =
 tablesOfBest job BestUse·is.Nothing =
     record { prevs = linkColumn Previous (freqsOf job); nexts = linkColumn Next (freqsOf job); uses = usesOfJob job; gaps = []; lives = []; segments = [] }
 
+-- a job's tables; a refused job has none
 abbrev pub tablesOf : Job → Rooms → Tables
 tablesOf job rooms = ifAccepted (refusalOf job rooms) (tablesOfBest job (bestOf (sourceOfJob job))) noTables
 
@@ -110,6 +112,7 @@ pub record WorkColumns : Type 0 where
   pub out-values : List ℕ
   pub out-gaps : List ℕ
 
+-- the fifteen as one
 abbrev pub workColumns : List ℕ → List ℕ → List ℕ → List Float → List Float → List Float → List ℕ → List ℕ → List Float → List ℕ → List Float → List ℕ → List ℕ → List ℕ → List ℕ → WorkColumns
 workColumns prevs nexts insts mains lefts rights froms tos weights lives freqs out-froms out-tos out-values out-gaps =
     record { prevs = prevs; nexts = nexts; insts = insts; mains = mains; lefts = lefts; rights = rights; froms = froms; tos = tos; weights = weights; lives = lives; freqs = freqs; out-froms = out-froms; out-tos = out-tos; out-values = out-values; out-gaps = out-gaps }

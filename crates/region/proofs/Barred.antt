@@ -8,7 +8,8 @@ use mathlib.Core.Bool.{Bool, true, false, not, _&&_}
 use lib.Dec.{T, T-not}
 use Rattle.links.specs.declared.lower.Side.{Side}
 use Rattle.links.specs.declared.lower.Side.the-variants.{Previous, Next}
-use Rattle.region.specs.Growth.{GapsSeen, Span, State, ownSpan, onSide, outside, usedUp, withGap, passesOn, start, sideOpen, isOpen, barred, growth}
+use Rattle.links.specs.Links.{onSide}
+use Rattle.region.specs.Growth.{GapsSeen, Span, State, ownSpan, outside, usedUp, withGap, passesOn, start, sideOpen, isOpen, barred, growth}
 use Rattle.region.specs.Demand.{FailedBefore}
 use Rattle.region.proofs.Tries.{open-free, try-cases}
 

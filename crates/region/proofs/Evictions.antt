@@ -9,20 +9,20 @@ use lib.Dec.{T, lit<, lit≤}
 use lib.Pow.{pow-pos}
 use lib.Ieee.{Float, nan, binary32, mul, ofBits, toBits}
 use lib.ListN.{length, getD}
-use Rattle.numbers.specs.Weight.{Finite, Weight, finite, unitsOf, infiniteUnits, weightLimit, valueOf, heaviest}
+use Rattle.numbers.specs.Weight.{Finite, Weight, finite, unitsOf, infiniteUnits, weightLimit, valueOf, heaviest, Weights, Among}
 use Rattle.numbers.specs.Normal.{fraction, exceeds}
 use Rattle.numbers.specs.Chain.{Chain, ChainFrom, longest}
 use Rattle.numbers.proofs.Units.{units-lt, lt-units, finite-of-units}
 use Rattle.numbers.proofs.Rounding.{rounded, round-weight, round-monotone, round-at-most}
 use Rattle.numbers.proofs.Operations.{product-round, product-weight, whole-number, whole-finite}
 use Rattle.numbers.proofs.Normalised.{exceeds-rises, exceeds-lighter}
-use Rattle.numbers.proofs.Heaviest.{Weights, Among, heaviest-weight, heaviest-above}
+use Rattle.numbers.proofs.Heaviest.{heaviest-weight, heaviest-above}
 use Rattle.numbers.proofs.Bits.{weight-back, bits-back, value-is}
 use Rattle.numbers.proofs.Chain.{chain-rises, chain-few, chain-bound}
 use Rattle.region.specs.Growth.{GapsSeen, ownSpan, passes, growth, weightsMet}
 use Rattle.region.specs.Proposal.{proposalWith, proposalOf}
 use Rattle.region.specs.Demand.{SoundGaps}
-use Rattle.region.specs.Evictions.{Promise, Kept, MeetsCarrier, EvictsAfter, Evicts, Each, member, EvictionsEnd, promiseOf, Given, IsProposed, IsFound, promised}
+use Rattle.region.specs.Evictions.{Promise, Kept, MeetsCarrier, EvictsAfter, Evicts, Each, member, EvictionsEnd, promiseOf, Given, AfterTries, IsFound, promised}
 use Rattle.region.specs.declared.proposal.SplitProposal.{SplitProposal}
 use Rattle.region.proofs.Meetings.{among-weight}
 use Rattle.region.proofs.Proposals.{growth-met, early-demand3, found-own-passes, found-is-grown}
@@ -168,11 +168,11 @@ early-kept seen sound t n =
       fraction = sound .fraction;
     }
 
-pub proposed-kept : (g : Given) → IsProposed g → Kept (promised g)
+pub proposed-kept : (g : Given) → AfterTries g → Kept (promised g)
 proposed-kept g f = subst (λ (p : SplitProposal). Kept (promiseOf (g .seen) p)) (sym (f .proposed)) (early-kept (g .seen) (f .sound) (f .own-passes) (f .tries))
 
 -- what is found is proposed
-pub found-proposed : (g : Given) → IsFound g → IsProposed g
+pub found-proposed : (g : Given) → IsFound g → AfterTries g
 found-proposed g f =
     record {
       sound = f .sound;
@@ -185,17 +185,17 @@ each-from : (P Q : Given → Type 0) → ((g : Given) → P g → Q g) → (gs :
 each-from P Q f [] ps = tt
 each-from P Q f (g ∷ gs) ps = (f g (ps .0), each-from P Q f gs (ps .1))
 
-each-kept : (gs : List Given) → Each IsProposed gs → Each Kept (map promised gs)
+each-kept : (gs : List Given) → Each AfterTries gs → Each Kept (map promised gs)
 each-kept [] fs = tt
 each-kept (g ∷ gs) fs = (proposed-kept g (fs .0), each-kept gs (fs .1))
 
 -- the ring and chain law, of every list of jobs' gaps and proposals of their growth
-pub proposed-evictions-end : (gs : List Given) → Each IsProposed gs → Evicts (map promised gs) → EvictionsEnd (map promised gs)
+pub proposed-evictions-end : (gs : List Given) → Each AfterTries gs → Evicts (map promised gs) → EvictionsEnd (map promised gs)
 proposed-evictions-end gs fs e = evictions-end (map promised gs) (each-kept gs fs) e
 
 -- and so of every list of jobs' gaps and the proposals found for them
 pub found-evictions-end : (gs : List Given) → Each IsFound gs → Evicts (map promised gs) → EvictionsEnd (map promised gs)
-found-evictions-end gs fs = proposed-evictions-end gs (each-from IsFound IsProposed found-proposed gs fs)
+found-evictions-end gs fs = proposed-evictions-end gs (each-from IsFound AfterTries found-proposed gs fs)
 
 -- ---- the bits that a reservation carries are those of its weight
 pub carried-bits : (bits : ℕ) → bits ≤ weightLimit → toBits binary32 (valueOf weightLimit bits) ≡ bits

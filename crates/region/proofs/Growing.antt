@@ -26,7 +26,8 @@ use Rattle.walkers.specs.Standing.{StandsRight, StandsLeft}
 use Rattle.walkers.specs.Gaps.{GapColumns, segmentsOfGap, heaviestInGap, OrderedGaps, GapsFrom, RightAt, LeftAt}
 use Rattle.walkers.proofs.GapWalk.{right-begins, left-begins, gaps-found}
 use Rattle.walkers.proofs.GapSegments.{all-weights}
-use Rattle.region.specs.Growth.{GapsSeen, Span, State, gapsOf, weightsMet, ownSpan, growth, withGap, outside, passes, passesOn, isOpen, sideTried, onSide}
+use Rattle.links.specs.Links.{onSide}
+use Rattle.region.specs.Growth.{GapsSeen, Span, State, gapsOf, weightsMet, ownSpan, growth, withGap, outside, passes, passesOn, isOpen, sideTried}
 use Rattle.region.specs.Demand.{SoundGaps}
 use Rattle.region.specs.Columns.{floats, spanOf, stateOf, grownOf, triedOf, testedOf, startAt, afterTry, Going}
 use Rattle.region.specs.Proposal.{regionOf}

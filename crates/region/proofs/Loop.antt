@@ -7,12 +7,11 @@ use mathlib.Core.Bool.{Bool, true, false, not, cond}
 use mathlib.Core.List.{List, append-nil}
 use lib.Dec.{T, lit<}
 use lib.Ieee.{Float, binary32, add}
-use Rattle.numbers.specs.Weight.{Weight, finite, unitsOf, zeroWeight, heavier, heaviest}
+use Rattle.numbers.specs.Weight.{Weight, finite, unitsOf, zeroWeight, heavier, heaviest, Weights}
 use Rattle.numbers.proofs.Tests.{cond-both, cond-true, cond-false}
 use Rattle.numbers.proofs.Units.{units-inj, zero-finite, zero-units}
 use Rattle.numbers.proofs.Rounding.{rounded, round-fixed}
 use Rattle.numbers.proofs.Operations.{sum-weight, sum-units}
-use Rattle.numbers.proofs.Heaviest.{Weights}
 use Rattle.links.specs.declared.lower.Side.{Side}
 use Rattle.region.specs.Growth.{GapsSeen, Span, State, ownSpan, gapsOf, weightsMet, heaviestMet, weightTest, outside, withGap, passes, passesOn, isOpen, sideTried, barred, grows, tryOn, tryAt, try, growth, grown}
 use Rattle.region.specs.Proposal.{proposalWith, proposalOf, regionOf}

@@ -7,9 +7,9 @@ use native.Mathlib.Omega.{arith}
 use mathlib.Core.List.{List, [], _∷_, _++_, append-assoc, append-nil}
 use lib.Dec.{T}
 use lib.Ieee.{Float}
-use Rattle.numbers.specs.Weight.{Weight, unitsOf, heavier, heaviest}
+use Rattle.numbers.specs.Weight.{Weight, unitsOf, heavier, heaviest, Weights, Among}
 use Rattle.numbers.proofs.Units.{units-inj}
-use Rattle.numbers.proofs.Heaviest.{Weights, Among, heavier-weight, heavier-units, heaviest-weight, heaviest-append, weights-append}
+use Rattle.numbers.proofs.Heaviest.{heavier-weight, heavier-units, heaviest-weight, heaviest-append, weights-append}
 use Rattle.links.specs.declared.lower.Side.{Side}
 use Rattle.links.specs.declared.lower.Side.the-variants.{Previous, Next}
 use Rattle.region.specs.Growth.{GapsSeen, Span, State, numbersFrom, gapsOf, weightsMet, heaviestMet, outside, withGap, isOpen}

@@ -8,13 +8,13 @@ use mathlib.Core.Bool.{Bool, true, false, not, _&&_, cond}
 use lib.Dec.{T, T-not, leb, eqb, nleb→lt}
 use lib.Ieee.{Float}
 use lib.Ieee.Fits.{and-l, and-r}
-use Rattle.numbers.specs.Weight.{Finite, Weight, finite, unitsOf, zeroWeight}
+use Rattle.numbers.specs.Weight.{Finite, Weight, finite, unitsOf, zeroWeight, Weights, Among}
 use Rattle.numbers.specs.Normal.{normalised, exceeds}
 use Rattle.numbers.proofs.Tests.{cond-both}
 use Rattle.numbers.proofs.Units.{zero-finite}
 use Rattle.numbers.proofs.Operations.{sum-weight}
 use Rattle.numbers.proofs.Normalised.{normalised-finite}
-use Rattle.numbers.proofs.Heaviest.{Weights, Among, heaviest-weight, heaviest-among, heaviest-above}
+use Rattle.numbers.proofs.Heaviest.{heaviest-weight, heaviest-among, heaviest-above}
 use Rattle.links.specs.declared.lower.Side.{Side}
 use Rattle.links.specs.declared.lower.Side.the-variants.{Previous, Next}
 use Rattle.region.specs.Growth.{GapsSeen, State, ownSpan, gapsOf, weightsMet, heaviestMet, normalisedOf, weightTest, outside, usedUp, withGap, passes, passesOn, isOpen, growth, grown}

@@ -10,7 +10,8 @@ use lib.Ieee.Fits.{and-l, and-r}
 use Rattle.numbers.proofs.Tests.{cond-both, cond-false}
 use Rattle.links.specs.declared.lower.Side.{Side}
 use Rattle.links.specs.declared.lower.Side.the-variants.{Previous, Next}
-use Rattle.region.specs.Growth.{GapsSeen, State, onSide, usedUp, withGap, passesOn, start, sideOpen, isOpen, prefersLeft, sideTried, barred, grows, tryOn, tryAt, try, growth}
+use Rattle.links.specs.Links.{onSide}
+use Rattle.region.specs.Growth.{GapsSeen, State, usedUp, withGap, passesOn, start, sideOpen, isOpen, prefersLeft, sideTried, barred, grows, tryOn, tryAt, try, growth}
 use Rattle.region.specs.Demand.{Around, Ended}
 use Rattle.region.specs.declared.growth.Turn.{Turn}
 use Rattle.region.specs.declared.growth.Turn.the-variants.{Try, End}

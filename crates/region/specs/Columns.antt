@@ -7,7 +7,8 @@ use lib.Dec.{T}
 use lib.Ieee.{Float, nan, binary32, add}
 use lib.ListN.{getD}
 use Rattle.numbers.specs.Normal.{normalised, exceeds}
-use Rattle.region.specs.Growth.{GapsSeen, Span, State, ownSpan, heaviestMet, onSide, passes, growth}
+use Rattle.links.specs.Links.{onSide}
+use Rattle.region.specs.Growth.{GapsSeen, Span, State, ownSpan, heaviestMet, passes, growth}
 use Rattle.links.specs.declared.lower.Side.{Side}
 use Rattle.region.specs.declared.growth.Grown.{Grown}
 use Rattle.region.specs.declared.growth.Growth.{Growth}

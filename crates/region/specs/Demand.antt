@@ -6,9 +6,8 @@ use mathlib.Core.Bool.{not}
 use mathlib.Core.List.{List, [], _∷_, _++_}
 use lib.Dec.{T}
 use lib.Ieee.{Float, binary32, add}
-use Rattle.numbers.specs.Weight.{Finite, Weight, unitsOf, zeroWeight}
+use Rattle.numbers.specs.Weight.{Finite, Weight, unitsOf, zeroWeight, Weights, Among}
 use Rattle.numbers.specs.Normal.{normalised, exceeds}
-use Rattle.numbers.proofs.Heaviest.{Weights, Among}
 use Rattle.links.specs.declared.lower.Side.{Side}
 use Rattle.links.specs.declared.lower.Side.the-variants.{Previous, Next}
 use Rattle.region.specs.declared.proposal.SplitProposal.{SplitProposal}

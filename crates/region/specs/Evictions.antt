@@ -5,10 +5,9 @@ use mathlib.Core.List.{List, [], _∷_}
 use lib.Dec.{T}
 use lib.Ieee.{Float, binary32, toBits}
 use lib.ListN.{length, getD}
-use Rattle.numbers.specs.Weight.{Finite, unitsOf, zeroWeight, heaviest}
+use Rattle.numbers.specs.Weight.{Finite, unitsOf, zeroWeight, heaviest, Weights, Among}
 use Rattle.numbers.specs.Normal.{normalised, exceeds}
 use Rattle.numbers.specs.Chain.{longest}
-use Rattle.numbers.proofs.Heaviest.{Weights, Among}
 use Rattle.region.specs.declared.proposal.SplitProposal.{SplitProposal}
 use Rattle.region.specs.declared.proposal.Region.the-variants.{Found}
 use Rattle.region.specs.Growth.{GapsSeen, ownSpan, weightsMet, passes, growth}
@@ -77,7 +76,7 @@ pub record Given : Type 0 where
   pub proposal : SplitProposal
 
 -- the proposal is growth's after some tries: one before growth is finished, or what is found
-pub record IsProposed (g : Given) : Type 0 where
+pub record AfterTries (g : Given) : Type 0 where
   pub sound : SoundGaps (g .seen)
   pub own-passes : T (passes (g .seen) (g .seen .own) (ownSpan (g .seen)))
   pub tries : ℕ

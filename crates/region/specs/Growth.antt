@@ -8,6 +8,7 @@ use Rattle.numbers.specs.Weight.{heaviest}
 use Rattle.numbers.specs.Normal.{normalised, exceeds}
 use Rattle.links.specs.declared.lower.Side.{Side}
 use Rattle.links.specs.declared.lower.Side.the-variants.{Previous, Next}
+use Rattle.links.specs.Links.{onSide}
 use Rattle.region.specs.declared.growth.Turn.{Turn}
 use Rattle.region.specs.declared.growth.Turn.the-variants as Turn·is
 
@@ -69,11 +70,6 @@ normalisedOf seen s = normalised (s .weight) (s .insts) (seen .k)
 unfoldable pub weightTest : GapsSeen → Span → Bool
 weightTest seen s = exceeds (seen .numerator) (normalisedOf seen s) (heaviestMet seen s)
 
--- what holds left and what holds right
-abbrev pub onSide : {A : Type 0} → Side → A → A → A
-onSide Previous left right = left
-onSide Next left right = right
-
 -- the gap just outside a region on a side
 abbrev pub outside : Side → Span → ℕ
 outside side s = onSide side (s .left - 1) (s .right)
@@ -110,6 +106,7 @@ start seen = record { region = ownSpan seen; left-barred = false; right-barred =
 unfoldable pub sideOpen : Side → ℕ → State → Bool
 sideOpen side n st = not (onSide side (st .left-barred) (st .right-barred)) && not (usedUp side n (st .region))
 
+-- a side is open among the gaps seen
 abbrev pub isOpen : Side → GapsSeen → State → Bool
 isOpen side seen st = sideOpen side (seen .count) st
 

@@ -11,7 +11,7 @@ use Rattle.walkers.specs.declared.meeting.Register.{Register}
 use Rattle.walkers.specs.Meeting.{Reserved, fixedMetAny}
 use Rattle.walkers.specs.Standing.{Ready, Known}
 use Rattle.walkers.specs.Gaps.{GapColumns, segmentsOfGap, heaviestInGap, OrderedGaps}
-use Rattle.region.specs.Growth.{onSide}
+use Rattle.links.specs.Links.{onSide}
 use Rattle.region.specs.Columns.{numbers, floats, CountFits, testedOf, afterTry}
 use Rattle.region.specs.declared.growth.Growth.{Growth}
 

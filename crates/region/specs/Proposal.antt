@@ -9,10 +9,11 @@ use Rattle.numbers.specs.declared.MaybeInst.{MaybeInst}
 use Rattle.numbers.specs.declared.MaybeInst.the-variants as MaybeInst·is
 use Rattle.links.specs.declared.lower.Side.{Side}
 use Rattle.links.specs.declared.lower.Side.the-variants.{Previous, Next}
+use Rattle.links.specs.Links.{onSide}
 use Rattle.region.specs.declared.proposal.SplitProposal.{SplitProposal}
 use Rattle.region.specs.declared.proposal.Region.{Region}
 use Rattle.region.specs.declared.proposal.Region.the-variants as Region·is
-use Rattle.region.specs.Growth.{GapsSeen, Span, ownSpan, between, heaviestMet, onSide, outside, usedUp, passes, grown}
+use Rattle.region.specs.Growth.{GapsSeen, Span, ownSpan, between, heaviestMet, outside, usedUp, passes, grown}
 
 -- the frequency of the gap just outside on a side, zero where there is none
 abbrev pub freqOutside : Side → ℕ → (ℕ → Float) → Span → Float
@@ -26,7 +27,7 @@ splitCost n freq s = add binary32 (freqOutside Previous n freq s) (freqOutside N
 unfoldable pub endOf : Side → ℕ → (ℕ → ℕ) → Span → MaybeInst
 endOf side n first s = cond (usedUp side n s) MaybeInst·is.Absent (MaybeInst·is.At (record { 0 = first (onSide side (s .left) (s .right)) }))
 
--- the proposal that a region is, with the heaviest weight it meets
+-- the proposal that a region is, with the heaviest weight it meets given
 unfoldable pub proposalWith : ℕ → (ℕ → ℕ) → (ℕ → Float) → Span → Float → SplitProposal
 proposalWith n first freq s heaviest =
     record {
@@ -38,6 +39,7 @@ proposalWith n first freq s heaviest =
       «split_cost» = splitCost n freq s;
     }
 
+-- the proposal that a region is
 abbrev pub proposalOf : GapsSeen → Span → SplitProposal
 proposalOf seen s = proposalWith (seen .count) (seen .first) (seen .freq) s (heaviestMet seen s)
 

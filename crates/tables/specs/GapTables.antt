@@ -36,6 +36,7 @@ pub record GapTables : Type 0 where
   pub out-values : List ℕ
   pub out-gaps : List ℕ
 
+-- the nine as one
 abbrev pub lentTables : List ℕ → List ℕ → List Float → List ℕ → List Float → List ℕ → List ℕ → List ℕ → List ℕ → GapTables
 lentTables froms tos weights lives freqs out-froms out-tos out-values out-gaps =
     record { froms = froms; tos = tos; weights = weights; lives = lives; freqs = freqs; out-froms = out-froms; out-tos = out-tos; out-values = out-values; out-gaps = out-gaps }

@@ -106,11 +106,11 @@ line8 uses segments = record { number = 8; places = length segments; broken = ba
 abbrev pub line9 : List ℕ → Line
 line9 weights = record { number = 9; places = length weights; broken = badWeight weights }
 
--- reservation row
+-- reservation row: what a bad one is stands in `badReservation` of jobs
 abbrev pub line10 : Limits → List FixedUse → List Reservation → Line
 line10 limits fixedUses reservations = record { number = 10; places = length reservations; broken = badReservation limits fixedUses reservations }
 
--- fixed-use row
+-- fixed-use row: what a bad one is stands in `badFixedUseAt` of jobs
 abbrev pub line11 : Limits → List FixedUse → Line
 line11 limits fixedUses = record { number = 11; places = length fixedUses; broken = badFixedUseAt limits fixedUses }
 

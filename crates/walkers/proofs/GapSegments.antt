@@ -6,9 +6,9 @@ use mathlib.Core.List.{List, [], _∷_, _++_, append-assoc}
 use Prim.Native.Nat.{ℕ, suc, _+_, _-_, _<_, max}
 use native.Mathlib.Omega.{arith}
 use lib.Ieee.{Float}
-use Rattle.numbers.specs.Weight.{Weight, unitsOf, heaviest}
+use Rattle.numbers.specs.Weight.{Weight, unitsOf, heaviest, Weights}
 use Rattle.numbers.proofs.Units.{units-inj, zero-units}
-use Rattle.numbers.proofs.Heaviest.{Weights, heavier-weight, heavier-units, heaviest-weight, weights-append, heaviest-append}
+use Rattle.numbers.proofs.Heaviest.{heavier-weight, heavier-units, heaviest-weight, weights-append, heaviest-append}
 use Rattle.walkers.specs.declared.meeting.GapSegment.{GapSegment}
 use Rattle.walkers.specs.declared.meeting.Register.{Register}
 use Rattle.walkers.specs.declared.meeting.Met.{Met}

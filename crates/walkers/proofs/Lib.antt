@@ -10,6 +10,5 @@ pub mod Begin
 pub mod Checked
 pub mod GapSegments
 pub mod GapWalk
-pub mod Regions
 pub mod Sets
 pub mod Cases

@@ -10,10 +10,10 @@ use lib.Dec.{leb, ltb, eqb}
 use lib.Ieee.{Float}
 use lib.ListN.{length, getD}
 use borrow.Author.Tests.{lt-ltb, le-ltb, le-leb, lt-leb, leb-true, leb-false}
-use Rattle.numbers.specs.Weight.{Weight, unitsOf, weightLimit, heavier, heaviest}
+use Rattle.numbers.specs.Weight.{Weight, unitsOf, weightLimit, heavier, heaviest, Weights}
 use Rattle.numbers.proofs.Units.{units-inj, zero-units}
 use Rattle.numbers.proofs.Bits.{value-weight}
-use Rattle.numbers.proofs.Heaviest.{Weights, heavier-weight, heavier-units, heaviest-weight}
+use Rattle.numbers.proofs.Heaviest.{heavier-weight, heavier-units, heaviest-weight}
 use Rattle.links.proofs.Firsts.{split}
 use Rattle.jobs.specs.Rows.{noReservation}
 use Rattle.jobs.specs.declared.rows.Reservation.{Reservation}

@@ -7,10 +7,10 @@ use Prim.Native.Nat.{ℕ, zero, suc, _<_, suc-le-suc}
 use native.Mathlib.Nat.{le-of-suc-le-suc, not-suc-le-zero, zero-lt-suc}
 use lib.Ieee.{Float}
 use lib.ListN.{length, getD}
-use Rattle.numbers.proofs.Heaviest.{Among}
 use Rattle.jobs.specs.Rows.{noReservation}
 use Rattle.jobs.specs.declared.rows.Reservation.{Reservation}
 use Rattle.jobs.proofs.Walk.{or-first}
+use Rattle.numbers.specs.Weight.{Among}
 use Rattle.walkers.specs.declared.meeting.GapSegment.{GapSegment}
 use Rattle.walkers.specs.declared.meeting.Register.{Register}
 use Rattle.walkers.specs.Meeting.{Reserved, anyOf, weightOf, fixedAgainst, weighsAgainst, fixedMet, weightsWhere, weightsMet, fixedMetAny, weightsMetAll}

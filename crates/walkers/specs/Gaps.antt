@@ -2,7 +2,7 @@
 use Prim.Native.Nat.{ℕ, zero, suc, _+_, _-_, _≤_, _<_}
 use mathlib.Core.Bool.{Bool, _&&_, _||_, cond}
 use mathlib.Core.List.{List, [], _∷_, _++_}
-use lib.Dec.{leb, ltb, eqb}
+use lib.Dec.{ltb, eqb}
 use lib.Ieee.{Float}
 use lib.ListN.{length, getD}
 use Rattle.numbers.specs.Weight.{heavier, heaviest}
@@ -24,13 +24,15 @@ pub record GapColumns : Type 0 where
   pub gap : List ℕ
   pub used : ℕ
 
+-- the four columns and the number of rows as one
 abbrev pub gapColumns : List ℕ → List ℕ → List ℕ → List ℕ → ℕ → GapColumns
 gapColumns from to value gap used = record { from = from; to = to; value = value; gap = gap; used = used }
 
--- row i's gap segment
+-- the gap segment that row i of three columns holds
 abbrev pub segmentRow : List ℕ → List ℕ → List ℕ → ℕ → GapSegment
 segmentRow from to value i = record { from = record { 0 = getD from i 0 }; to = record { 0 = getD to i 0 }; value = record { 0 = getD value i 0 } }
 
+-- row i of the columns
 abbrev pub segmentIn : GapColumns → ℕ → GapSegment
 segmentIn g i = segmentRow (g .from) (g .to) (g .value) i
 
@@ -46,13 +48,6 @@ ofGap g gap i = eqb (getD (g .gap) i 0) gap
 -- the gap segments of a gap
 abbrev pub segmentsOfGap : GapColumns → ℕ → List GapSegment
 segmentsOfGap g gap = picked (ofGap g gap) (segmentIn g) (g .used)
-
--- the gap segments of a region: of the gaps from one to before another
-abbrev pub inGaps : GapColumns → ℕ → ℕ → ℕ → Bool
-inGaps g from to i = leb from (getD (g .gap) i 0) && ltb (getD (g .gap) i 0) to
-
-abbrev pub segmentsOfGaps : GapColumns → ℕ → ℕ → List GapSegment
-segmentsOfGaps g from to = picked (inGaps g from to) (segmentIn g) (g .used)
 
 -- rows in order: gaps do not fall, and the gap segments are nonempty, ordered and disjoint
 pub record OrderedGaps (g : GapColumns) : Type 0 where

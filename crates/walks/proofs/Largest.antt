@@ -10,8 +10,8 @@ use lib.Dec.{T, ltb, nltb→le}
 use lib.Ieee.{Float, lt}
 use lib.ListN.{length, getD}
 use borrow.Author.Tests.{le-ltb, lt-ltb, ltb-false, le-leb, lt-leb}
-use Rattle.numbers.specs.Weight.{Weight, finite, unitsOf, zeroWeight, heaviest}
-use Rattle.numbers.proofs.Heaviest.{Weights, Among, heaviest-only, heaviest-weight}
+use Rattle.numbers.specs.Weight.{Weight, finite, unitsOf, zeroWeight, heaviest, Weights, Among}
+use Rattle.numbers.proofs.Heaviest.{heaviest-only, heaviest-weight}
 use Rattle.numbers.proofs.Units.{units-order, units-lt, units-inj, zero-finite, zero-units}
 use Rattle.links.proofs.Firsts.{split, first-found}
 use Rattle.links.specs.First.{firstBelow}
@@ -25,11 +25,13 @@ row-any [] d e i h = absurd (not-suc-le-zero h)
 row-any (x ∷ xs) d e zero h = refl
 row-any (x ∷ xs) d e (suc i) h = row-any xs d e i (omega (arith, h))
 
-weights-of : (ws : List Float) → AllWeights ws → Weights ws
+-- rows that are weights are a list of weights
+pub weights-of : (ws : List Float) → AllWeights ws → Weights ws
 weights-of [] p = tt
 weights-of (w ∷ ws) p = (p 0 (omega arith), weights-of ws (λ k h. p (suc k) (omega (arith, h))))
 
-at-among : (ws : List Float) (k : ℕ) → k < length ws → Among (getD ws k zeroWeight) ws
+-- a row stands in its list
+pub at-among : (ws : List Float) (k : ℕ) → k < length ws → Among (getD ws k zeroWeight) ws
 at-among [] k h = absurd (not-suc-le-zero h)
 at-among (w ∷ ws) zero h = inl refl
 at-among (w ∷ ws) (suc k) h = inr (at-among ws k (omega (arith, h)))

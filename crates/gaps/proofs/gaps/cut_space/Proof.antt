@@ -6,8 +6,7 @@ use native.Mathlib.Omega.{arith}
 use borrow.Author.Needs.{needs}
 use lib.Ieee.{Float, ofBits}
 use lib.ListN.{length, getD}
-use Rattle.links.specs.Links.{beside}
-use Rattle.gaps.specs.Gaps.{onSide}
+use Rattle.links.specs.Links.{beside, onSide}
 use Rattle.gaps.specs.GapColumns.{GapColumns, columns, withRow, stored, Rows}
 use Rattle.gaps.specs.Cutting.{freqIn, spaceGaps}
 use Rattle.gaps.proofs.Spaces.{Storing, first-inside, storing-starts, storing-next, storing-step, storing-done, row-inside}

@@ -3,10 +3,10 @@ use mathlib.Core.Path.{sym, ap, subst}
 use Prim.Native.Nat.{ℕ, _+_, _-_, _≤_}
 use native.Mathlib.Omega.{arith}
 use Rattle.links.specs.declared.lower.Side.{Side}
-use Rattle.gaps.specs.Gaps.{onSide}
 use borrow.Author.Needs.{needs}
 use Rattle.gaps.proofs.gaps.next_row.Statement.{statement}
 use Rattle.gaps.proofs.gaps.next_row.Tie as tie
+use Rattle.links.specs.Links.{onSide}
 
 enum-told : tie.Need-enum-told
 enum-told c = search needs

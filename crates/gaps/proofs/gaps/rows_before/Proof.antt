@@ -3,7 +3,7 @@ use mathlib.Core.Path.{sym, ap, _∙_}
 use lib.ListN.{length}
 use borrow.Author.Needs.{needs}
 use Rattle.links.specs.declared.lower.Side.{Side}
-use Rattle.gaps.specs.Gaps.{onSide}
+use Rattle.links.specs.Links.{onSide}
 use Rattle.gaps.specs.Cutting.{cutsIn}
 use Rattle.gaps.proofs.gaps.rows_before.Statement.{statement}
 use Rattle.gaps.proofs.gaps.rows_before.Tie as tie
