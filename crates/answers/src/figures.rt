@@ -12,7 +12,7 @@ use sheet::End;
 use sheet::Figures;
 
 // The bits of a weight.
-fn bits_shown(w: f32) -> u32
+pub fn bits_shown(w: f32) -> u32
     ensures { λ r. ⌜ r ≡ bitsShown w ⌝ }
 {
     let b = weight_to_bits(w);

@@ -1,0 +1,19 @@
+-- `gelduvra_find_optimal_split_point` puts the words of what `find_optimal_split_point` answers
+use mathlib.Core.Path.{ap, _∙_}
+use Rattle.exports.specs.Words.{splitPointWords}
+use borrow.Author.Needs.{needs}
+use Rattle.exports.proofs.gelduvra_find_optimal_split_point.Statement.{statement}
+use Rattle.exports.proofs.gelduvra_find_optimal_split_point.Tie as tie
+
+find-optimal-split-point-requires : tie.Need-find-optimal-split-point-requires
+find-optimal-split-point-requires c κs = search needs
+
+put-split-point-requires : tie.Need-put-split-point-requires
+put-split-point-requires c κs = search needs
+
+returns : tie.Need-returns
+returns c = c .put-split-point .ensures ∙ ap splitPointWords (c .before .before .find-optimal-split-point .ensures)
+
+pub gelduvra-find-optimal-split-point-spec : {M : Type 1} → statement M
+gelduvra-find-optimal-split-point-spec =
+    tie.close (tie.spec find-optimal-split-point-requires put-split-point-requires returns)

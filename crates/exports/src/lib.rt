@@ -1,0 +1,138 @@
+// Exports: the two calls, for programs in C and in Rust.
+//
+// Here: `gelduvra_propose_split` and `gelduvra_find_optimal_split_point`. A column is a pointer and how many items it has; an answer
+// comes back in a lent block of words.
+// Proved: for every input the words are those of specs/Words, and the lent columns are as `propose_split` leaves them.
+// A caller should know: there is no `requires`; no word is left as it was. What a caller in another language owes is what a slice
+// is: columns that can be read, or written, for their whole length, and no column that is written overlaps another.
+pub mod words;
+
+use links::split::find_optimal_split_point;
+use numbers::Inst;
+use proposer::propose::propose_split;
+use verdict::job::Parameters;
+use words::put_proposed;
+use words::put_split_point;
+ghost use mathlib.Core.Path.{_≡_};
+ghost use Rattle.links.specs.Blocks.{blocksOf};
+ghost use Rattle.links.specs.Split.{answerOf};
+ghost use Rattle.verdict.specs.Job.{jobOf};
+ghost use Rattle.proposer.specs.Answer.{workColumns};
+ghost use Rattle.exports.specs.Words.{splitPointWords, IsExported};
+
+// The answer to a job, and its tables in the lent columns: `propose_split`, with its answer in ten words.
+#[no_mangle]
+pub extern "C" fn gelduvra_propose_split(
+    freq: &[u32],
+    first: &[u32],
+    end: &[u32],
+    code: &[u32],
+    s_start: &[u32],
+    s_end: &[u32],
+    s_value: &[u32],
+    s_first_use: &[u32],
+    s_end_use: &[u32],
+    s_flags: &[u32],
+    position: &[u32],
+    u_kind: &[u32],
+    cost: &[u32],
+    spill_weight: &[u32],
+    r_unit: &[u32],
+    r_start: &[u32],
+    r_end: &[u32],
+    r_kind: &[u32],
+    r_index: &[u32],
+    r_fixed: &[u32],
+    f_unit: &[u32],
+    f_point: &[u32],
+    f_value: &[u32],
+    k: u32,
+    cheaper_than_move: u32,
+    cheaper_than_load: u32,
+    indirect: u32,
+    units: u32,
+    prev_lower_freq: &mut [u32],
+    next_lower_freq: &mut [u32],
+    inst: &mut [u32],
+    weight: &mut [f32],
+    left_weight: &mut [f32],
+    right_weight: &mut [f32],
+    from: &mut [u32],
+    to: &mut [u32],
+    gap_weight: &mut [f32],
+    live: &mut [u32],
+    min_freq: &mut [f32],
+    out_from: &mut [u32],
+    out_to: &mut [u32],
+    out_value: &mut [u32],
+    out_gap: &mut [u32],
+    answer: &mut [u64; 10],
+)
+    ensures { λ _. ⌜ IsExported (jobOf (record { k = k; «cheaper_than_move» = «cheaper_than_move»; «cheaper_than_load» = «cheaper_than_load»; indirect = indirect; units = units }) (now (freq .entry)) (now (first .entry)) (now (end .entry)) (now (code .entry)) (now («s_start» .entry)) (now («s_end» .entry)) (now («s_value» .entry)) (now («s_first_use» .entry)) (now («s_end_use» .entry)) (now («s_flags» .entry)) (now (position .entry)) (now («u_kind» .entry)) (now (cost .entry)) (now («spill_weight» .entry)) (now («r_unit» .entry)) (now («r_start» .entry)) (now («r_end» .entry)) (now («r_kind» .entry)) (now («r_index» .entry)) (now («r_fixed» .entry)) (now («f_unit» .entry)) (now («f_point» .entry)) (now («f_value» .entry))) (workColumns (now («prev_lower_freq» .entry)) (now («next_lower_freq» .entry)) (now (inst .entry)) (now (weight .entry)) (now («left_weight» .entry)) (now («right_weight» .entry)) (now (from .entry)) (now (to .entry)) (now («gap_weight» .entry)) (now (live .entry)) (now («min_freq» .entry)) (now («out_from» .entry)) (now («out_to» .entry)) (now («out_value» .entry)) (now («out_gap» .entry))) (workColumns (now («prev_lower_freq» .exit)) (now («next_lower_freq» .exit)) (now (inst .exit)) (now (weight .exit)) (now («left_weight» .exit)) (now («right_weight» .exit)) (now (from .exit)) (now (to .exit)) (now («gap_weight» .exit)) (now (live .exit)) (now («min_freq» .exit)) (now («out_from» .exit)) (now («out_to» .exit)) (now («out_value» .exit)) (now («out_gap» .exit))) (now (answer .exit)) ⌝ }
+{
+    let proposed = propose_split(
+        freq,
+        first,
+        end,
+        code,
+        s_start,
+        s_end,
+        s_value,
+        s_first_use,
+        s_end_use,
+        s_flags,
+        position,
+        u_kind,
+        cost,
+        spill_weight,
+        r_unit,
+        r_start,
+        r_end,
+        r_kind,
+        r_index,
+        r_fixed,
+        f_unit,
+        f_point,
+        f_value,
+        Parameters {
+            k,
+            cheaper_than_move,
+            cheaper_than_load,
+            indirect,
+            units,
+        },
+        prev_lower_freq,
+        next_lower_freq,
+        inst,
+        weight,
+        left_weight,
+        right_weight,
+        from,
+        to,
+        gap_weight,
+        live,
+        min_freq,
+        out_from,
+        out_to,
+        out_value,
+        out_gap,
+    );
+    put_proposed(proposed, answer);
+}
+
+// The lower-cost split point, or its refusal: `find_optimal_split_point`, with its answer in three words.
+#[no_mangle]
+pub extern "C" fn gelduvra_find_optimal_split_point(
+    freq: &[u32],
+    first: &[u32],
+    end: &[u32],
+    after: u32,
+    before: u32,
+    prefer_early: bool,
+    answer: &mut [u64; 3],
+)
+    ensures { λ _. ⌜ now (answer .exit) ≡ splitPointWords (answerOf (blocksOf (now (freq .entry)) (now (first .entry)) (now (end .entry))) after before «prefer_early») ⌝ }
+{
+    let point = find_optimal_split_point(freq, first, end, Inst(after), Inst(before), prefer_early);
+    put_split_point(point, answer);
+}
