@@ -1,10 +1,10 @@
 -- Laws of writing: pieces that are written one behind the other are one text.
 -- Assumes nothing.
-use Prim.Native.Nat.{ℕ, _+_, _≤_, _<_}
+use Prim.Native.Nat.{ℕ, _+_, _*_, _≤_, _<_}
 use mathlib.Core.Path.{_≡_, refl, sym, ap, _∙_}
 use mathlib.Core.List.{List, [], _∷_, _++_, append-assoc, append-nil}
 use native.Mathlib.Omega.{arith}
-use lib.ListN.{length, set, drop, replicate, length-append}
+use lib.ListN.{length, getD, set, drop, replicate, length-append, drop-of-length-le}
 use lib.Seq.{sets, sets-eq, set-set}
 use lib.Dec.{ltb}
 use mathlib.Core.Bool.{true, false}
@@ -18,7 +18,7 @@ use Rattle.sheet.specs.declared.write.Figures.{Figures}
 use Rattle.sheet.specs.declared.write.Answer.{Answer}
 use Rattle.sheet.specs.declared.write.Answer.the-variants.{Proposal, NoneOf, Refused}
 use Rattle.sheet.specs.declared.write.Written.the-variants.{Bytes, NoRoom}
-use Rattle.sheet.proofs.Lists.{sets-append}
+use Rattle.sheet.proofs.Lists.{drop-next, sets-append}
 use Rattle.sheet.proofs.FieldLaws.{field-length}
 
 -- a buffer with m bytes of text written from a place on
@@ -125,3 +125,32 @@ figures-length f =
 pub line-length-two : (c n p : ℕ) → length (lineText c (n ∷ p ∷ [])) ≡ 24
 unfolding lineText fieldsText
 line-length-two c n p = simp (length-append, field-length)
+
+-- a field written, and the fields left behind it
+pub fields-step : (fields out after : List ℕ) (p i : ℕ) → i < length fields → after ≡ sets out p (field (getD fields i 0)) → sets after (p + 11) (fieldsText (drop (i + 1) fields)) ≡ sets out p (fieldsText (drop i fields))
+unfolding fieldsText
+fields-step fields out after p i h e =
+    let f = field (getD fields i 0) in
+    let rest = fieldsText (drop (i + 1) fields) in
+    let w : p + 11 ≡ p + length f = ap (λ (j : ℕ). p + j) (sym (field-length (getD fields i 0))) in
+    ap (λ (o : List ℕ). sets o (p + 11) rest) e
+    ∙ ap (λ (j : ℕ). sets (sets out p f) j rest) w
+    ∙ sets-append f rest out p
+    ∙ ap (λ (t : List ℕ). sets out p (fieldsText t)) (sym (drop-next fields i h))
+
+pub fields-end : (fields out : List ℕ) (p i : ℕ) → length fields ≤ i → sets out p (fieldsText (drop i fields)) ≡ out
+unfolding fieldsText
+fields-end fields out p i h = ap (λ (t : List ℕ). sets out p (fieldsText t)) (drop-of-length-le fields h)
+
+pub fields-length : (fields : List ℕ) → length (fieldsText fields) ≡ 11 * length fields
+unfolding fieldsText
+fields-length [] = refl
+fields-length (n ∷ ns) = simp length-append (omega (arith, field-length n, fields-length ns))
+
+pub line-length : (c : ℕ) (fields : List ℕ) → length (lineText c fields) ≡ 1 + 11 * length fields + 1
+unfolding lineText
+line-length c fields = simp length-append (omega (arith, fields-length fields))
+
+pub line-text : (c : ℕ) (fields : List ℕ) → ((c ∷ []) ++ fieldsText fields) ++ (10 ∷ []) ≡ lineText c fields
+unfolding lineText
+line-text c fields = refl

@@ -1,7 +1,7 @@
 // A sheet's text to numbers, and an answer to text (document 01, "Sheet"; refusals 14 and 15).
 //
 // Here: read_sheet checks a whole text and stores its numbers into lent cells, column by column; check_text gives the
-// verdict alone; write_answer writes an answer's lines. Text and numbers only: weights are their bits, and no job is known.
+// verdict alone; write_answer writes an answer's lines, write_line one line. Text and numbers only: weights are their bits, and no job is known.
 // Proved: the verdict is Sound exactly for the text of a sheet with one P within the limits (proofs/Exact.antt), else
 // the first bad line and its refusal; the cells at exit are the definition's, and rendering what was read gives the
 // text back; the bytes that are written are the definition's.
@@ -25,3 +25,4 @@ pub use write::End;
 pub use write::Figures;
 pub use write::Written;
 pub use write::write_answer;
+pub use write::write_line;

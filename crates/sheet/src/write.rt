@@ -2,10 +2,10 @@
 use crate::field::put_number;
 ghost use mathlib.Core.Path.{_≡_};
 ghost use mathlib.Core.List.{[], _∷_};
-ghost use Prim.Native.Nat.{_+_, _≤_};
+ghost use Prim.Native.Nat.{_+_, _*_, _≤_};
 ghost use lib.ListN.{length};
 ghost use lib.Seq.{sets};
-ghost use Rattle.sheet.specs.Sheet.{lineText};
+ghost use Rattle.sheet.specs.Sheet.{fieldsText, lineText};
 ghost use Rattle.sheet.specs.Answer.{endText, endsText, weightsText, figuresText, answerText, Wrote};
 
 // An end of a proposal: an instruction, or none.
@@ -62,6 +62,37 @@ fn put_one(out: &mut [u8], at: usize, letter: u8, n: u32)
     out[at] = letter;
     put_number(out, at + 1, n);
     out[at + 12] = b'\n';
+}
+
+// Writes fields one behind the other, from `at` on.
+fn put_fields(out: &mut [u8], at: usize, fields: &[u32])
+    requires { ⌜ at + 11 * length (now fields) ≤ length (now out) ⌝ }
+    ensures { λ _. ⌜ now (out .exit) ≡ sets (now (out .entry)) at (fieldsText (now (fields .entry))) ⌝ }
+{
+    let mut p = at;
+    let mut i: usize = 0;
+    while i < fields.len() {
+        put_number(out, p, fields[i]);
+        p += 11;
+        i += 1;
+    }
+}
+
+// Writes a line of any fields to the front of a buffer.
+pub fn write_line(out: &mut [u8], letter: u8, fields: &[u32]) -> Written
+    ensures { λ r. ⌜ Wrote (lineText letter (now (fields .entry))) (now (out .entry)) (now (out .exit)) r ⌝ }
+{
+    if out.len() < 2 {
+        return Written::NoRoom;
+    }
+    if (out.len() - 2) / 11 < fields.len() {
+        return Written::NoRoom;
+    }
+    let end = 1 + 11 * fields.len();
+    out[0] = letter;
+    put_fields(out, 1, fields);
+    out[end] = b'\n';
+    Written::Bytes(end + 1)
 }
 
 // Writes a refusal's line.
