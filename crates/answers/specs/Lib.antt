@@ -1,2 +1,4 @@
 -- What a sheet's job is answered
 pub mod Figures
+pub mod SheetJob
+pub mod SheetAnswer

@@ -1,7 +1,10 @@
-// Answers: what a job is answered, in the figures of a sheet's answer.
+// Answers: what a job is answered, in the figures of a sheet's answer, and what a sheet's text is answered.
 //
 // Here: `shown_of` takes an answer of `proposer` to one of `sheet`: weights to their bits, absent ends, the kinds of none by number, and
-// the H figure.
-// Proved: each equals its definition (specs/Figures); for weights these are the weight's own bits and thousandths (proofs/Shown).
-// A caller should know: k is the job's.
+// the H figure. `answer_sheet` reads a text, proposes for its job and writes the answer.
+// Proved: each equals its definition (specs/Figures, specs/SheetAnswer) for every input; for weights the figures are the weight's own
+// bits and thousandths (proofs/Shown).
+// A caller should know: k is the job's. `answer_sheet` has no `requires`: too few cells, or bytes, is an answer of its own.
+pub mod answer;
+mod cells;
 pub mod figures;
