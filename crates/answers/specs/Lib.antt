@@ -2,3 +2,4 @@
 pub mod Figures
 pub mod SheetJob
 pub mod SheetAnswer
+pub mod Rows

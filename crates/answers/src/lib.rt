@@ -8,3 +8,4 @@
 pub mod answer;
 mod cells;
 pub mod figures;
+pub mod rows;
