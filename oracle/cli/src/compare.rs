@@ -3,11 +3,9 @@
 use std::process::ExitCode;
 use std::time::Instant;
 
-use gen_jobs::Cover;
+use gen_jobs::{Cover, Options};
 use model::Reading;
 use sheet::{write_answer, write_sheet, write_tables};
-
-use crate::Options;
 
 /// Prints the first differing jobs and goes on.
 const SHOWN: u64 = 5;

@@ -8,6 +8,7 @@ mod replay;
 use std::io::{Read, Write};
 use std::process::ExitCode;
 
+use gen_jobs::Options;
 use sheet::{Limits, read_sheet, write_answer, write_sheet, write_tables};
 
 const USAGE: &str = "\
@@ -24,7 +25,8 @@ usage: oracle/run COMMAND
   record                   writes recorded/*.txt again
   replay                   the Rust and the second reading against recorded/*.txt
   slips                    for each slip the recorded sheets that notice it
-OPTIONS: --seed N (1), --count N (1000), --from N (0), --size tiny|small|sheet|full|stream (stream)";
+  library [OPTIONS]        the Rust against the proved static library on accepted and damaged jobs and split points
+OPTIONS: --seed N (1), --count N (1000), --from N (0), --size tiny|small|sheet|full|limit|stream (stream)";
 
 fn main() -> ExitCode {
     let args: Vec<String> = std::env::args().skip(1).collect();
@@ -57,53 +59,6 @@ fn usage() -> ExitCode {
 pub fn print(text: &[u8]) {
     if std::io::stdout().write_all(text).is_err() {
         std::process::exit(0);
-    }
-}
-
-/// What a stream of jobs is made of.
-pub struct Options {
-    pub seed: u64,
-    pub from: u64,
-    pub count: u64,
-    pub size: Option<gen_jobs::Size>,
-}
-
-impl Options {
-    fn read(args: &[String]) -> Option<Self> {
-        let mut options = Self { seed: 1, from: 0, count: 1000, size: None };
-        for pair in args.chunks(2) {
-            let [name, value] = pair else {
-                return None;
-            };
-            match name.as_str() {
-                "--seed" => options.seed = value.parse().ok()?,
-                "--from" => options.from = value.parse().ok()?,
-                "--count" => options.count = value.parse().ok()?,
-                "--size" => {
-                    options.size = match value.as_str() {
-                        "tiny" => Some(gen_jobs::Size::Tiny),
-                        "small" => Some(gen_jobs::Size::Small),
-                        "sheet" => Some(gen_jobs::Size::Sheet),
-                        "full" => Some(gen_jobs::Size::Full),
-                        "stream" => None,
-                        _ => return None,
-                    }
-                }
-                _ => return None,
-            }
-        }
-        Some(options)
-    }
-
-    /// The stream's items, each with its own random numbers.
-    pub fn items(&self) -> impl Iterator<Item = (u64, gen_jobs::Rng)> + use<> {
-        let seed = self.seed;
-        (self.from..self.from + self.count).map(move |item| (item, gen_jobs::Rng::of(seed, item)))
-    }
-
-    pub fn job(&self, rng: &mut gen_jobs::Rng) -> sheet::Job {
-        let size = self.size.unwrap_or_else(|| gen_jobs::Size::of_stream(rng));
-        gen_jobs::accepted(rng, size)
     }
 }
 

@@ -4,12 +4,12 @@ use std::collections::{BTreeMap, BTreeSet};
 use std::fs;
 use std::process::ExitCode;
 
-use gen_jobs::{Rng, Size};
+use gen_jobs::{Options, Rng, Size};
 use model::{CheckSlip, Outcome, PointSlip, ROOMY, Reading, Rooms, Slip};
 use sheet::{Answer, Block, Job, Limits, Tables, fields, read_sheet, write_answer, write_sheet, write_tables};
 
 use crate::cases::recorded;
-use crate::{Options, print};
+use crate::print;
 
 const SEED: u64 = 20_261_115;
 const ONE: u32 = 1_065_353_216;

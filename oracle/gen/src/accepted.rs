@@ -4,6 +4,7 @@ use model::{Read, Reading};
 use sheet::{ABSENT, Answer, Block, FIXED_DEF, FixedUse, GapSegment, Job, LIVE_OUT, Row, Segment, Tables, Use};
 
 use crate::Rng;
+use crate::limit::limit;
 
 const ONE: u32 = 0x3f80_0000;
 const HALF: u32 = 0x3f00_0000;
@@ -23,6 +24,8 @@ pub enum Size {
     Sheet,
     /// Up to 4,096 items a table.
     Full,
+    /// 4,096 items in every table.
+    Limit,
 }
 
 impl Size {
@@ -43,12 +46,15 @@ fn count(rng: &mut Rng, size: Size, tiny: u32, small: u32, sheet: u32) -> u32 {
         Size::Tiny => (tiny, false),
         Size::Small => (small, false),
         Size::Sheet => (sheet, true),
-        Size::Full => (4096, true),
+        Size::Full | Size::Limit => (4096, true),
     };
     if often && rng.chance(1, 2) { most } else { rng.within(1, most) }
 }
 
 pub fn accepted(rng: &mut Rng, size: Size) -> Job {
+    if size == Size::Limit {
+        return limit(rng);
+    }
     let mut job = Job { k: pick_k(rng), units: pick_units(rng), ..Job::default() };
     job.scales = [pick_scale(rng), pick_scale(rng), pick_scale(rng)];
     job.blocks = blocks(rng, size);

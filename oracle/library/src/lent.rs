@@ -1,0 +1,136 @@
+//! Work tables lent with a pattern in every row, so that a row that is written where none should be is seen.
+
+use gelduvra::WorkTables;
+use sheet::{Gap, GapSegment, Job, Link, Tables, UseRow};
+
+/// Rows of the use table, the gaps, the gap segments, the links.
+pub type Rooms = [usize; 4];
+
+/// The rows that refusal 12 asks for.
+pub fn rooms_of(job: &Job) -> Rooms {
+    let (u, b, s) = (job.uses.len(), job.blocks.len(), job.segments.len());
+    [u + 2, u + b + 2, u + b + s + 2, b]
+}
+
+const PATTERN: u32 = 0xdead_beef;
+
+/// The columns of the four tables: uses, gaps, gap segments, links.
+pub struct Lent {
+    inst: Vec<u32>,
+    weights: [Vec<f32>; 3],
+    gaps: [Vec<u32>; 3],
+    gap_weights: [Vec<f32>; 2],
+    out: [Vec<u32>; 4],
+    links: [Vec<u32>; 2],
+}
+
+impl Lent {
+    pub fn new() -> Self {
+        Self {
+            inst: vec![],
+            weights: Default::default(),
+            gaps: Default::default(),
+            gap_weights: Default::default(),
+            out: Default::default(),
+            links: Default::default(),
+        }
+    }
+
+    /// So many rows, all with the pattern.
+    pub fn fill(&mut self, rooms: Rooms) {
+        let [uses, gaps, out, links] = rooms;
+        refill(std::slice::from_mut(&mut self.inst), uses, PATTERN);
+        refill(&mut self.weights, uses, f32::from_bits(PATTERN));
+        refill(&mut self.gaps, gaps, PATTERN);
+        refill(&mut self.gap_weights, gaps, f32::from_bits(PATTERN));
+        refill(&mut self.out, out, PATTERN);
+        refill(&mut self.links, links, PATTERN);
+    }
+
+    pub fn lend(&mut self) -> WorkTables<'_> {
+        let [prev_lower_freq, next_lower_freq] = &mut self.links;
+        let [weight, left_weight, right_weight] = &mut self.weights;
+        let [from, to, live] = &mut self.gaps;
+        let [gap_weight, min_freq] = &mut self.gap_weights;
+        let [out_from, out_to, out_value, out_gap] = &mut self.out;
+        WorkTables {
+            prev_lower_freq,
+            next_lower_freq,
+            inst: &mut self.inst,
+            weight,
+            left_weight,
+            right_weight,
+            from,
+            to,
+            gap_weight,
+            live,
+            min_freq,
+            out_from,
+            out_to,
+            out_value,
+            out_gap,
+        }
+    }
+
+    /// The first difference from the tables that `by` tells, every later row being the pattern; nothing if there is none.
+    pub fn differs(&self, told: &Tables, by: &str) -> Option<String> {
+        let links = |i| [self.links[0][i], self.links[1][i]];
+        first_of("links", self.links[0].len(), &told.links, links, |l: &Link| [l.prev, l.next], by)
+            .or_else(|| {
+                let row = |i: usize| {
+                    let [main, left, right] = [0, 1, 2].map(|c: usize| self.weights[c][i].to_bits());
+                    [self.inst[i], main, left, right]
+                };
+                let told_row = |u: &UseRow| [u.inst, u.main, u.left, u.right];
+                first_of("the use table", self.inst.len(), &told.uses, row, told_row, by)
+            })
+            .or_else(|| {
+                let row = |i: usize| {
+                    let [weight, freq] = [0, 1].map(|c: usize| self.gap_weights[c][i].to_bits());
+                    [self.gaps[0][i], self.gaps[1][i], weight, self.gaps[2][i], freq]
+                };
+                let told_row = |g: &Gap| [g.from, g.to, g.weight, g.live_insts, g.freq];
+                first_of("gaps", self.gaps[0].len(), &told.gaps, row, told_row, by)
+            })
+            .or_else(|| {
+                let row = |i: usize| [0, 1, 2, 3].map(|c: usize| self.out[c][i]);
+                let told_row = |o: &GapSegment| [o.from, o.to, o.value, o.gap];
+                first_of("gap segments", self.out[0].len(), &told.gap_segments, row, told_row, by)
+            })
+    }
+}
+
+impl Default for Lent {
+    fn default() -> Self {
+        Self::new()
+    }
+}
+
+fn refill<T: Copy>(columns: &mut [Vec<T>], rows: usize, pattern: T) {
+    for column in columns {
+        column.clear();
+        column.resize(rows, pattern);
+    }
+}
+
+/// The first row of a table that is not the one told, or not the pattern behind those.
+fn first_of<T, const N: usize>(
+    table: &str,
+    rows: usize,
+    told: &[T],
+    row: impl Fn(usize) -> [u32; N],
+    told_row: impl Fn(&T) -> [u32; N],
+    by: &str,
+) -> Option<String> {
+    for i in 0..rows {
+        let found = row(i);
+        let (expected, by) = match told.get(i) {
+            Some(told) => (told_row(told), by),
+            None => ([PATTERN; N], "as it was"),
+        };
+        if found != expected {
+            return Some(format!("{table}, row {i}: the library {found:?}, {by} {expected:?}"));
+        }
+    }
+    (told.len() > rows).then(|| format!("{table}: {} rows told, {rows} lent", told.len()))
+}
