@@ -48,7 +48,12 @@ impl Lent {
     }
 
     pub fn lend(&mut self) -> WorkTables<'_> {
-        let [prev_lower_freq, next_lower_freq] = &mut self.links;
+        self.lend_links(self.links[0].len())
+    }
+
+    /// All tables, of the links so many rows alone.
+    pub fn lend_links(&mut self, links: usize) -> WorkTables<'_> {
+        let [prev_lower_freq, next_lower_freq] = self.links.each_mut().map(|column| &mut column[..links]);
         let [weight, left_weight, right_weight] = &mut self.weights;
         let [from, to, live] = &mut self.gaps;
         let [gap_weight, min_freq] = &mut self.gap_weights;

@@ -66,14 +66,38 @@ impl<F: Function, R: RegInfo> Context<'_, F, R> {
             self.stats,
             self.options,
         );
-        run.proposal = proposal.map(|p| OracleProposal {
-            left: p.left.map(|i| i.index() as u32),
-            right: p.right.map(|i| i.index() as u32),
-            use_weight: p.use_weight,
-            live_insts: p.live_insts,
-            interference_weight: p.interference_weight,
-            split_cost: p.split_cost,
-        });
+        run.proposal = proposal.map(oracle_proposal);
         run
+    }
+
+    /// The same calls with nothing copied in between.
+    pub fn oracle_propose(&mut self, vreg: VirtReg, reg: PhysReg) -> Option<OracleProposal> {
+        self.collect_uses(vreg);
+        let best_use = self.find_best_use()?;
+        let initial_gap = self.collect_gaps(best_use);
+        self.count_live_insts(vreg, initial_gap);
+        self.build_gap_segments(vreg);
+        let proposal = Self::find_split_region(
+            reg,
+            initial_gap,
+            &self.allocator.splitter,
+            self.reg_matrix,
+            self.virt_regs,
+            self.reginfo,
+            self.stats,
+            self.options,
+        );
+        proposal.map(oracle_proposal)
+    }
+}
+
+fn oracle_proposal(p: SplitProposal) -> OracleProposal {
+    OracleProposal {
+        left: p.left.map(|i| i.index() as u32),
+        right: p.right.map(|i| i.index() as u32),
+        use_weight: p.use_weight,
+        live_insts: p.live_insts,
+        interference_weight: p.interference_weight,
+        split_cost: p.split_cost,
     }
 }

@@ -14,7 +14,7 @@ use crate::function::{
     ValueGroup,
 };
 use crate::internal::allocator::queue::AllocationQueue;
-use crate::internal::allocator::split::{OracleRun, Splitter};
+use crate::internal::allocator::split::{OracleProposal, OracleRun, Splitter};
 use crate::internal::allocator::{AllocationOrder, Allocator, Context};
 use crate::internal::coalescing::Coalescing;
 use crate::internal::hints::Hints;
@@ -23,8 +23,8 @@ use crate::internal::reg_matrix::RegMatrix;
 use crate::internal::spill_allocator::SpillAllocator;
 use crate::internal::split_placement::SplitPlacement;
 use crate::internal::uses::{Use, UseKind, Uses};
-use crate::internal::virt_regs::VirtRegs;
 use crate::internal::virt_regs::builder::{VirtRegBuilder, normalize_spill_weight};
+use crate::internal::virt_regs::{VirtReg, VirtRegs};
 use crate::options::{SplitStrategy, Stats};
 use crate::reginfo::{PhysReg, RegBank, RegClass, RegInfo, RegUnit};
 
@@ -82,70 +82,119 @@ fn caught<T>(f: impl FnOnce() -> T) -> Result<T, String> {
 }
 
 fn run(job: &Job) -> Ran {
-    let func = JobFunction(job);
-    let reginfo = JobRegInfo(job);
-    let scales = job.scales.map(f32::from_bits);
-    let options = Options {
-        spill_weight_adjust: job.k,
-        direct_remat_cheaper_than_move_cost_scale: scales[0],
-        direct_remat_cheaper_than_load_cost_scale: scales[1],
-        indirect_remat_cost_scale: scales[2],
-        split_strategy: SplitStrategy::Split,
-    };
-
-    let mut split_placement = SplitPlacement::new();
-    split_placement.prepare(&func);
-    let links = func.blocks().map(|block| {
-        let [prev, next] = [split_placement.prev_lower_freq(block), split_placement.next_lower_freq(block)]
+    let mut kept = Kept::new();
+    let mut placed = Placed::of(job);
+    kept.split_placement.prepare(&JobFunction(job));
+    let blocks = JobFunction(job).blocks();
+    let links = blocks.map(|block| {
+        let placement = &kept.split_placement;
+        let [prev, next] = [placement.prev_lower_freq(block), placement.next_lower_freq(block)]
             .map(|link| link.map_or(ABSENT, |b| b.index() as u32));
         Link { prev, next }
     });
     let links = links.collect();
+    let run = placed.with_context(&mut kept, |context, vreg| context.oracle_run(vreg, PhysReg::new(ASKED)));
+    told(links, run, &placed.options)
+}
 
-    // A spill weight's index is its virtual register's; the register to split comes last.
-    let mut uses = Uses::new();
-    let segments = segments_of(job, &mut uses);
-    let mut virt_regs = VirtRegs::new();
-    let others: Vec<_> = job.weights.iter().map(|w| virt_regs.oracle_put(&[], f32::from_bits(*w))).collect();
-    let vreg = virt_regs.oracle_put(&segments, 0.0);
+/// A job in the Rust's own types: its uses, segments, reservations and fixed uses.
+pub struct Placed<'a> {
+    job: &'a Job,
+    options: Options,
+    uses: Uses,
+    virt_regs: VirtRegs,
+    vreg: VirtReg,
+    reg_matrix: RegMatrix,
+}
 
-    let mut reg_matrix = RegMatrix::new();
-    for row in &job.rows {
-        let range = LiveRangeSegment::new(point(row.start), point(row.end));
-        let (other, fixed_use) = match row.kind {
-            0 => (Some(others[row.index as usize]), row.fixed),
-            1 => (None, !0),
-            _ => (None, row.index),
+/// What the allocator keeps from one register to the next: the vectors of the splitter and of the links.
+pub struct Kept {
+    split_placement: SplitPlacement,
+    allocator: Allocator,
+    virt_reg_builder: VirtRegBuilder,
+    hints: Hints,
+}
+
+impl Kept {
+    pub fn new() -> Self {
+        Self {
+            split_placement: SplitPlacement::new(),
+            allocator: Allocator {
+                splitter: Splitter::new(),
+                queue: AllocationQueue::new(),
+                assignments: Default::default(),
+                remat_segments: vec![],
+                allocation_order: AllocationOrder,
+            },
+            virt_reg_builder: VirtRegBuilder::new(),
+            hints: Hints::new(),
+        }
+    }
+}
+
+impl<'a> Placed<'a> {
+    pub fn of(job: &'a Job) -> Self {
+        let scales = job.scales.map(f32::from_bits);
+        let options = Options {
+            spill_weight_adjust: job.k,
+            direct_remat_cheaper_than_move_cost_scale: scales[0],
+            direct_remat_cheaper_than_load_cost_scale: scales[1],
+            indirect_remat_cost_scale: scales[2],
+            split_strategy: SplitStrategy::Split,
         };
-        reg_matrix.oracle_put_row(RegUnit::new(row.unit as usize), range, other, fixed_use);
-    }
-    for f in &job.fixed {
-        let value = Value::new(f.value as usize);
-        reg_matrix.oracle_put_fixed_use(RegUnit::new(f.unit as usize), point(f.point), value);
+
+        // A spill weight's index is its virtual register's; the register to split comes last.
+        let mut uses = Uses::new();
+        let segments = segments_of(job, &mut uses);
+        let mut virt_regs = VirtRegs::new();
+        let others: Vec<_> = job.weights.iter().map(|w| virt_regs.oracle_put(&[], f32::from_bits(*w))).collect();
+        let vreg = virt_regs.oracle_put(&segments, 0.0);
+
+        let mut reg_matrix = RegMatrix::new();
+        for row in &job.rows {
+            let range = LiveRangeSegment::new(point(row.start), point(row.end));
+            let (other, fixed_use) = match row.kind {
+                0 => (Some(others[row.index as usize]), row.fixed),
+                1 => (None, !0),
+                _ => (None, row.index),
+            };
+            reg_matrix.oracle_put_row(RegUnit::new(row.unit as usize), range, other, fixed_use);
+        }
+        for f in &job.fixed {
+            let value = Value::new(f.value as usize);
+            reg_matrix.oracle_put_fixed_use(RegUnit::new(f.unit as usize), point(f.point), value);
+        }
+        Self { job, options, uses, virt_regs, vreg, reg_matrix }
     }
 
-    let mut context = Context {
-        func: &func,
-        reginfo: &reginfo,
-        options: &options,
-        stats: &mut Stats,
-        uses: &mut uses,
-        hints: &Hints::new(),
-        virt_regs: &mut virt_regs,
-        virt_reg_builder: &mut VirtRegBuilder::new(),
-        coalescing: &mut Coalescing,
-        spill_allocator: &mut SpillAllocator,
-        split_placement: &split_placement,
-        reg_matrix: &mut reg_matrix,
-        allocator: &mut Allocator {
-            splitter: Splitter::new(),
-            queue: AllocationQueue::new(),
-            assignments: Default::default(),
-            remat_segments: vec![],
-            allocation_order: AllocationOrder,
-        },
-    };
-    told(links, context.oracle_run(vreg, PhysReg::new(ASKED)), &options)
+    /// Prepares the links and runs every call of a proposal, as the allocator does: what is timed. No table is copied.
+    pub fn propose(&mut self, kept: &mut Kept) -> Option<Proposal> {
+        kept.split_placement.prepare(&JobFunction(self.job));
+        self.with_context(kept, |context, vreg| context.oracle_propose(vreg, PhysReg::new(ASKED))).map(proposal_of)
+    }
+
+    fn with_context<T>(
+        &mut self,
+        kept: &mut Kept,
+        f: impl FnOnce(&mut Context<'_, JobFunction<'a>, JobRegInfo<'a>>, VirtReg) -> T,
+    ) -> T {
+        let mut context = Context {
+            func: &JobFunction(self.job),
+            reginfo: &JobRegInfo(self.job),
+            options: &self.options,
+            stats: &mut Stats,
+            uses: &mut self.uses,
+            hints: &kept.hints,
+            virt_regs: &mut self.virt_regs,
+            virt_reg_builder: &mut kept.virt_reg_builder,
+            coalescing: &mut Coalescing,
+            spill_allocator: &mut SpillAllocator,
+            split_placement: &kept.split_placement,
+            reg_matrix: &mut self.reg_matrix,
+            allocator: &mut kept.allocator,
+        };
+        f(&mut context, self.vreg)
+    }
 }
 
 fn point(bits: u32) -> LiveRangePoint {
@@ -200,19 +249,22 @@ fn told(links: Vec<Link>, run: OracleRun, options: &Options) -> Ran {
     let answer = match run.proposal {
         Some(p) => {
             let normalised = normalize_spill_weight(p.use_weight, p.live_insts, options);
-            let proposal = Proposal {
-                left: p.left,
-                right: p.right,
-                use_weight: p.use_weight.to_bits(),
-                live_insts: p.live_insts,
-                interference_weight: p.interference_weight.to_bits(),
-                split_cost: p.split_cost.to_bits(),
-            };
-            Answer::Proposed(proposal, normalised.to_bits())
+            Answer::Proposed(proposal_of(p), normalised.to_bits())
         }
         None => Answer::None(if run.best_use { 2 } else { 1 }),
     };
     Ran { answer, tables }
+}
+
+fn proposal_of(p: OracleProposal) -> Proposal {
+    Proposal {
+        left: p.left,
+        right: p.right,
+        use_weight: p.use_weight.to_bits(),
+        live_insts: p.live_insts,
+        interference_weight: p.interference_weight.to_bits(),
+        split_cost: p.split_cost.to_bits(),
+    }
 }
 
 /// The job's blocks and values as a function.
@@ -229,7 +281,7 @@ impl Function for JobFunction<'_> {
     }
 
     fn inst_block(&self, inst: Inst) -> Block {
-        assert!(inst.index() < self.0.last_end() as usize, "an instruction outside the blocks");
+        debug_assert!(inst.index() < self.0.last_end() as usize, "an instruction outside the blocks");
         Block::new(self.0.blocks.partition_point(|b| b.end as usize <= inst.index()))
     }
 

@@ -21,5 +21,5 @@ mod reginfo;
 
 include!(concat!(env!("OUT_DIR"), "/root.rs"));
 
-pub use job::{Ran, run_job, split_point};
+pub use job::{Kept, Placed, Ran, run_job, split_point};
 use options::{Options, SplitStrategy, Stats};

@@ -124,9 +124,11 @@ impl<'a, K: BTreeKey, T> Cursor<'a, K, T> {
 
     /// Steps back by one element; at the first one it stays and answers false.
     pub fn prev(&mut self) -> bool {
-        let moves = self.at != 0;
-        self.at -= moves as usize;
-        moves
+        if self.at == 0 {
+            return false;
+        }
+        self.at -= 1;
+        true
     }
 
     /// All elements from the cursor on.
