@@ -6,7 +6,7 @@ mod tables;
 
 use std::process::ExitCode;
 
-use sets::{Set, even_sets, size_sets};
+use sets::{Set, even_sets, set_named, size_sets};
 use sides::Times;
 
 const USAGE: &str = "\
@@ -50,9 +50,7 @@ fn main() -> ExitCode {
     };
     let cut = if options.quick { 10 } else { 1 };
     if let Some(side) = &options.only {
-        let sets = size_sets(cut).into_iter().chain(even_sets(cut));
-        let mut sets = sets.filter(|set| Some(&set.name) == options.set.as_ref());
-        let Some(set) = sets.next() else {
+        let Some(set) = options.set.and_then(|name| set_named(&name, cut)) else {
             eprintln!("{USAGE}");
             return ExitCode::from(2);
         };

@@ -33,28 +33,34 @@ impl Set {
     }
 }
 
+const SIZES: [(&str, Option<Size>, usize); 5] = [
+    ("tiny", Some(Size::Tiny), 20_000),
+    ("small", Some(Size::Small), 10_000),
+    ("sheet", Some(Size::Sheet), 1_000),
+    ("full", Some(Size::Full), 100),
+    ("stream", None, 20_000),
+];
+
+const ROWS: [u32; 6] = [8, 32, 128, 512, 2048, 4096];
+
 /// The four sizes, and the mixture of the oracle's streams. `cut` divides the number of jobs.
 pub fn size_sets(cut: usize) -> Vec<Set> {
-    let sizes = [
-        ("tiny", Some(Size::Tiny), 20_000),
-        ("small", Some(Size::Small), 10_000),
-        ("sheet", Some(Size::Sheet), 1_000),
-        ("full", Some(Size::Full), 100),
-        ("stream", None, 20_000),
-    ];
-    let sets = sizes.map(|(name, size, count)| {
-        let options = Options { seed: 2026, from: 0, count: u64::MAX / 2, size };
-        let jobs = options.items().map(|(_, mut rng)| options.job(&mut rng));
-        Set::of(name, jobs, (count / cut).max(1))
-    });
-    sets.into()
+    SIZES.iter().map(|(name, ..)| set_named(name, cut).unwrap()).collect()
 }
 
 /// Jobs of one make, with 8 to 4,096 rows in each of the seven tables: how time grows.
 pub fn even_sets(cut: usize) -> Vec<Set> {
-    let sets = [8u32, 32, 128, 512, 2048, 4096].map(|rows| {
-        let jobs = (0..).map(|item| even(&mut Rng::of(2027, item), rows));
-        Set::of(&rows.to_string(), jobs, (400_000 / rows as usize).min(5_000) / cut)
-    });
-    sets.into()
+    ROWS.iter().map(|rows| set_named(&rows.to_string(), cut).unwrap()).collect()
+}
+
+/// The set of this name: a size, or a number of rows.
+pub fn set_named(name: &str, cut: usize) -> Option<Set> {
+    if let Some((_, size, count)) = SIZES.iter().find(|(size, ..)| *size == name) {
+        let options = Options { seed: 2026, from: 0, count: u64::MAX / 2, size: *size };
+        let jobs = options.items().map(|(_, mut rng)| options.job(&mut rng));
+        return Some(Set::of(name, jobs, count / cut));
+    }
+    let rows = ROWS.iter().find(|rows| rows.to_string() == name)?;
+    let jobs = (0..).map(|item| even(&mut Rng::of(2027, item), *rows));
+    Some(Set::of(name, jobs, (400_000 / *rows as usize).min(5_000) / cut))
 }
