@@ -123,6 +123,8 @@ impl<'a, K: BTreeKey, T> Cursor<'a, K, T> {
     }
 
     /// Steps back by one element; at the first one it stays and answers false.
+    ///
+    /// Not `self.at -= moves as usize`: without overflow checks rustc 1.95.0 leaves the step out then.
     pub fn prev(&mut self) -> bool {
         if self.at == 0 {
             return false;
