@@ -12,7 +12,7 @@ use sides::Times;
 const USAGE: &str = "\
 usage: bench/run [--rounds N] [--quick 1]
   nanoseconds a job for the supplied Rust and for the static library, best of N rounds (15), as Markdown
-       bench/run --only rust|port|checks --set NAME [--rounds N]
+       bench/run --only rust|table|port|checks --set NAME [--rounds N]
   one side alone, for a profile; NAME is tiny, small, sheet, full, stream or a number of rows";
 
 struct Options {

@@ -5,6 +5,7 @@ use std::time::Instant;
 
 use gelduvra::{Answer, Error, Refusal, Scratch};
 use library::{Columns, Lent, rooms_of};
+use sheet::Job;
 use supplied::{Kept, Placed};
 
 use crate::sets::Set;
@@ -14,6 +15,8 @@ use crate::sets::Set;
 pub struct Times {
     /// The Rust: links prepared, and every call from `collect_uses` to `find_split_region`.
     pub rust: f64,
+    /// The same where the block of an instruction is read from a table, which a compiler may have.
+    pub rust_with_table: f64,
     /// The port: the whole call, checks, links, tables and growth.
     pub port: f64,
     /// The port on a job that the last check refuses: the checks alone.
@@ -27,8 +30,8 @@ struct Rust<'a> {
 }
 
 impl<'a> Rust<'a> {
-    fn of(set: &'a Set) -> Self {
-        Self { placed: set.jobs.iter().map(Placed::of).collect(), kept: Kept::new() }
+    fn of(set: &'a Set, place: fn(&'a Job) -> Placed<'a>) -> Self {
+        Self { placed: set.jobs.iter().map(place).collect(), kept: Kept::new() }
     }
 
     fn round(&mut self) {
@@ -82,9 +85,9 @@ impl<'a> Checks<'a> {
     }
 }
 
-/// Both sides say the same, and the short links are refused.
-fn check(set: &Set) {
-    let (mut rust, mut port) = (Rust::of(set), Port::of(set));
+/// Both sides say the same.
+fn check<'a>(set: &'a Set, place: fn(&'a Job) -> Placed<'a>) {
+    let (mut rust, mut port) = (Rust::of(set, place), Port::of(set));
     for (placed, columns) in rust.placed.iter_mut().zip(&port.columns) {
         let told = placed.propose(&mut rust.kept);
         let said = port.scratch.propose_split(&columns.job()).expect("an accepted job");
@@ -101,29 +104,32 @@ fn check(set: &Set) {
     }
 }
 
-/// Rounds of the three, one after the other, and the best of each.
+/// Rounds of the four, one after the other, and the best of each.
 pub fn times(set: &Set, rounds: u32) -> Times {
-    check(set);
-    let (mut rust, mut port, mut checks) = (Rust::of(set), Port::of(set), Checks::of(set));
-    let mut best = Times { rust: f64::INFINITY, port: f64::INFINITY, checks: f64::INFINITY };
+    check(set, Placed::of);
+    check(set, Placed::with_table);
+    let (mut rust, mut with_table) = (Rust::of(set, Placed::of), Rust::of(set, Placed::with_table));
+    let (mut port, mut checks) = (Port::of(set), Checks::of(set));
+    let mut best = [f64::INFINITY; 4];
     for _ in 0..rounds {
-        let started = Instant::now();
-        rust.round();
-        best.rust = best.rust.min(started.elapsed().as_nanos() as f64);
-        let started = Instant::now();
-        port.round();
-        best.port = best.port.min(started.elapsed().as_nanos() as f64);
-        best.checks = best.checks.min(checks.round());
+        let round = [timed(|| rust.round()), timed(|| with_table.round()), timed(|| port.round()), checks.round()];
+        best = std::array::from_fn(|side| best[side].min(round[side]));
     }
-    let jobs = set.jobs.len() as f64;
-    Times { rust: best.rust / jobs, port: best.port / jobs, checks: best.checks / jobs }
+    let [rust, rust_with_table, port, checks] = best.map(|time| time / set.jobs.len() as f64);
+    Times { rust, rust_with_table, port, checks }
+}
+
+fn timed(round: impl FnOnce()) -> f64 {
+    let started = Instant::now();
+    round();
+    started.elapsed().as_nanos() as f64
 }
 
 /// One side alone; false if there is no such side.
 pub fn run_only(set: &Set, side: &str, rounds: u32) -> bool {
     match side {
-        "rust" => {
-            let mut rust = Rust::of(set);
+        "rust" | "table" => {
+            let mut rust = Rust::of(set, if side == "rust" { Placed::of } else { Placed::with_table });
             (0..rounds).for_each(|_| rust.round());
         }
         "port" => {

@@ -19,19 +19,20 @@ fn what(name: &str) -> &str {
 pub fn by_size(timed: &[(Set, Times)], rounds: u32) {
     println!("Nanoseconds a job, the best of {rounds} rounds; the rounds of both sides alternate.\n");
     println!(
-        "| jobs | number | proposals | rows a job | the Rust | the port | its checks | its work | port / Rust | work / Rust |"
+        "| jobs | number | proposals | rows a job | the Rust | with a table | the port | its checks | its work | port / Rust | work / Rust |"
     );
-    println!("|---|--:|--:|--:|--:|--:|--:|--:|--:|--:|");
+    println!("|---|--:|--:|--:|--:|--:|--:|--:|--:|--:|--:|");
     for (set, t) in timed {
         let work = t.port - t.checks;
         println!(
-            "| {} (`{}`) | {} | {} | {:.0} | {:.0} | {:.0} | {:.0} | {:.0} | {:.2} | {:.2} |",
+            "| {} (`{}`) | {} | {} | {:.0} | {:.0} | {:.0} | {:.0} | {:.0} | {:.0} | {:.2} | {:.2} |",
             what(&set.name),
             set.name,
             set.jobs.len(),
             set.proposals,
             set.rows(),
             t.rust,
+            t.rust_with_table,
             t.port,
             t.checks,
             work,

@@ -48,7 +48,7 @@ pub fn run_job(job: &Job) -> Result<Ran, String> {
 pub fn split_point(blocks: &[sheet::Block], after: u32, before: u32, early: bool) -> Result<u32, String> {
     caught(|| {
         let job = Job { blocks: blocks.to_vec(), ..Job::default() };
-        let func = JobFunction(&job);
+        let func = JobFunction(&job, BlockOf::Search);
         let mut placement = SplitPlacement::new();
         placement.prepare(&func);
         let (after, before) = (Inst::new(after as usize), Inst::new(before as usize));
@@ -84,8 +84,8 @@ fn caught<T>(f: impl FnOnce() -> T) -> Result<T, String> {
 fn run(job: &Job) -> Ran {
     let mut kept = Kept::new();
     let mut placed = Placed::of(job);
-    kept.split_placement.prepare(&JobFunction(job));
-    let blocks = JobFunction(job).blocks();
+    kept.split_placement.prepare(&placed.func());
+    let blocks = placed.func().blocks();
     let links = blocks.map(|block| {
         let placement = &kept.split_placement;
         let [prev, next] = [placement.prev_lower_freq(block), placement.next_lower_freq(block)]
@@ -100,6 +100,8 @@ fn run(job: &Job) -> Ran {
 /// A job in the Rust's own types: its uses, segments, reservations and fixed uses.
 pub struct Placed<'a> {
     job: &'a Job,
+    /// The block of each instruction before the last block, if the job has such a table.
+    table: Option<Vec<u16>>,
     options: Options,
     uses: Uses,
     virt_regs: VirtRegs,
@@ -164,22 +166,35 @@ impl<'a> Placed<'a> {
             let value = Value::new(f.value as usize);
             reg_matrix.oracle_put_fixed_use(RegUnit::new(f.unit as usize), point(f.point), value);
         }
-        Self { job, options, uses, virt_regs, vreg, reg_matrix }
+        Self { job, table: None, options, uses, virt_regs, vreg, reg_matrix }
+    }
+
+    /// The same with a table of the block of each instruction, as a compiler may have one.
+    pub fn with_table(job: &'a Job) -> Self {
+        let (_, before) = job.blocks.split_last().unwrap();
+        let rows = before.iter().enumerate();
+        let table = rows.flat_map(|(at, b)| std::iter::repeat_n(at as u16, (b.end - b.first) as usize)).collect();
+        Self { table: Some(table), ..Self::of(job) }
+    }
+
+    fn func(&self) -> JobFunction<'_> {
+        JobFunction(self.job, self.table.as_deref().map_or(BlockOf::Search, BlockOf::Table))
     }
 
     /// Prepares the links and runs every call of a proposal, as the allocator does: what is timed. No table is copied.
     pub fn propose(&mut self, kept: &mut Kept) -> Option<Proposal> {
-        kept.split_placement.prepare(&JobFunction(self.job));
+        kept.split_placement.prepare(&self.func());
         self.with_context(kept, |context, vreg| context.oracle_propose(vreg, PhysReg::new(ASKED))).map(proposal_of)
     }
 
     fn with_context<T>(
         &mut self,
         kept: &mut Kept,
-        f: impl FnOnce(&mut Context<'_, JobFunction<'a>, JobRegInfo<'a>>, VirtReg) -> T,
+        f: impl FnOnce(&mut Context<'_, JobFunction<'_>, JobRegInfo<'_>>, VirtReg) -> T,
     ) -> T {
+        let block_of = self.table.as_deref().map_or(BlockOf::Search, BlockOf::Table);
         let mut context = Context {
-            func: &JobFunction(self.job),
+            func: &JobFunction(self.job, block_of),
             reginfo: &JobRegInfo(self.job),
             options: &self.options,
             stats: &mut Stats,
@@ -268,7 +283,16 @@ fn proposal_of(p: OracleProposal) -> Proposal {
 }
 
 /// The job's blocks and values as a function.
-struct JobFunction<'a>(&'a Job);
+struct JobFunction<'a>(&'a Job, BlockOf<'a>);
+
+/// How the block of an instruction is found.
+#[derive(Clone, Copy)]
+enum BlockOf<'a> {
+    /// By halves over the blocks' ends.
+    Search,
+    /// From a table of the instructions before the last block.
+    Table(&'a [u16]),
+}
 
 impl Function for JobFunction<'_> {
     fn num_blocks(&self) -> usize {
@@ -282,7 +306,10 @@ impl Function for JobFunction<'_> {
 
     fn inst_block(&self, inst: Inst) -> Block {
         debug_assert!(inst.index() < self.0.last_end() as usize, "an instruction outside the blocks");
-        Block::new(self.0.blocks.partition_point(|b| b.end as usize <= inst.index()))
+        Block::new(match self.1 {
+            BlockOf::Search => self.0.blocks.partition_point(|b| b.end as usize <= inst.index()),
+            BlockOf::Table(table) => table.get(inst.index()).map_or(self.0.blocks.len() - 1, |block| *block as usize),
+        })
     }
 
     fn block_frequency(&self, block: Block) -> f32 {
