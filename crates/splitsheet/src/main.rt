@@ -1,0 +1,337 @@
+// splitsheet [--tables] [SHEET]: answers the sheet that a file holds, or standard input where none is named, or where it is named `-`.
+//
+// The answer is document 01's: Q and H, N, or R. With --tables the tables follow it: links, uses, gaps and gap segments, lines l, u, g
+// and o. Where nothing can be read, one line on standard error says why, and nothing is answered. 65,536 bytes are read at most: the
+// longest sheet has 47,417, so they tell of any text how it is answered.
+use answers::answer::answer_sheet;
+use answers::figures::bits_shown;
+use libc::STDERR_FILENO;
+use libc::STDIN_FILENO;
+use libc::STDOUT_FILENO;
+use sheet::Written;
+ghost use Prim.Native.Nat.{_≤_};
+ghost use mathlib.Core.Path.{_≡_};
+ghost use lib.ListN.{length};
+ghost use Rattle.io.specs.Counts.{Counts};
+
+// What the arguments ask for: whether the tables are printed, and which argument names the sheet, 0 for standard input. Refused: it was
+// said why not.
+enum Asked {
+    Sheet(bool, usize),
+    Refused,
+}
+
+// How many bytes were read, or that reading failed.
+struct Got {
+    bytes: usize,
+    failed: bool,
+}
+
+// One line on standard error: what is wrong, and with what.
+fn complain(what: &[u8], with: &[u8]) {
+    io::write_all(STDERR_FILENO, b"splitsheet: ");
+    io::write_all(STDERR_FILENO, what);
+    io::write_all(STDERR_FILENO, with);
+    io::write_all(STDERR_FILENO, b"\n");
+}
+
+// The same, with what the system says.
+fn complain_errno(what: &[u8]) {
+    io::write_all(STDERR_FILENO, b"splitsheet: ");
+    os::fail(what);
+}
+
+// Whether the first argument asks for the tables.
+fn tables_asked() -> bool {
+    let mut word = [0u8; 9];
+    let n = os::arg(1, &mut word);
+    check::same(&word[..n], b"--tables")
+}
+
+// Whether a word is an option: `-` alone is standard input.
+fn is_option(word: &[u8]) -> bool {
+    if word.len() < 2 {
+        return false;
+    }
+    word[0] == b'-'
+}
+
+// What the word at a place of the arguments names.
+fn sheet_asked(tables: bool, at: usize) -> Asked {
+    let mut path = io::buffer();
+    let n = os::arg(at, &mut path);
+    if os::errno() != 0 {
+        complain_errno(b"SHEET");
+        return Asked::Refused;
+    }
+    if is_option(&path[..n]) {
+        complain(b"unknown or second option: ", &path[..n]);
+        return Asked::Refused;
+    }
+    if check::same(&path[..n], b"-") {
+        return Asked::Sheet(tables, 0);
+    }
+    Asked::Sheet(tables, at)
+}
+
+fn read_arguments() -> Asked {
+    let tables = tables_asked();
+    let at: usize = if tables { 2 } else { 1 };
+    let count = os::arg_count();
+    if count <= at {
+        return Asked::Sheet(tables, 0);
+    }
+    let a = sheet_asked(tables, at);
+    let Asked::Sheet(_, _) = a else {
+        return a;
+    };
+    if count > at + 1 {
+        complain(b"too many arguments: ", b"splitsheet [--tables] [SHEET]");
+        return Asked::Refused;
+    }
+    a
+}
+
+// One read.
+fn read_some(fd: i32, buf: &mut [u8]) -> Got
+    ensures { λ r. ⌜ Counts (r .bytes) (now (buf .exit)) ⌝ }
+{
+    let got = libc::read(fd, buf);
+    Got {
+        bytes: io::count(got, buf),
+        failed: got < 0,
+    }
+}
+
+// Reads until the buffer is full or the input ends.
+fn read_text(fd: i32, buf: &mut [u8]) -> Got
+    ensures { λ r. ⌜ Counts (r .bytes) (now (buf .exit)) ⌝ }
+{
+    let mut done: usize = 0;
+    while done < buf.len() {
+        let got = read_some(fd, &mut buf[done..]);
+        if got.failed {
+            return Got {
+                bytes: done,
+                failed: true,
+            };
+        }
+        if got.bytes == 0 {
+            break;
+        }
+        done += got.bytes;
+    }
+    Got {
+        bytes: done,
+        failed: false,
+    }
+}
+
+// Reads the text of the file that an argument names, or says why it cannot.
+fn read_named(at: usize, buf: &mut [u8]) -> Got
+    ensures { λ r. ⌜ Counts (r .bytes) (now (buf .exit)) ⌝ }
+{
+    let mut path = io::buffer();
+    let n = os::arg(at, &mut path);
+    let fd = os::open_read(&path[..n]);
+    if fd < 0 {
+        complain_errno(&path[..n]);
+        return Got {
+            bytes: 0,
+            failed: true,
+        };
+    }
+    let got = read_text(fd, buf);
+    if got.failed {
+        complain_errno(&path[..n]);
+    }
+    libc::close(fd);
+    got
+}
+
+// Reads the text that is asked for, or says why it cannot.
+fn read_asked(at: usize, buf: &mut [u8]) -> Got
+    ensures { λ r. ⌜ Counts (r .bytes) (now (buf .exit)) ⌝ }
+{
+    if at != 0 {
+        return read_named(at, buf);
+    }
+    let got = read_text(STDIN_FILENO, buf);
+    if got.failed {
+        complain_errno(b"standard input");
+    }
+    got
+}
+
+// Prints the first n bytes, and answers whether they were written.
+fn print_front(text: &[u8], n: usize) -> bool {
+    if n <= text.len() {
+        return io::write_all(STDOUT_FILENO, &text[..n]);
+    }
+    false
+}
+
+fn print_line(letter: u8, fields: &[u32]) -> bool {
+    let mut line = [0u8; 57];
+    let w = sheet::write_line(&mut line, letter, fields);
+    let Written::Bytes(n) = w else {
+        return false;
+    };
+    print_front(&line, n)
+}
+
+// A number of a column; no row that is used lies past its end.
+fn number_at(column: &[u32], i: usize) -> u32 {
+    if i < column.len() {
+        return column[i];
+    }
+    0
+}
+
+// The bits of a weight of a column.
+fn bits_at(column: &[f32], i: usize) -> u32 {
+    if i < column.len() {
+        return bits_shown(column[i]);
+    }
+    0
+}
+
+fn print_links(prev: &[u32], next: &[u32], rows: usize) -> bool {
+    for i in 0..rows {
+        let row = [number_at(prev, i), number_at(next, i)];
+        if !print_line(b'l', &row) {
+            return false;
+        }
+    }
+    true
+}
+
+fn print_uses(inst: &[u32], weight: &[f32], left: &[f32], right: &[f32], rows: usize) -> bool {
+    for i in 0..rows {
+        let row = [
+            number_at(inst, i),
+            bits_at(weight, i),
+            bits_at(left, i),
+            bits_at(right, i),
+        ];
+        if !print_line(b'u', &row) {
+            return false;
+        }
+    }
+    true
+}
+
+fn print_gaps(
+    from: &[u32],
+    to: &[u32],
+    weight: &[f32],
+    live: &[u32],
+    freq: &[f32],
+    rows: usize,
+) -> bool {
+    for i in 0..rows {
+        let row = [
+            number_at(from, i),
+            number_at(to, i),
+            bits_at(weight, i),
+            number_at(live, i),
+            bits_at(freq, i),
+        ];
+        if !print_line(b'g', &row) {
+            return false;
+        }
+    }
+    true
+}
+
+fn print_gap_segments(from: &[u32], to: &[u32], value: &[u32], gap: &[u32], rows: usize) -> bool {
+    for i in 0..rows {
+        let row = [
+            number_at(from, i),
+            number_at(to, i),
+            number_at(value, i),
+            number_at(gap, i),
+        ];
+        if !print_line(b'o', &row) {
+            return false;
+        }
+    }
+    true
+}
+
+// Prints the answer to a text, and answers whether all was written.
+fn print_answer(text: &[u8], tables: bool) -> bool {
+    let mut cells = [0u32; 4101];
+    let mut prev = [0u32; 128];
+    let mut next = [0u32; 128];
+    let mut inst = [0u32; 258];
+    let mut weight = [0f32; 258];
+    let mut left = [0f32; 258];
+    let mut right = [0f32; 258];
+    let mut from = [0u32; 386];
+    let mut to = [0u32; 386];
+    let mut gap_weight = [0f32; 386];
+    let mut live = [0u32; 386];
+    let mut freq = [0f32; 386];
+    let mut out_from = [0u32; 514];
+    let mut out_to = [0u32; 514];
+    let mut out_value = [0u32; 514];
+    let mut out_gap = [0u32; 514];
+    let mut out = [0u8; 81];
+    let r = answer_sheet(
+        text,
+        &mut cells,
+        &mut prev,
+        &mut next,
+        &mut inst,
+        &mut weight,
+        &mut left,
+        &mut right,
+        &mut from,
+        &mut to,
+        &mut gap_weight,
+        &mut live,
+        &mut freq,
+        &mut out_from,
+        &mut out_to,
+        &mut out_value,
+        &mut out_gap,
+        &mut out,
+    );
+    let w = r.written;
+    let Written::Bytes(n) = w else {
+        return false;
+    };
+    if !print_front(&out, n) {
+        return false;
+    }
+    if !tables {
+        return true;
+    }
+    if !print_links(&prev, &next, r.links) {
+        return false;
+    }
+    if !print_uses(&inst, &weight, &left, &right, r.uses) {
+        return false;
+    }
+    if !print_gaps(&from, &to, &gap_weight, &live, &freq, r.gaps) {
+        return false;
+    }
+    print_gap_segments(&out_from, &out_to, &out_value, &out_gap, r.gap_segments)
+}
+
+fn main() {
+    let a = read_arguments();
+    let Asked::Sheet(tables, at) = a else {
+        return;
+    };
+    let mut text = io::large_buffer();
+    let got = read_asked(at, &mut text);
+    if got.failed {
+        return;
+    }
+    let n = got.bytes;
+    if !print_answer(&text[..n], tables) {
+        complain_errno(b"standard output");
+    }
+}
