@@ -52,7 +52,7 @@ below-never (l ∷ ls) above e = by (fault above l) e (below-never ls (above ++ 
     by zero q later = later q
     by (suc n) q later = let z : _≡_ {A = ℕ} 0 1 = cc in omega arith
 
-verdict-never : (text : List ℕ) → verdict text ≡ Verdict·is.NoRoom → ⊥
+pub verdict-never : (text : List ℕ) → verdict text ≡ Verdict·is.NoRoom → ⊥
 unfolding verdict
 verdict-never text e = by (eqb (length text) 0) e
   where

@@ -13,10 +13,11 @@ use Rattle.verdict.specs.Job.{Job, jobOf}
 abbrev pub Columns : Type 0
 Columns = ℕ → ℕ → List ℕ
 
--- the line P: k, three scales, units
+-- the number in column c of the one line P
 abbrev pub parameterOf : Columns → ℕ → ℕ
 parameterOf at c = getD (at 0 c) 0 0
 
+-- the line P: k, three scales, units
 abbrev pub parametersOf : Columns → Parameters
 parametersOf at =
     record {

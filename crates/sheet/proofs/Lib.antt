@@ -11,5 +11,6 @@ pub mod FillLaws
 pub mod CellLaws
 pub mod ReadLaws
 pub mod WriteLaws
+pub mod Prefix
 pub mod Exact
 pub mod Case

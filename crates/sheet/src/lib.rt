@@ -1,10 +1,12 @@
 // A sheet's text to numbers, and an answer to text (document 01, "Sheet"; refusals 14 and 15).
 //
 // Here: read_sheet checks a whole text and stores its numbers into lent cells, column by column; check_text gives the
-// verdict alone; write_answer writes an answer's lines, write_line one line. Text and numbers only: weights are their bits, and no job is known.
+// verdict alone; write_answer writes an answer's lines, write_line one line. Text and numbers only: weights are their bits,
+// and no job is known.
 // Proved: the verdict is Sound exactly for the text of a sheet with one P within the limits (proofs/Exact.antt), else
-// the first bad line and its refusal; the cells at exit are the definition's, and rendering what was read gives the
-// text back; the bytes that are written are the definition's.
+// the first bad line and its refusal; the first 47,485 bytes of a text decide its verdict (proofs/Prefix.antt); the cells at
+// exit are the definition's, and rendering what was read gives the text back; the bytes that are written are the
+// definition's.
 // A caller should know: no public entry point has a `requires`. Too few cells, or a buffer that is too short, is an
 // answer of its own. Column c of kind k starts at cell column_of(k, c), kinds in the order P B V S U W E F, and as many of
 // its cells as the kind has rows are in use. The limits belong to this layer alone.

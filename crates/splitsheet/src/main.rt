@@ -1,8 +1,9 @@
 // splitsheet [--tables] [SHEET]: answers the sheet that a file holds, or standard input where none is named, or where it is named `-`.
 //
 // The answer is document 01's: Q and H, N, or R. With --tables the tables follow it: links, uses, gaps and gap segments, lines l, u, g
-// and o. Where nothing can be read, one line on standard error says why, and nothing is answered. 65,536 bytes are read at most: the
-// longest sheet has 47,417, so they tell of any text how it is answered.
+// and o. Where nothing can be read, one line on standard error says why, and nothing is answered. No more than 65,536 bytes are read:
+// those of a text that has more decide its answer (proofs/Front.antt of `answers`). The work tables have room for every sheet
+// (proofs/Rooms.antt there). What is read and written is not proved; the work is done by `answer_sheet`, on slices.
 use answers::answer::answer_sheet;
 use answers::figures::bits_shown;
 use libc::STDERR_FILENO;

@@ -6,7 +6,7 @@ use Rattle.answers.proofs.cells.adjustment.Statement.{statement}
 use Rattle.answers.proofs.cells.adjustment.Tie as tie
 
 parameter-requires : tie.Need-parameter-requires
-parameter-requires c κs = (c .before .pre, is-column 0 0 refl refl)
+parameter-requires c κs = (c .before .pre, is-column _ _ refl refl)
 
 returns : tie.Need-returns
 returns c = search needs

@@ -5,19 +5,19 @@ use Rattle.answers.proofs.cells.parameters_of.Statement.{statement}
 use Rattle.answers.proofs.cells.parameters_of.Tie as tie
 
 parameter-requires : tie.Need-parameter-requires
-parameter-requires c κs = (c .before .pre, is-column 0 0 refl refl)
+parameter-requires c κs = (c .before .pre, is-column _ _ refl refl)
 
 parameter-requires-2 : tie.Need-parameter-requires-2
-parameter-requires-2 c κs = (c .before .before .pre, is-column 0 1 refl refl)
+parameter-requires-2 c κs = (c .before .before .pre, is-column _ _ refl refl)
 
 parameter-requires-3 : tie.Need-parameter-requires-3
-parameter-requires-3 c κs = (c .before .before .before .pre, is-column 0 2 refl refl)
+parameter-requires-3 c κs = (c .before .before .before .pre, is-column _ _ refl refl)
 
 parameter-requires-4 : tie.Need-parameter-requires-4
-parameter-requires-4 c κs = (c .before .before .before .before .pre, is-column 0 3 refl refl)
+parameter-requires-4 c κs = (c .before .before .before .before .pre, is-column _ _ refl refl)
 
 parameter-requires-5 : tie.Need-parameter-requires-5
-parameter-requires-5 c κs = (c .before .before .before .before .before .pre, is-column 0 4 refl refl)
+parameter-requires-5 c κs = (c .before .before .before .before .before .pre, is-column _ _ refl refl)
 
 returns : tie.Need-returns
 returns c =

@@ -7,73 +7,73 @@ use Rattle.answers.proofs.cells.propose_cells.Statement.{statement}
 use Rattle.answers.proofs.cells.propose_cells.Tie as tie
 
 column-requires : tie.Need-column-requires
-column-requires c κs = (c .before .before .before .before .before .before .before .before .before .before .before .before .before .before .before .before .pre, is-column 1 0 refl refl)
+column-requires c κs = (c .before .before .before .before .before .before .before .before .before .before .before .before .before .before .before .before .pre, is-column _ _ refl refl)
 
 column-requires-2 : tie.Need-column-requires-2
-column-requires-2 c κs = (c .before .before .before .before .before .before .before .before .before .before .before .before .before .before .before .before .before .pre, is-column 1 1 refl refl)
+column-requires-2 c κs = (c .before .before .before .before .before .before .before .before .before .before .before .before .before .before .before .before .before .pre, is-column _ _ refl refl)
 
 column-requires-3 : tie.Need-column-requires-3
-column-requires-3 c κs = (c .before .before .before .before .before .before .before .before .before .before .before .before .before .before .before .before .before .before .pre, is-column 1 2 refl refl)
+column-requires-3 c κs = (c .before .before .before .before .before .before .before .before .before .before .before .before .before .before .before .before .before .before .pre, is-column _ _ refl refl)
 
 column-requires-4 : tie.Need-column-requires-4
-column-requires-4 c κs = (c .before .before .before .before .before .before .before .before .before .before .before .before .before .before .before .before .before .before .before .pre, is-column 2 0 refl refl)
+column-requires-4 c κs = (c .before .before .before .before .before .before .before .before .before .before .before .before .before .before .before .before .before .before .before .pre, is-column _ _ refl refl)
 
 column-requires-5 : tie.Need-column-requires-5
-column-requires-5 c κs = (c .before .before .before .before .before .before .before .before .before .before .before .before .before .before .before .before .before .before .before .before .pre, is-column 3 0 refl refl)
+column-requires-5 c κs = (c .before .before .before .before .before .before .before .before .before .before .before .before .before .before .before .before .before .before .before .before .pre, is-column _ _ refl refl)
 
 column-requires-6 : tie.Need-column-requires-6
-column-requires-6 c κs = (c .before .before .before .before .before .before .before .before .before .before .before .before .before .before .before .before .before .before .before .before .before .pre, is-column 3 1 refl refl)
+column-requires-6 c κs = (c .before .before .before .before .before .before .before .before .before .before .before .before .before .before .before .before .before .before .before .before .before .pre, is-column _ _ refl refl)
 
 column-requires-7 : tie.Need-column-requires-7
-column-requires-7 c κs = (c .before .before .before .before .before .before .before .before .before .before .before .before .before .before .before .before .before .before .before .before .before .before .pre, is-column 3 2 refl refl)
+column-requires-7 c κs = (c .before .before .before .before .before .before .before .before .before .before .before .before .before .before .before .before .before .before .before .before .before .before .pre, is-column _ _ refl refl)
 
 column-requires-8 : tie.Need-column-requires-8
-column-requires-8 c κs = (c .before .before .before .before .before .before .before .before .before .before .before .before .before .before .before .before .before .before .before .before .before .before .before .pre, is-column 3 3 refl refl)
+column-requires-8 c κs = (c .before .before .before .before .before .before .before .before .before .before .before .before .before .before .before .before .before .before .before .before .before .before .before .pre, is-column _ _ refl refl)
 
 column-requires-9 : tie.Need-column-requires-9
-column-requires-9 c κs = (c .before .before .before .before .before .before .before .before .before .before .before .before .before .before .before .before .before .before .before .before .before .before .before .before .pre, is-column 3 4 refl refl)
+column-requires-9 c κs = (c .before .before .before .before .before .before .before .before .before .before .before .before .before .before .before .before .before .before .before .before .before .before .before .before .pre, is-column _ _ refl refl)
 
 column-requires-10 : tie.Need-column-requires-10
-column-requires-10 c κs = (c .before .before .before .before .before .before .before .before .before .before .before .before .before .before .before .before .before .before .before .before .before .before .before .before .before .pre, is-column 3 5 refl refl)
+column-requires-10 c κs = (c .before .before .before .before .before .before .before .before .before .before .before .before .before .before .before .before .before .before .before .before .before .before .before .before .before .pre, is-column _ _ refl refl)
 
 column-requires-11 : tie.Need-column-requires-11
-column-requires-11 c κs = (c .before .before .before .before .before .before .before .before .before .before .before .before .before .before .before .before .before .before .before .before .before .before .before .before .before .before .pre, is-column 4 0 refl refl)
+column-requires-11 c κs = (c .before .before .before .before .before .before .before .before .before .before .before .before .before .before .before .before .before .before .before .before .before .before .before .before .before .before .pre, is-column _ _ refl refl)
 
 column-requires-12 : tie.Need-column-requires-12
-column-requires-12 c κs = (c .before .before .before .before .before .before .before .before .before .before .before .before .before .before .before .before .before .before .before .before .before .before .before .before .before .before .before .pre, is-column 4 1 refl refl)
+column-requires-12 c κs = (c .before .before .before .before .before .before .before .before .before .before .before .before .before .before .before .before .before .before .before .before .before .before .before .before .before .before .before .pre, is-column _ _ refl refl)
 
 column-requires-13 : tie.Need-column-requires-13
-column-requires-13 c κs = (c .before .before .before .before .before .before .before .before .before .before .before .before .before .before .before .before .before .before .before .before .before .before .before .before .before .before .before .before .pre, is-column 4 2 refl refl)
+column-requires-13 c κs = (c .before .before .before .before .before .before .before .before .before .before .before .before .before .before .before .before .before .before .before .before .before .before .before .before .before .before .before .before .pre, is-column _ _ refl refl)
 
 column-requires-14 : tie.Need-column-requires-14
-column-requires-14 c κs = (c .before .before .before .before .before .before .before .before .before .before .before .before .before .before .before .before .before .before .before .before .before .before .before .before .before .before .before .before .before .pre, is-column 5 0 refl refl)
+column-requires-14 c κs = (c .before .before .before .before .before .before .before .before .before .before .before .before .before .before .before .before .before .before .before .before .before .before .before .before .before .before .before .before .before .pre, is-column _ _ refl refl)
 
 column-requires-15 : tie.Need-column-requires-15
-column-requires-15 c κs = (c .before .before .before .before .before .before .before .before .before .before .before .before .before .before .before .before .before .before .before .before .before .before .before .before .before .before .before .before .before .before .pre, is-column 6 0 refl refl)
+column-requires-15 c κs = (c .before .before .before .before .before .before .before .before .before .before .before .before .before .before .before .before .before .before .before .before .before .before .before .before .before .before .before .before .before .before .pre, is-column _ _ refl refl)
 
 column-requires-16 : tie.Need-column-requires-16
-column-requires-16 c κs = (c .before .before .before .before .before .before .before .before .before .before .before .before .before .before .before .before .before .before .before .before .before .before .before .before .before .before .before .before .before .before .before .pre, is-column 6 1 refl refl)
+column-requires-16 c κs = (c .before .before .before .before .before .before .before .before .before .before .before .before .before .before .before .before .before .before .before .before .before .before .before .before .before .before .before .before .before .before .before .pre, is-column _ _ refl refl)
 
 column-requires-17 : tie.Need-column-requires-17
-column-requires-17 c κs = (c .before .before .before .before .before .before .before .before .before .before .before .before .before .before .before .before .before .before .before .before .before .before .before .before .before .before .before .before .before .before .before .before .pre, is-column 6 2 refl refl)
+column-requires-17 c κs = (c .before .before .before .before .before .before .before .before .before .before .before .before .before .before .before .before .before .before .before .before .before .before .before .before .before .before .before .before .before .before .before .before .pre, is-column _ _ refl refl)
 
 column-requires-18 : tie.Need-column-requires-18
-column-requires-18 c κs = (c .before .before .before .before .before .before .before .before .before .before .before .before .before .before .before .before .before .before .before .before .before .before .before .before .before .before .before .before .before .before .before .before .before .pre, is-column 6 3 refl refl)
+column-requires-18 c κs = (c .before .before .before .before .before .before .before .before .before .before .before .before .before .before .before .before .before .before .before .before .before .before .before .before .before .before .before .before .before .before .before .before .before .pre, is-column _ _ refl refl)
 
 column-requires-19 : tie.Need-column-requires-19
-column-requires-19 c κs = (c .before .before .before .before .before .before .before .before .before .before .before .before .before .before .before .before .before .before .before .before .before .before .before .before .before .before .before .before .before .before .before .before .before .before .pre, is-column 6 4 refl refl)
+column-requires-19 c κs = (c .before .before .before .before .before .before .before .before .before .before .before .before .before .before .before .before .before .before .before .before .before .before .before .before .before .before .before .before .before .before .before .before .before .before .pre, is-column _ _ refl refl)
 
 column-requires-20 : tie.Need-column-requires-20
-column-requires-20 c κs = (c .before .before .before .before .before .before .before .before .before .before .before .before .before .before .before .before .before .before .before .before .before .before .before .before .before .before .before .before .before .before .before .before .before .before .before .pre, is-column 6 5 refl refl)
+column-requires-20 c κs = (c .before .before .before .before .before .before .before .before .before .before .before .before .before .before .before .before .before .before .before .before .before .before .before .before .before .before .before .before .before .before .before .before .before .before .before .pre, is-column _ _ refl refl)
 
 column-requires-21 : tie.Need-column-requires-21
-column-requires-21 c κs = (c .before .before .before .before .before .before .before .before .before .before .before .before .before .before .before .before .before .before .before .before .before .before .before .before .before .before .before .before .before .before .before .before .before .before .before .before .pre, is-column 7 0 refl refl)
+column-requires-21 c κs = (c .before .before .before .before .before .before .before .before .before .before .before .before .before .before .before .before .before .before .before .before .before .before .before .before .before .before .before .before .before .before .before .before .before .before .before .before .pre, is-column _ _ refl refl)
 
 column-requires-22 : tie.Need-column-requires-22
-column-requires-22 c κs = (c .before .before .before .before .before .before .before .before .before .before .before .before .before .before .before .before .before .before .before .before .before .before .before .before .before .before .before .before .before .before .before .before .before .before .before .before .before .pre, is-column 7 1 refl refl)
+column-requires-22 c κs = (c .before .before .before .before .before .before .before .before .before .before .before .before .before .before .before .before .before .before .before .before .before .before .before .before .before .before .before .before .before .before .before .before .before .before .before .before .before .pre, is-column _ _ refl refl)
 
 column-requires-23 : tie.Need-column-requires-23
-column-requires-23 c κs = (c .before .before .before .before .before .before .before .before .before .before .before .before .before .before .before .before .before .before .before .before .before .before .before .before .before .before .before .before .before .before .before .before .before .before .before .before .before .before .pre, is-column 7 2 refl refl)
+column-requires-23 c κs = (c .before .before .before .before .before .before .before .before .before .before .before .before .before .before .before .before .before .before .before .before .before .before .before .before .before .before .before .before .before .before .before .before .before .before .before .before .before .before .pre, is-column _ _ refl refl)
 
 parameters-of-requires : tie.Need-parameters-of-requires
 parameters-of-requires c κs = c .before .before .before .before .before .before .before .before .before .before .before .before .before .before .before .before .before .before .before .before .before .before .before .before .before .before .before .before .before .before .before .before .before .before .before .before .before .before .before .pre

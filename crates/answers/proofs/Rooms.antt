@@ -1,0 +1,79 @@
+-- Work tables of 258 uses, 386 gaps, 514 gap segments and 128 links are never too short for a sheet: refusal 12 is not given
+use Prim.Native.Nat.{ℕ, zero, suc, _≤_}
+use mathlib.Core.Path.{_≡_, refl, sym, _∙_}
+use mathlib.Core.List.{List, [], _∷_, _++_}
+use native.Mathlib.Nat.{le-trans, le-of-eq}
+use native.Mathlib.Omega.{arith}
+use lib.ListN.{length, getD, length-map}
+use borrow.Author.Tests.{le-ltb}
+use Rattle.sheet.specs.Kinds.{limit}
+use Rattle.sheet.specs.Sheet.{Sheet, Within}
+use Rattle.sheet.specs.Refusal.{verdict, sheetOf}
+use Rattle.sheet.specs.Cells.{column}
+use Rattle.sheet.specs.declared.check.Verdict.the-variants as Verdict·is
+use Rattle.sheet.proofs.SoundLaws.{sound-sheet}
+use Rattle.links.specs.Table.{table, shortest}
+use Rattle.links.specs.declared.blocks.Checked.{Checked}
+use Rattle.links.specs.declared.blocks.Checked.the-variants as Checked·is
+use Rattle.links.proofs.Tables.{table-length, shortest-at-most}
+use Rattle.verdict.specs.declared.job.Rooms.{Rooms}
+use Rattle.verdict.specs.Job.{sizesOf}
+use Rattle.verdict.specs.Refusals.{Line, firstBroken, Passed, roomsNeeded, line12, jobLines, tableRefusalOf, refusalOf}
+use Rattle.verdict.proofs.FirstBroken.{answer-passed, empty-sound, refused-stays, sound-goes-on}
+use Rattle.answers.specs.SheetJob.{jobOfSheet}
+
+-- tables with room for every sheet
+pub record Enough (r : Rooms) : Type 0 where
+  pub uses : 258 ≤ r .uses
+  pub gaps : 386 ≤ r .gaps
+  pub segments : 514 ≤ r .«gap_segments»
+  pub links : 128 ≤ r .links
+
+-- a line that has passed at the end of the table changes nothing
+last-passed : (ls : List Line) (l : Line) → Passed l → firstBroken (ls ++ (l ∷ [])) ≡ firstBroken ls
+last-passed ls l p = by (firstBroken ls) refl
+  where
+    by : (c : Checked) → firstBroken ls ≡ c → firstBroken (ls ++ (l ∷ [])) ≡ firstBroken ls
+    by (Checked·is.Refused r) e = refused-stays ls (l ∷ []) r e ∙ sym e
+    by Checked·is.Sound e = sound-goes-on ls (l ∷ []) e ∙ answer-passed l [] p ∙ empty-sound ∙ sym e
+
+-- a table has no more rows than its first column
+first-most : {A : Type 0} (row : ℕ → A) (n m : ℕ) (ns : List ℕ) → length (table row (shortest (n ∷ m ∷ ns))) ≤ n
+first-most row n m ns = le-trans (le-of-eq (table-length row (shortest (n ∷ m ∷ ns)))) (shortest-at-most (n ∷ m ∷ ns) 0 (omega arith))
+
+column-rows : (c : ℕ) (rows : List (List ℕ)) → length (column c rows) ≡ length rows
+unfolding column
+column-rows c rows = length-map rows (λ (row : List ℕ). getD row c 0)
+
+module _ (s : Sheet) (within : Within s) where
+  abbrev size : ℕ → ℕ → ℕ
+  size k c = length (column c (s k))
+
+  few-blocks : length (jobOfSheet s .blocks) ≤ 128
+  unfolding limit
+  few-blocks = le-trans (first-most _ (size 1 0) (size 1 1) (size 1 2 ∷ [])) (omega (arith, column-rows 0 (s 1), within 1 (omega arith)))
+
+  few-segments : length (jobOfSheet s .segments) ≤ 128
+  unfolding limit
+  few-segments = le-trans (first-most _ (size 3 0) (size 3 1) (size 3 2 ∷ size 3 3 ∷ size 3 4 ∷ size 3 5 ∷ [])) (omega (arith, column-rows 0 (s 3), within 3 (omega arith)))
+
+  few-uses : length (jobOfSheet s .uses) ≤ 256
+  unfolding limit
+  few-uses = le-trans (first-most _ (size 4 0) (size 4 1) (size 4 2 ∷ [])) (omega (arith, column-rows 0 (s 4), within 4 (omega arith)))
+
+  abbrev needed : ℕ → ℕ
+  needed i = getD (roomsNeeded (sizesOf (jobOfSheet s))) i 0
+
+  -- line 12 of the table passes
+  enough-passed : (r : Rooms) → Enough r → Passed (line12 (sizesOf (jobOfSheet s)) r)
+  enough-passed r h zero l = le-ltb (r .uses) (needed 0) (omega (arith, few-uses, h .uses))
+  enough-passed r h (suc zero) l = le-ltb (r .gaps) (needed 1) (omega (arith, few-uses, few-blocks, h .gaps))
+  enough-passed r h (suc (suc zero)) l = le-ltb (r .«gap_segments») (needed 2) (omega (arith, few-uses, few-blocks, few-segments, h .segments))
+  enough-passed r h (suc (suc (suc zero))) l = le-ltb (r .links) (needed 3) (omega (arith, few-blocks, h .links))
+  enough-passed r h (suc (suc (suc (suc p)))) l = absurd (omega arith)
+
+-- a sheet's job is refused only by lines 1 to 11
+pub rooms-enough : (text : List ℕ) → verdict text ≡ Verdict·is.Sound → (r : Rooms) → Enough r → refusalOf (jobOfSheet (sheetOf text)) r ≡ tableRefusalOf (jobOfSheet (sheetOf text))
+rooms-enough text e r h =
+    let s = sheetOf text in
+    last-passed (jobLines (jobOfSheet s)) (line12 (sizesOf (jobOfSheet s)) r) (enough-passed s (sound-sheet text e .within) r h)
