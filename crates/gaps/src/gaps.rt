@@ -1,4 +1,5 @@
 // The gaps between uses, cut where the frequency falls.
+use links::blocks::block_near;
 use links::blocks::block_of;
 use links::lower::Side;
 use links::lower::link_at;
@@ -44,31 +45,43 @@ pub struct Space {
 }
 
 // The space between two uses.
-fn space_between(side: Side, end: &[u32], n: usize, u: SplitUse, v: SplitUse) -> Space
+fn space_between(side: Side, end: &[u32], n: usize, u: SplitUse, v: SplitUse, hint: Block) -> Space
     requires { ⌜ Ordered (now end) n u v ⌝ }
     ensures { λ r. ⌜ r ≡ spaceOf side (now (end .entry)) n u v ⌝ }
 {
     let p = u.inst.0;
     let q = v.inst.0;
     if let Side::Previous = side {
+        let last = block_near(end, n, Inst(p), hint);
+        let block = block_near(end, n, Inst(q - 1), last);
         return Space {
             edge: q,
             end: p,
             near: v.left_weight,
             far: u.right_weight,
             main: u.weight,
-            block: block_of(end, n, Inst(q - 1)),
-            last: block_of(end, n, Inst(p)),
+            block,
+            last,
         };
     }
+    let block = block_near(end, n, Inst(p + 1), hint);
+    let last = block_near(end, n, Inst(q), block);
     Space {
         edge: p + 1,
         end: q + 1,
         near: u.right_weight,
         far: v.left_weight,
         main: v.weight,
-        block: block_of(end, n, Inst(p + 1)),
-        last: block_of(end, n, Inst(q)),
+        block,
+        last,
+    }
+}
+
+// The later of a space's two blocks: the next space on the right begins there.
+fn later_block(side: Side, s: Space) -> Block {
+    match side {
+        Side::Previous => s.block,
+        Side::Next => s.last,
     }
 }
 
@@ -241,10 +254,11 @@ fn cut_side(
 {
     let mut i = i;
     let mut n = n;
+    let mut near = Block(0);
     while i < last {
         let u = use_at(inst, weight, left_weight, right_weight, i);
         let v = use_at(inst, weight, left_weight, right_weight, i + 1);
-        let s = space_between(side, end, freq.len(), u, v);
+        let s = space_between(side, end, freq.len(), u, v, near);
         n = cut_space(
             side,
             freq,
@@ -257,6 +271,7 @@ fn cut_side(
             n,
             s,
         );
+        near = later_block(side, s);
         i += 1;
     }
     n

@@ -1,7 +1,8 @@
 // The block list: its part of refusal 2, refusal 3, and the block of an instruction.
 ghost use mathlib.Core.Path.{_≡_};
-ghost use Prim.Native.Nat.{ℕ, min, _<_};
-ghost use lib.Dec.{ltb};
+ghost use mathlib.Core.Bool.{false, cond};
+ghost use Prim.Native.Nat.{ℕ, _-_, min, _≤_, _<_};
+ghost use lib.Dec.{eqb, ltb};
 ghost use lib.ListN.{length, getD};
 ghost use Rattle.links.specs.First.{firstBelow};
 ghost use Rattle.links.specs.Blocks.{blocksOf, isBad, badBlock, checkOf, Ends};
@@ -112,4 +113,34 @@ pub fn block_of(end: &[u32], n: usize, inst: Inst) -> Block
 {
     let at = search::first_at_least(end, 0, n, inst.0 + 1);
     Block(at as u32)
+}
+
+// Whether an instruction lies before a block.
+fn lies_before(end: &[u32], b: usize, inst: Inst) -> bool
+    requires { ⌜ b ≤ length (now end) ⌝ }
+    ensures { λ r. ⌜ r ≡ cond (eqb b 0) false (ltb (inst .0) (getD (now (end .entry)) (b - 1) 0)) ⌝ }
+{
+    if b == 0 {
+        return false;
+    }
+    inst.0 < end[b - 1]
+}
+
+// The same, walked to from a block that is likely to be near and not behind it: a sweep over instructions in order passes each block
+// once. Any block may be given.
+pub fn block_near(end: &[u32], n: usize, inst: Inst, near: Block) -> Block
+    requires { ⌜ Ends (now end) n (inst .0) ⌝ }
+    ensures { λ r. ⌜ r .0 ≡ firstBelow (λ (i : ℕ). ltb (inst .0) (getD (now (end .entry)) i 0)) n ⌝ }
+{
+    let mut i = near.0 as usize;
+    if i >= n {
+        return block_of(end, n, inst);
+    }
+    if lies_before(end, i, inst) {
+        return block_of(end, n, inst);
+    }
+    while end[i] <= inst.0 {
+        i += 1;
+    }
+    Block(i as u32)
 }

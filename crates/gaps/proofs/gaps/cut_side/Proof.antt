@@ -25,11 +25,11 @@ inside-less : (uses : UseColumns) (k last : ℕ) → k ≤ last → Inside last 
 inside-less uses k last h i = let a = i .inst in let b = i .main in let c = i .left in let d = i .right in record { inst = omega (arith, h, a); main = omega (arith, h, b); left = omega (arith, h, c); right = omega (arith, h, d) }
 
 abbrev Inv-loop : tie.InvT-loop
-Inv-loop side inst weight left-weight right-weight freq end edges links from₀ to₀ out-weight₀ min-freq₀ i last n i₀ n₀ from to out-weight min-freq i' n' =
+Inv-loop side inst weight left-weight right-weight freq end edges links from₀ to₀ out-weight₀ min-freq₀ i last n i₀ n₀ near₀ from to out-weight min-freq i' n' near =
     Siding (gapsAt side freq end edges links (useColumns inst weight left-weight right-weight)) i last n (columns from₀ to₀ out-weight₀ min-freq₀) (columns from to out-weight min-freq) i' n'
 
 abbrev μ-loop : tie.MeasureT-loop
-μ-loop side inst weight left-weight right-weight freq end edges links from₀ to₀ out-weight₀ min-freq₀ i last n i₀ n₀ from to out-weight min-freq i' n' = last - i'
+μ-loop side inst weight left-weight right-weight freq end edges links from₀ to₀ out-weight₀ min-freq₀ i last n i₀ n₀ near₀ from to out-weight min-freq i' n' near = last - i'
 
 loop-holds : tie.Need-loop-holds Inv-loop μ-loop
 loop-holds c = let a = c .before .before .before .before .before .before .before .before .before .before .before .before .args in siding-starts (gapsAt (a .side) (a .freq .now) (a .end .now) (a .edges .now) (a .links .now) (useColumns (a .inst .now) (a .weight .now) (a .left-weight .now) (a .right-weight .now))) (a .i) (a .last) (a .n) (columns (a .from .now) (a .to .now) (a .out-weight .now) (a .min-freq .now)) (c .before .before .before .before .before .before .before .before .before .before .before .before .pre .1 .1)
@@ -94,14 +94,17 @@ next c =
     (space-is (c .before .before .before .before .before .before .before .before .before .before .before .before .before)) (c .before .before .before .before .before .before .before .before .cut-space .ensures))
     (record { from = k .0; to = k .1 .0; weight = k .1 .1 .0; freq = k .1 .1 .1 .0 })
 
+later-block-requires : tie.Need-later-block-requires Inv-loop μ-loop
+later-block-requires c κs = tt
+
 add-i : tie.Need-add-i Inv-loop μ-loop
-add-i c = let h = c .before .before .before .before .before .before .before .before .before .before .before .before .before .before .before .before .loop-test .taken in let f = c .before .before .before .before .before .before .before .before .before .before .before .before .before .before .before .before .before .before .before .before .before .before .before .before .before .before .before .before .before .before .fits .last .fits in omega (arith, h, f)
+add-i c = let h = c .before .before .before .before .before .before .before .before .before .before .before .before .before .before .before .before .before .loop-test .taken in let f = c .before .before .before .before .before .before .before .before .before .before .before .before .before .before .before .before .before .before .before .before .before .before .before .before .before .before .before .before .before .before .before .fits .last .fits in omega (arith, h, f)
 
 loop-less : tie.Need-loop-less Inv-loop μ-loop
-loop-less c = let h = c .before .before .before .before .before .before .before .before .before .before .before .before .before .before .before .before .loop-test .taken in omega (arith, h)
+loop-less c = let h = c .before .before .before .before .before .before .before .before .before .before .before .before .before .before .before .before .before .loop-test .taken in omega (arith, h)
 
 loop-again : tie.Need-loop-again Inv-loop μ-loop
-loop-again c = next c
+loop-again c = next (c .before)
 
 same-length : tie.Need-same-length Inv-loop μ-loop
 same-length c = c .before .loop .inv .same .from
@@ -130,6 +133,7 @@ cut-side-spec =
     use-at-requires-2
     space-between-requires
     cut-space-requires
+    later-block-requires
     add-i
     loop-less
     loop-again

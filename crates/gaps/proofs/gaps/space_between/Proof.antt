@@ -24,43 +24,43 @@ space-right ends n u v p q =
 enum-told : tie.Need-enum-told
 enum-told c = search needs
 
-sub-t9 : tie.Need-sub-t9
-sub-t9 c = search needs
+block-near-requires : tie.Need-block-near-requires
+block-near-requires c κs = search needs
 
-block-of-requires : tie.Need-block-of-requires
-block-of-requires c κs = search needs
+sub-t14 : tie.Need-sub-t14
+sub-t14 c = search needs
 
-block-of-requires-2 : tie.Need-block-of-requires-2
-block-of-requires-2 c κs = search needs
+block-near-requires-2 : tie.Need-block-near-requires-2
+block-near-requires-2 c κs = search needs
 
 returns : tie.Need-returns
 returns c =
     let a = c .before .before .before .before .before .args in
-    space-left (a .end .now) (a .n) (a .u) (a .v) (c .before .block-of .ensures) (c .block-of2 .ensures)
+    space-left (a .end .now) (a .n) (a .u) (a .v) (c .block-near2 .ensures) (c .before .block-near .ensures)
     ∙ ap (λ (s : Side). spaceOf s (a .end .now) (a .n) (a .u) (a .v)) (sym (c .before .before .enum-told .given .1))
 
 enum-told-2 : tie.Need-enum-told-2
 enum-told-2 c = search needs
 
-add-t13 : tie.Need-add-t13
-add-t13 c = search needs
+add-t15 : tie.Need-add-t15
+add-t15 c = search needs
 
-add-t14 : tie.Need-add-t14
-add-t14 c = search needs
+block-near-requires-3 : tie.Need-block-near-requires-3
+block-near-requires-3 c κs = search needs
 
-add-t16 : tie.Need-add-t16
-add-t16 c = search needs
+block-near-requires-4 : tie.Need-block-near-requires-4
+block-near-requires-4 c κs = search needs
 
-block-of-requires-3 : tie.Need-block-of-requires-3
-block-of-requires-3 c κs = search needs
+add-t15-2 : tie.Need-add-t15-2
+add-t15-2 c = search needs
 
-block-of-requires-4 : tie.Need-block-of-requires-4
-block-of-requires-4 c κs = search needs
+add-t17 : tie.Need-add-t17
+add-t17 c = search needs
 
 returns-2 : tie.Need-returns-2
 returns-2 c =
     let a = c .before .before .before .before .before .args in
-    space-right (a .end .now) (a .n) (a .u) (a .v) (c .before .block-of3 .ensures) (c .block-of4 .ensures)
+    space-right (a .end .now) (a .n) (a .u) (a .v) (c .before .block-near3 .ensures) (c .block-near4 .ensures)
     ∙ ap (λ (s : Side). spaceOf s (a .end .now) (a .n) (a .u) (a .v)) (sym (c .before .before .enum-told2 .given .1))
 
 pub space-between-spec : {M : Type 1} → statement M
@@ -68,14 +68,14 @@ space-between-spec =
     tie.close
     (tie.spec
     enum-told
-    sub-t9
-    block-of-requires
-    block-of-requires-2
+    block-near-requires
+    sub-t14
+    block-near-requires-2
     returns
     enum-told-2
-    add-t13
-    add-t14
-    add-t16
-    block-of-requires-3
-    block-of-requires-4
+    add-t15
+    block-near-requires-3
+    block-near-requires-4
+    add-t15-2
+    add-t17
     returns-2)
