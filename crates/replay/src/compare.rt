@@ -1,12 +1,12 @@
 // One record: its sheet is answered, and the answer and each row of its tables are held to what is recorded.
 use crate::text::behind;
 use crate::text::part;
-use crate::text::same;
 use answers::answer::answer_sheet;
 use answers::rows::gap_row;
 use answers::rows::gap_segment_row;
 use answers::rows::link_row;
 use answers::rows::use_row;
+use check::same;
 use libc::STDOUT_FILENO;
 use sheet::Written;
 

@@ -50,18 +50,3 @@ pub(crate) fn behind(text: &[u8], w: u8, lines: usize) -> &[u8] {
     }
     part(text, w as usize * lines, text.len())
 }
-
-// Whether two texts are the same.
-pub(crate) fn same(a: &[u8], b: &[u8]) -> bool {
-    if a.len() != b.len() {
-        return false;
-    }
-    let mut i: usize = 0;
-    while i < a.len() {
-        if a[i] != byte_at(b, i) {
-            return false;
-        }
-        i += 1;
-    }
-    true
-}

@@ -5,7 +5,10 @@
 // those of a text that has more decide its answer (proofs/Front.antt of `answers`). The work tables have room for every sheet
 // (proofs/Rooms.antt there). What is read and written is not proved; the work is done by `answer_sheet`, on slices.
 use answers::answer::answer_sheet;
-use answers::figures::bits_shown;
+use answers::rows::gap_row;
+use answers::rows::gap_segment_row;
+use answers::rows::link_row;
+use answers::rows::use_row;
 use libc::STDERR_FILENO;
 use libc::STDIN_FILENO;
 use libc::STDOUT_FILENO;
@@ -181,25 +184,9 @@ fn print_line(letter: u8, fields: &[u32]) -> bool {
     print_front(&line, n)
 }
 
-// A number of a column; no row that is used lies past its end.
-fn number_at(column: &[u32], i: usize) -> u32 {
-    if i < column.len() {
-        return column[i];
-    }
-    0
-}
-
-// The bits of a weight of a column.
-fn bits_at(column: &[f32], i: usize) -> u32 {
-    if i < column.len() {
-        return bits_shown(column[i]);
-    }
-    0
-}
-
 fn print_links(prev: &[u32], next: &[u32], rows: usize) -> bool {
     for i in 0..rows {
-        let row = [number_at(prev, i), number_at(next, i)];
+        let row = link_row(prev, next, i);
         if !print_line(b'l', &row) {
             return false;
         }
@@ -209,12 +196,7 @@ fn print_links(prev: &[u32], next: &[u32], rows: usize) -> bool {
 
 fn print_uses(inst: &[u32], weight: &[f32], left: &[f32], right: &[f32], rows: usize) -> bool {
     for i in 0..rows {
-        let row = [
-            number_at(inst, i),
-            bits_at(weight, i),
-            bits_at(left, i),
-            bits_at(right, i),
-        ];
+        let row = use_row(inst, weight, left, right, i);
         if !print_line(b'u', &row) {
             return false;
         }
@@ -231,13 +213,7 @@ fn print_gaps(
     rows: usize,
 ) -> bool {
     for i in 0..rows {
-        let row = [
-            number_at(from, i),
-            number_at(to, i),
-            bits_at(weight, i),
-            number_at(live, i),
-            bits_at(freq, i),
-        ];
+        let row = gap_row(from, to, weight, live, freq, i);
         if !print_line(b'g', &row) {
             return false;
         }
@@ -247,12 +223,7 @@ fn print_gaps(
 
 fn print_gap_segments(from: &[u32], to: &[u32], value: &[u32], gap: &[u32], rows: usize) -> bool {
     for i in 0..rows {
-        let row = [
-            number_at(from, i),
-            number_at(to, i),
-            number_at(value, i),
-            number_at(gap, i),
-        ];
+        let row = gap_segment_row(from, to, value, gap, i);
         if !print_line(b'o', &row) {
             return false;
         }

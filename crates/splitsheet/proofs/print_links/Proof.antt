@@ -1,7 +1,8 @@
 -- `print_links` ends: it goes on by one row a turn
 use native.Mathlib.Omega.{arith}
 use Prim.Native.Nat.{_-_, _≤_}
-use mathlib.Core.Path.{refl}
+use mathlib.Core.Path.{sym, ap}
+use lib.ListN.{length}
 use Rattle.splitsheet.proofs.print_links.Statement.{statement}
 use Rattle.splitsheet.proofs.print_links.Tie as tie
 
@@ -14,14 +15,11 @@ abbrev μ-loop : tie.MeasureT-loop
 loop-holds : tie.Need-loop-holds Inv-loop μ-loop
 loop-holds c = omega arith
 
-number-at-requires : tie.Need-number-at-requires Inv-loop μ-loop
-number-at-requires c κs = tt
-
-number-at-requires-2 : tie.Need-number-at-requires-2 Inv-loop μ-loop
-number-at-requires-2 c κs = tt
+link-row-requires : tie.Need-link-row-requires Inv-loop μ-loop
+link-row-requires c κs = tt
 
 slice-aggregate-print-line : tie.Need-slice-aggregate-print-line Inv-loop μ-loop
-slice-aggregate-print-line c = refl
+slice-aggregate-print-line c = sym (ap length (c .before .link-row .ensures))
 
 print-line-requires : tie.Need-print-line-requires Inv-loop μ-loop
 print-line-requires c κs = tt
@@ -48,8 +46,7 @@ print-links-spec =
     Inv-loop
     μ-loop
     loop-holds
-    number-at-requires
-    number-at-requires-2
+    link-row-requires
     slice-aggregate-print-line
     print-line-requires
     returns
