@@ -1,8 +1,20 @@
-// The rows of a job's tables as fields of a line: weights are given as their bits.
+// The rows of a job's tables as lines: weights are given as their bits.
 use crate::figures::bits_shown;
+use sheet::Written;
+use sheet::write_line;
 ghost use mathlib.Core.Path.{_≡_};
 ghost use mathlib.Core.List.{[], _∷_};
-ghost use Rattle.answers.specs.Rows.{numberIn, bitsIn};
+ghost use Rattle.sheet.specs.Answer.{Wrote};
+ghost use Rattle.proposer.specs.Answer.{workColumns};
+ghost use Rattle.answers.specs.Rows.{numberIn, bitsIn, rowText};
+
+// A table that a job fills.
+pub enum Table {
+    Links,
+    Uses,
+    Gaps,
+    GapSegments,
+}
 
 // A number of a column; 0 past its end.
 fn number_at(column: &[u32], i: usize) -> u32
@@ -25,14 +37,14 @@ fn bits_at(column: &[f32], i: usize) -> u32
 }
 
 // The links of block i.
-pub fn link_row(prev: &[u32], next: &[u32], i: usize) -> [u32; 2]
+fn link_row(prev: &[u32], next: &[u32], i: usize) -> [u32; 2]
     ensures { λ r. ⌜ r ≡ numberIn (now (prev .entry)) i ∷ numberIn (now (next .entry)) i ∷ [] ⌝ }
 {
     [number_at(prev, i), number_at(next, i)]
 }
 
 // Row i of the use table.
-pub fn use_row(inst: &[u32], weight: &[f32], left: &[f32], right: &[f32], i: usize) -> [u32; 4]
+fn use_row(inst: &[u32], weight: &[f32], left: &[f32], right: &[f32], i: usize) -> [u32; 4]
     ensures { λ r. ⌜ r ≡ numberIn (now (inst .entry)) i ∷ bitsIn (now (weight .entry)) i ∷ bitsIn (now (left .entry)) i ∷ bitsIn (now (right .entry)) i ∷ [] ⌝ }
 {
     [
@@ -44,7 +56,7 @@ pub fn use_row(inst: &[u32], weight: &[f32], left: &[f32], right: &[f32], i: usi
 }
 
 // Gap i.
-pub fn gap_row(
+fn gap_row(
     from: &[u32],
     to: &[u32],
     weight: &[f32],
@@ -64,7 +76,7 @@ pub fn gap_row(
 }
 
 // Gap segment i.
-pub fn gap_segment_row(from: &[u32], to: &[u32], value: &[u32], gap: &[u32], i: usize) -> [u32; 4]
+fn gap_segment_row(from: &[u32], to: &[u32], value: &[u32], gap: &[u32], i: usize) -> [u32; 4]
     ensures { λ r. ⌜ r ≡ numberIn (now (from .entry)) i ∷ numberIn (now (to .entry)) i ∷ numberIn (now (value .entry)) i ∷ numberIn (now (gap .entry)) i ∷ [] ⌝ }
 {
     [
@@ -73,4 +85,47 @@ pub fn gap_segment_row(from: &[u32], to: &[u32], value: &[u32], gap: &[u32], i: 
         number_at(value, i),
         number_at(gap, i),
     ]
+}
+
+// Writes row i of a table as a line to the front of `out`.
+pub fn write_row(
+    table: Table,
+    prev: &[u32],
+    next: &[u32],
+    inst: &[u32],
+    weight: &[f32],
+    left: &[f32],
+    right: &[f32],
+    from: &[u32],
+    to: &[u32],
+    gap_weight: &[f32],
+    live: &[u32],
+    freq: &[f32],
+    out_from: &[u32],
+    out_to: &[u32],
+    out_value: &[u32],
+    out_gap: &[u32],
+    i: usize,
+    out: &mut [u8],
+) -> Written
+    ensures { λ r. ⌜ Wrote (rowText table (workColumns (now (prev .entry)) (now (next .entry)) (now (inst .entry)) (now (weight .entry)) (now (left .entry)) (now (right .entry)) (now (from .entry)) (now (to .entry)) (now («gap_weight» .entry)) (now (live .entry)) (now (freq .entry)) (now («out_from» .entry)) (now («out_to» .entry)) (now («out_value» .entry)) (now («out_gap» .entry))) i) (now (out .entry)) (now (out .exit)) r ⌝ }
+{
+    match table {
+        Table::Links => {
+            let row = link_row(prev, next, i);
+            write_line(out, b'l', &row)
+        }
+        Table::Uses => {
+            let row = use_row(inst, weight, left, right, i);
+            write_line(out, b'u', &row)
+        }
+        Table::Gaps => {
+            let row = gap_row(from, to, gap_weight, live, freq, i);
+            write_line(out, b'g', &row)
+        }
+        Table::GapSegments => {
+            let row = gap_segment_row(out_from, out_to, out_value, out_gap, i);
+            write_line(out, b'o', &row)
+        }
+    }
 }

@@ -2,13 +2,11 @@
 use crate::text::behind;
 use crate::text::part;
 use answers::answer::answer_sheet;
-use answers::rows::gap_row;
-use answers::rows::gap_segment_row;
-use answers::rows::link_row;
-use answers::rows::use_row;
-use check::same;
+use answers::rows::Table;
+use answers::rows::write_row;
 use libc::STDOUT_FILENO;
 use sheet::Written;
+use sheet::same;
 
 // How many rows each table has.
 pub struct Rows {
@@ -18,61 +16,60 @@ pub struct Rows {
     pub gap_segments: usize,
 }
 
-// Whether a text starts with the line that the code gives.
-fn line_is(text: &[u8], letter: u8, fields: &[u32]) -> bool {
-    let mut line = [0u8; 57];
-    let w = sheet::write_line(&mut line, letter, fields);
+// Whether a text starts with a line that was written.
+fn starts_with(text: &[u8], line: &[u8], w: Written) -> bool {
     let Written::Bytes(n) = w else {
         return false;
     };
-    same(part(&line, 0, n), part(text, 0, n))
+    same(part(line, 0, n), part(text, 0, n))
 }
 
-// How many rows agree, from the first on. The table's lines stand at the front of what is lent.
-fn links_same(table: &[u8], rows: usize, prev: &[u32], next: &[u32]) -> usize {
-    let mut i: usize = 0;
-    while i < rows {
-        let row = link_row(prev, next, i);
-        if !line_is(behind(table, 24, i), b'l', &row) {
-            return i;
-        }
-        i += 1;
-    }
-    i
-}
-
-fn uses_same(
-    table: &[u8],
+// How many rows agree, from the first on. The table's lines, of w bytes each, stand at the front of the text.
+fn rows_same(
+    table: Table,
+    text: &[u8],
+    w: u8,
     rows: usize,
+    prev: &[u32],
+    next: &[u32],
     inst: &[u32],
     weight: &[f32],
     left: &[f32],
     right: &[f32],
-) -> usize {
-    let mut i: usize = 0;
-    while i < rows {
-        let row = use_row(inst, weight, left, right, i);
-        if !line_is(behind(table, 46, i), b'u', &row) {
-            return i;
-        }
-        i += 1;
-    }
-    i
-}
-
-fn gaps_same(
-    table: &[u8],
-    rows: usize,
     from: &[u32],
     to: &[u32],
-    weight: &[f32],
+    gap_weight: &[f32],
     live: &[u32],
     freq: &[f32],
+    out_from: &[u32],
+    out_to: &[u32],
+    out_value: &[u32],
+    out_gap: &[u32],
 ) -> usize {
     let mut i: usize = 0;
     while i < rows {
-        let row = gap_row(from, to, weight, live, freq, i);
-        if !line_is(behind(table, 57, i), b'g', &row) {
+        let mut line = [0u8; 57];
+        let written = write_row(
+            table,
+            prev,
+            next,
+            inst,
+            weight,
+            left,
+            right,
+            from,
+            to,
+            gap_weight,
+            live,
+            freq,
+            out_from,
+            out_to,
+            out_value,
+            out_gap,
+            i,
+            &mut line,
+        );
+        if !starts_with(behind(text, w, i), &line, written) {
             return i;
         }
         i += 1;
@@ -80,50 +77,49 @@ fn gaps_same(
     i
 }
 
-fn gap_segments_same(
-    table: &[u8],
-    rows: usize,
-    from: &[u32],
-    to: &[u32],
-    value: &[u32],
-    gap: &[u32],
-) -> usize {
-    let mut i: usize = 0;
-    while i < rows {
-        let row = gap_segment_row(from, to, value, gap, i);
-        if !line_is(behind(table, 46, i), b'o', &row) {
-            return i;
-        }
-        i += 1;
-    }
-    i
-}
-
-// Names a difference.
-fn tell(record: usize, table: &[u8]) {
+// Names a record.
+fn tell(record: usize) {
     io::write_all(STDOUT_FILENO, b"record ");
     io::print_decimal(STDOUT_FILENO, record as u64);
     io::write_all(STDOUT_FILENO, b": ");
-    io::write_all(STDOUT_FILENO, table);
 }
 
-// Whether a table agrees: as many rows, and all of them the same; else its first row that differs is named.
+// Names a record and a table.
+fn tell_table(record: usize, table: Table) {
+    tell(record);
+    match table {
+        Table::Links => {
+            io::write_all(STDOUT_FILENO, b"links");
+        }
+        Table::Uses => {
+            io::write_all(STDOUT_FILENO, b"uses");
+        }
+        Table::Gaps => {
+            io::write_all(STDOUT_FILENO, b"gaps");
+        }
+        Table::GapSegments => {
+            io::write_all(STDOUT_FILENO, b"gap segments");
+        }
+    }
+}
+
+// Whether a table agrees: as many rows as recorded, and so many of them the same; else its first row that differs is named.
 fn table_agrees(
     record: usize,
-    table: &[u8],
+    table: Table,
     rows: usize,
     recorded: usize,
     agreeing: usize,
 ) -> bool {
     if agreeing < recorded {
-        tell(record, table);
+        tell_table(record, table);
         io::write_all(STDOUT_FILENO, b" differ at row ");
         io::print_decimal(STDOUT_FILENO, agreeing as u64);
         io::write_all(STDOUT_FILENO, b"\n");
         return false;
     }
     if rows != recorded {
-        tell(record, table);
+        tell_table(record, table);
         io::write_all(STDOUT_FILENO, b" have ");
         io::print_decimal(STDOUT_FILENO, rows as u64);
         io::write_all(STDOUT_FILENO, b" rows, not ");
@@ -134,22 +130,145 @@ fn table_agrees(
     true
 }
 
+// Whether all tables agree. Their lines stand one table behind the other.
+fn tables_agree(
+    record: usize,
+    text: &[u8],
+    found: Rows,
+    recorded: Rows,
+    prev: &[u32],
+    next: &[u32],
+    inst: &[u32],
+    weight: &[f32],
+    left: &[f32],
+    right: &[f32],
+    from: &[u32],
+    to: &[u32],
+    gap_weight: &[f32],
+    live: &[u32],
+    freq: &[f32],
+    out_from: &[u32],
+    out_to: &[u32],
+    out_value: &[u32],
+    out_gap: &[u32],
+) -> bool {
+    let after_links = behind(text, 24, recorded.links);
+    let after_uses = behind(after_links, 46, recorded.uses);
+    let after_gaps = behind(after_uses, 57, recorded.gaps);
+    let l = rows_same(
+        Table::Links,
+        text,
+        24,
+        recorded.links,
+        prev,
+        next,
+        inst,
+        weight,
+        left,
+        right,
+        from,
+        to,
+        gap_weight,
+        live,
+        freq,
+        out_from,
+        out_to,
+        out_value,
+        out_gap,
+    );
+    let u = rows_same(
+        Table::Uses,
+        after_links,
+        46,
+        recorded.uses,
+        prev,
+        next,
+        inst,
+        weight,
+        left,
+        right,
+        from,
+        to,
+        gap_weight,
+        live,
+        freq,
+        out_from,
+        out_to,
+        out_value,
+        out_gap,
+    );
+    let g = rows_same(
+        Table::Gaps,
+        after_uses,
+        57,
+        recorded.gaps,
+        prev,
+        next,
+        inst,
+        weight,
+        left,
+        right,
+        from,
+        to,
+        gap_weight,
+        live,
+        freq,
+        out_from,
+        out_to,
+        out_value,
+        out_gap,
+    );
+    let o = rows_same(
+        Table::GapSegments,
+        after_gaps,
+        46,
+        recorded.gap_segments,
+        prev,
+        next,
+        inst,
+        weight,
+        left,
+        right,
+        from,
+        to,
+        gap_weight,
+        live,
+        freq,
+        out_from,
+        out_to,
+        out_value,
+        out_gap,
+    );
+    let a = table_agrees(record, Table::Links, found.links, recorded.links, l);
+    let b = table_agrees(record, Table::Uses, found.uses, recorded.uses, u);
+    let c = table_agrees(record, Table::Gaps, found.gaps, recorded.gaps, g);
+    let d = table_agrees(
+        record,
+        Table::GapSegments,
+        found.gap_segments,
+        recorded.gap_segments,
+        o,
+    );
+    a && b && c && d
+}
+
 // Whether the answer's bytes are those recorded.
 fn answer_agrees(record: usize, out: &[u8], w: Written, answer: &[u8]) -> bool {
     let Written::Bytes(n) = w else {
-        tell(record, b"no room for the answer\n");
+        tell(record);
+        io::write_all(STDOUT_FILENO, b"no room for the answer\n");
         return false;
     };
     if same(part(out, 0, n), answer) {
         return true;
     }
-    tell(record, b"answer differs\n");
+    tell(record);
+    io::write_all(STDOUT_FILENO, b"answer differs\n");
     false
 }
 
-// Whether five things agree.
-fn all_agree(a: bool, b: bool, c: bool, d: bool, e: bool) -> bool {
-    a && b && c && d && e
+fn both(a: bool, b: bool) -> bool {
+    a && b
 }
 
 // Answers a record's sheet with the tables lent, and says whether the answer and the tables agree with those recorded.
@@ -198,32 +317,35 @@ fn replay_lent(
         out,
     );
     let w = r.written;
-    let after_links = behind(tables, 24, rows.links);
-    let after_uses = behind(after_links, 46, rows.uses);
-    let after_gaps = behind(after_uses, 57, rows.gaps);
-    let l = links_same(tables, rows.links, prev, next);
-    let u = uses_same(after_links, rows.uses, inst, weight, left, right);
-    let g = gaps_same(after_uses, rows.gaps, from, to, gap_weight, live, freq);
-    let o = gap_segments_same(
-        after_gaps,
-        rows.gap_segments,
+    let found = Rows {
+        links: r.links,
+        uses: r.uses,
+        gaps: r.gaps,
+        gap_segments: r.gap_segments,
+    };
+    let a = answer_agrees(record, out, w, answer);
+    let t = tables_agree(
+        record,
+        tables,
+        found,
+        rows,
+        prev,
+        next,
+        inst,
+        weight,
+        left,
+        right,
+        from,
+        to,
+        gap_weight,
+        live,
+        freq,
         out_from,
         out_to,
         out_value,
         out_gap,
     );
-    let a = answer_agrees(record, out, w, answer);
-    let b = table_agrees(record, b"links", r.links, rows.links, l);
-    let c = table_agrees(record, b"uses", r.uses, rows.uses, u);
-    let d = table_agrees(record, b"gaps", r.gaps, rows.gaps, g);
-    let e = table_agrees(
-        record,
-        b"gap segments",
-        r.gap_segments,
-        rows.gap_segments,
-        o,
-    );
-    all_agree(a, b, c, d, e)
+    both(a, t)
 }
 
 // The first rows of a column, as far as it has them.

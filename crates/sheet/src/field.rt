@@ -58,7 +58,7 @@ pub(crate) fn put_number(out: &mut [u8], at: usize, n: u32)
 }
 
 // Whether two texts are the same.
-fn same(a: &[u8], b: &[u8]) -> bool
+pub fn same(a: &[u8], b: &[u8]) -> bool
     ensures { λ r. ⌜ r ≡ sameText (now (a .entry)) (now (b .entry)) ⌝ }
 {
     if a.len() != b.len() {

@@ -19,6 +19,7 @@ mod write;
 pub use check::Reading;
 pub use check::Verdict;
 pub use check::check_text;
+pub use field::same;
 pub use fill::CELLS;
 pub use fill::column_of;
 pub use fill::read_sheet;

@@ -5,14 +5,13 @@
 // those of a text that has more decide its answer (proofs/Front.antt of `answers`). The work tables have room for every sheet
 // (proofs/Rooms.antt there). What is read and written is not proved; the work is done by `answer_sheet`, on slices.
 use answers::answer::answer_sheet;
-use answers::rows::gap_row;
-use answers::rows::gap_segment_row;
-use answers::rows::link_row;
-use answers::rows::use_row;
+use answers::rows::Table;
+use answers::rows::write_row;
 use libc::STDERR_FILENO;
 use libc::STDIN_FILENO;
 use libc::STDOUT_FILENO;
 use sheet::Written;
+use sheet::same;
 ghost use Prim.Native.Nat.{_≤_};
 ghost use mathlib.Core.Path.{_≡_};
 ghost use lib.ListN.{length};
@@ -49,7 +48,7 @@ fn complain_errno(what: &[u8]) {
 fn tables_asked() -> bool {
     let mut word = [0u8; 9];
     let n = os::arg(1, &mut word);
-    check::same(&word[..n], b"--tables")
+    same(&word[..n], b"--tables")
 }
 
 // Whether a word is an option: `-` alone is standard input.
@@ -72,7 +71,7 @@ fn sheet_asked(tables: bool, at: usize) -> Asked {
         complain(b"unknown or second option: ", &path[..n]);
         return Asked::Refused;
     }
-    if check::same(&path[..n], b"-") {
+    if same(&path[..n], b"-") {
         return Asked::Sheet(tables, 0);
     }
     Asked::Sheet(tables, at)
@@ -175,63 +174,244 @@ fn print_front(text: &[u8], n: usize) -> bool {
     false
 }
 
-fn print_line(letter: u8, fields: &[u32]) -> bool {
-    let mut line = [0u8; 57];
-    let w = sheet::write_line(&mut line, letter, fields);
+// The same of what a call has written there.
+fn print_written(text: &[u8], w: Written) -> bool {
     let Written::Bytes(n) = w else {
         return false;
     };
-    print_front(&line, n)
+    print_front(text, n)
 }
 
-fn print_links(prev: &[u32], next: &[u32], rows: usize) -> bool {
-    for i in 0..rows {
-        let row = link_row(prev, next, i);
-        if !print_line(b'l', &row) {
-            return false;
-        }
-    }
-    true
-}
-
-fn print_uses(inst: &[u32], weight: &[f32], left: &[f32], right: &[f32], rows: usize) -> bool {
-    for i in 0..rows {
-        let row = use_row(inst, weight, left, right, i);
-        if !print_line(b'u', &row) {
-            return false;
-        }
-    }
-    true
-}
-
-fn print_gaps(
+// Prints the first rows of a table, and answers whether they were written.
+fn print_table(
+    table: Table,
+    rows: usize,
+    prev: &[u32],
+    next: &[u32],
+    inst: &[u32],
+    weight: &[f32],
+    left: &[f32],
+    right: &[f32],
     from: &[u32],
     to: &[u32],
-    weight: &[f32],
+    gap_weight: &[f32],
     live: &[u32],
     freq: &[f32],
-    rows: usize,
+    out_from: &[u32],
+    out_to: &[u32],
+    out_value: &[u32],
+    out_gap: &[u32],
 ) -> bool {
-    for i in 0..rows {
-        let row = gap_row(from, to, weight, live, freq, i);
-        if !print_line(b'g', &row) {
+    let mut i: usize = 0;
+    while i < rows {
+        let mut line = [0u8; 57];
+        let w = write_row(
+            table,
+            prev,
+            next,
+            inst,
+            weight,
+            left,
+            right,
+            from,
+            to,
+            gap_weight,
+            live,
+            freq,
+            out_from,
+            out_to,
+            out_value,
+            out_gap,
+            i,
+            &mut line,
+        );
+        if !print_written(&line, w) {
             return false;
         }
+        i += 1;
     }
     true
 }
 
-fn print_gap_segments(from: &[u32], to: &[u32], value: &[u32], gap: &[u32], rows: usize) -> bool {
-    for i in 0..rows {
-        let row = gap_segment_row(from, to, value, gap, i);
-        if !print_line(b'o', &row) {
-            return false;
-        }
+// Prints the rows used of all tables, where they are asked for and the answer was written.
+fn print_tables(
+    asked: bool,
+    is_written: bool,
+    links: usize,
+    uses: usize,
+    gaps: usize,
+    gap_segments: usize,
+    prev: &[u32],
+    next: &[u32],
+    inst: &[u32],
+    weight: &[f32],
+    left: &[f32],
+    right: &[f32],
+    from: &[u32],
+    to: &[u32],
+    gap_weight: &[f32],
+    live: &[u32],
+    freq: &[f32],
+    out_from: &[u32],
+    out_to: &[u32],
+    out_value: &[u32],
+    out_gap: &[u32],
+) -> bool {
+    if !is_written {
+        return false;
     }
-    true
+    if !asked {
+        return true;
+    }
+    let a = print_table(
+        Table::Links,
+        links,
+        prev,
+        next,
+        inst,
+        weight,
+        left,
+        right,
+        from,
+        to,
+        gap_weight,
+        live,
+        freq,
+        out_from,
+        out_to,
+        out_value,
+        out_gap,
+    );
+    let b = print_table(
+        Table::Uses,
+        uses,
+        prev,
+        next,
+        inst,
+        weight,
+        left,
+        right,
+        from,
+        to,
+        gap_weight,
+        live,
+        freq,
+        out_from,
+        out_to,
+        out_value,
+        out_gap,
+    );
+    let c = print_table(
+        Table::Gaps,
+        gaps,
+        prev,
+        next,
+        inst,
+        weight,
+        left,
+        right,
+        from,
+        to,
+        gap_weight,
+        live,
+        freq,
+        out_from,
+        out_to,
+        out_value,
+        out_gap,
+    );
+    let d = print_table(
+        Table::GapSegments,
+        gap_segments,
+        prev,
+        next,
+        inst,
+        weight,
+        left,
+        right,
+        from,
+        to,
+        gap_weight,
+        live,
+        freq,
+        out_from,
+        out_to,
+        out_value,
+        out_gap,
+    );
+    a && b && c && d
 }
 
-// Prints the answer to a text, and answers whether all was written.
+// Prints the answer to a text, with the tables lent, and answers whether all was written.
+fn print_lent(
+    text: &[u8],
+    tables: bool,
+    cells: &mut [u32],
+    prev: &mut [u32],
+    next: &mut [u32],
+    inst: &mut [u32],
+    weight: &mut [f32],
+    left: &mut [f32],
+    right: &mut [f32],
+    from: &mut [u32],
+    to: &mut [u32],
+    gap_weight: &mut [f32],
+    live: &mut [u32],
+    freq: &mut [f32],
+    out_from: &mut [u32],
+    out_to: &mut [u32],
+    out_value: &mut [u32],
+    out_gap: &mut [u32],
+    out: &mut [u8],
+) -> bool {
+    let r = answer_sheet(
+        text,
+        cells,
+        prev,
+        next,
+        inst,
+        weight,
+        left,
+        right,
+        from,
+        to,
+        gap_weight,
+        live,
+        freq,
+        out_from,
+        out_to,
+        out_value,
+        out_gap,
+        out,
+    );
+    let w = r.written;
+    let is_written = print_written(out, w);
+    print_tables(
+        tables,
+        is_written,
+        r.links,
+        r.uses,
+        r.gaps,
+        r.gap_segments,
+        prev,
+        next,
+        inst,
+        weight,
+        left,
+        right,
+        from,
+        to,
+        gap_weight,
+        live,
+        freq,
+        out_from,
+        out_to,
+        out_value,
+        out_gap,
+    )
+}
+
+// The same, with room for every sheet.
 fn print_answer(text: &[u8], tables: bool) -> bool {
     let mut cells = [0u32; 4101];
     let mut prev = [0u32; 128];
@@ -250,8 +430,9 @@ fn print_answer(text: &[u8], tables: bool) -> bool {
     let mut out_value = [0u32; 514];
     let mut out_gap = [0u32; 514];
     let mut out = [0u8; 81];
-    let r = answer_sheet(
+    print_lent(
         text,
+        tables,
         &mut cells,
         &mut prev,
         &mut next,
@@ -269,27 +450,7 @@ fn print_answer(text: &[u8], tables: bool) -> bool {
         &mut out_value,
         &mut out_gap,
         &mut out,
-    );
-    let w = r.written;
-    let Written::Bytes(n) = w else {
-        return false;
-    };
-    if !print_front(&out, n) {
-        return false;
-    }
-    if !tables {
-        return true;
-    }
-    if !print_links(&prev, &next, r.links) {
-        return false;
-    }
-    if !print_uses(&inst, &weight, &left, &right, r.uses) {
-        return false;
-    }
-    if !print_gaps(&from, &to, &gap_weight, &live, &freq, r.gaps) {
-        return false;
-    }
-    print_gap_segments(&out_from, &out_to, &out_value, &out_gap, r.gap_segments)
+    )
 }
 
 fn main() {

@@ -1,0 +1,66 @@
+-- `rows_same` ends: it goes on by one row a turn
+use native.Mathlib.Omega.{arith}
+use Prim.Native.Nat.{_-_, _≤_}
+use borrow.Author.Needs.{needs}
+use Rattle.replay.proofs.compare.rows_same.Statement.{statement}
+use Rattle.replay.proofs.compare.rows_same.Tie as tie
+
+abbrev Inv-loop : tie.InvT-loop
+Inv-loop table text w rows prev next inst weight left right from to gap-weight live freq out-from out-to out-value out-gap i₀ i = i ≤ rows
+
+abbrev μ-loop : tie.MeasureT-loop
+μ-loop table text w rows prev next inst weight left right from to gap-weight live freq out-from out-to out-value out-gap i₀ i = rows - i
+
+loop-holds : tie.Need-loop-holds Inv-loop μ-loop
+loop-holds c = omega arith
+
+slice-aggregate-write-row : tie.Need-slice-aggregate-write-row Inv-loop μ-loop
+slice-aggregate-write-row c = search needs
+
+write-row-requires : tie.Need-write-row-requires Inv-loop μ-loop
+write-row-requires c κs = tt
+
+behind-requires : tie.Need-behind-requires Inv-loop μ-loop
+behind-requires c κs = tt
+
+slice-aggregate-starts-with : tie.Need-slice-aggregate-starts-with Inv-loop μ-loop
+slice-aggregate-starts-with c = search needs
+
+starts-with-requires : tie.Need-starts-with-requires Inv-loop μ-loop
+starts-with-requires c κs = tt
+
+returns : tie.Need-returns Inv-loop μ-loop
+returns c = tt
+
+add-i : tie.Need-add-i Inv-loop μ-loop
+add-i c =
+    let h = c .before .before .before .before .before .before .before .loop-test .taken in
+    let r = c .before .before .before .before .before .before .before .before .before .before .before .before .before .before .before .before .before .before .before .before .before .before .before .before .before .fits .rows in
+    omega (arith, h, r)
+
+loop-less : tie.Need-loop-less Inv-loop μ-loop
+loop-less c = let h = c .before .before .before .before .before .before .before .loop-test .taken in omega (arith, h)
+
+loop-again : tie.Need-loop-again Inv-loop μ-loop
+loop-again c = omega arith
+
+returns-2 : tie.Need-returns-2 Inv-loop μ-loop
+returns-2 c = tt
+
+pub rows-same-spec : {M : Type 1} → statement M
+rows-same-spec =
+    tie.close
+    (tie.spec
+    Inv-loop
+    μ-loop
+    loop-holds
+    slice-aggregate-write-row
+    write-row-requires
+    behind-requires
+    slice-aggregate-starts-with
+    starts-with-requires
+    returns
+    add-i
+    loop-less
+    loop-again
+    returns-2)
