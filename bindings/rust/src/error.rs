@@ -222,10 +222,9 @@ impl From<Refusal> for Error {
 
 /// An error where the columns of a table differ in length.
 pub(crate) fn same_length<const N: usize>(table: Table, lengths: [usize; N]) -> Result<(), Error> {
-    let (mut shortest, mut longest) = (usize::MAX, 0);
-    for length in lengths {
-        shortest = shortest.min(length);
-        longest = longest.max(length);
+    if lengths.iter().all(|length| *length == lengths[0]) {
+        return Ok(());
     }
-    if shortest == longest { Ok(()) } else { Err(LengthMismatch { table, shortest, longest }.into()) }
+    let [shortest, longest] = lengths.iter().fold([usize::MAX, 0], |[a, b], length| [a.min(*length), b.max(*length)]);
+    Err(LengthMismatch { table, shortest, longest }.into())
 }

@@ -159,6 +159,11 @@ pub mod reservation_kind {
 pub fn propose_split(job: &Job<'_>, work: &mut WorkTables<'_>) -> Result<Proposed, Error> {
     job.check_lengths()?;
     work.check_lengths()?;
+    propose_with(job, work)
+}
+
+/// The same for columns whose lengths are known to fit.
+fn propose_with(job: &Job<'_>, work: &mut WorkTables<'_>) -> Result<Proposed, Error> {
     let words = call::propose_split(job, work);
     answer::proposed(&words).map_err(Error::Refused)
 }

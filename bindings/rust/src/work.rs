@@ -3,9 +3,9 @@
 use crate::answer::{Answer, Rows};
 use crate::error::{Error, Table, same_length};
 use crate::job::Job;
-use crate::{MOST_ITEMS, propose_split};
+use crate::{MOST_ITEMS, propose_with};
 
-/// Work tables that the caller lends to [`propose_split`]. The columns of one table must have one length.
+/// Work tables that the caller lends to [`propose_split`](crate::propose_split). The columns of one table must have one length.
 ///
 /// With U uses, B blocks and S segments a job needs U+2 rows of uses, U+B+2 gaps, U+B+S+2 gap segments and B links; with fewer it is
 /// refused by 12.
@@ -152,9 +152,10 @@ impl Scratch {
     /// from 1 to 11.
     pub fn propose_split(&mut self, job: &Job<'_>) -> Result<Answer, Error> {
         (self.blocks, self.rows) = (0, Rows::default());
+        job.check_lengths()?;
         let blocks = job.blocks.end.len();
         self.grow(job.uses.position.len(), blocks, job.segments.start.len());
-        let proposed = propose_split(job, &mut self.lent())?;
+        let proposed = propose_with(job, &mut self.lent())?;
         (self.blocks, self.rows) = (blocks, proposed.rows);
         Ok(proposed.answer)
     }
@@ -199,24 +200,24 @@ impl Scratch {
         }
     }
 
-    /// As many rows as refusal 12 asks for. A table above the limit is refused before that, and needs none.
+    /// As many rows as refusal 12 asks for. A table above the limit is refused before that, and needs none. The columns of one table
+    /// grow together, so the first tells for all.
     fn grow(&mut self, uses: usize, blocks: usize, segments: usize) {
         let [u, b, s] = [uses, blocks, segments].map(|items| items.min(MOST_ITEMS));
-        for column in [&mut self.prev_lower_freq, &mut self.next_lower_freq] {
-            at_least(column, b);
+        let [links, uses, gaps, gap_segments] = [b, u + 2, u + b + 2, u + b + s + 2];
+        if self.prev_lower_freq.len() < links {
+            resize([&mut self.prev_lower_freq, &mut self.next_lower_freq], links);
         }
-        at_least(&mut self.inst, u + 2);
-        for column in [&mut self.weight, &mut self.left_weight, &mut self.right_weight] {
-            at_least(column, u + 2);
+        if self.inst.len() < uses {
+            resize([&mut self.inst], uses);
+            resize([&mut self.weight, &mut self.left_weight, &mut self.right_weight], uses);
         }
-        for column in [&mut self.from, &mut self.to, &mut self.live] {
-            at_least(column, u + b + 2);
+        if self.from.len() < gaps {
+            resize([&mut self.from, &mut self.to, &mut self.live], gaps);
+            resize([&mut self.gap_weight, &mut self.min_freq], gaps);
         }
-        for column in [&mut self.gap_weight, &mut self.min_freq] {
-            at_least(column, u + b + 2);
-        }
-        for column in [&mut self.out_from, &mut self.out_to, &mut self.out_value, &mut self.out_gap] {
-            at_least(column, u + b + s + 2);
+        if self.out_from.len() < gap_segments {
+            resize([&mut self.out_from, &mut self.out_to, &mut self.out_value, &mut self.out_gap], gap_segments);
         }
     }
 
@@ -241,8 +242,8 @@ impl Scratch {
     }
 }
 
-fn at_least<T: Clone + Default>(column: &mut Vec<T>, rows: usize) {
-    if column.len() < rows {
+fn resize<T: Clone + Default, const N: usize>(columns: [&mut Vec<T>; N], rows: usize) {
+    for column in columns {
         column.resize(rows, T::default());
     }
 }
