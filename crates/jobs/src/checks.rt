@@ -13,6 +13,8 @@ use crate::rows::Reservation;
 use crate::rows::Segment;
 use crate::rows::Use;
 use numbers::Point;
+use numbers::pick::picked;
+use numbers::pick::picked_size;
 use numbers::weights;
 
 // The first number above a limit.
@@ -309,25 +311,17 @@ fn span_is_bad(limits: Limits, last: Reservation, r: Reservation) -> bool
 fn kind_is_bad(limits: Limits, have: usize, r: Reservation) -> bool
     ensures { λ b. ⌜ b ≡ badKind limits have r ⌝ }
 {
-    if r.kind == 0 {
-        if r.index as usize >= limits.weights {
-            return true;
-        }
-        if r.fixed == 4294967295 {
-            return false;
-        }
-        return r.fixed as usize >= have;
-    }
-    if r.fixed != 0 {
+    if r.kind > 2 {
         return true;
     }
-    if r.kind == 1 {
-        return r.index != 0;
-    }
-    if r.kind != 2 {
+    let known = picked_size(r.kind == 0, limits.weights, limits.values);
+    if r.index as usize >= picked_size(r.kind == 1, 1, known) {
         return true;
     }
-    r.index as usize >= limits.values
+    if r.fixed == picked(r.kind == 0, 4294967295, 0) {
+        return false;
+    }
+    r.fixed as usize >= picked_size(r.kind == 0, have, 1)
 }
 
 // Line 10: the first bad reservation. Units do not fall, so a unit's fixed uses are counted once.
@@ -370,16 +364,9 @@ pub fn first_bad_reservation(
 fn cost_most(kind: u32) -> u32
     ensures { λ r. ⌜ r ≡ costMost kind ⌝ }
 {
-    if kind < 2 {
-        return 1;
-    }
-    if kind < 4 {
-        return 0;
-    }
-    if kind < 8 {
-        return weights::COST_LIMIT;
-    }
-    0
+    let first = picked(kind < 2, 1, 0);
+    let last = picked(kind < 8, weights::COST_LIMIT, 0);
+    picked(kind < 4, first, last)
 }
 
 // A use lies outside a segment. The products are made in 64 bits: a position may be any 32-bit number here.

@@ -29,3 +29,8 @@ scaled code scales cost =
     cond (eqb code 1) (mul binary32 cost (scales .«cheaper_than_move»))
     (cond (eqb code 2) (mul binary32 cost (scales .«cheaper_than_load»))
     (cond (eqb code 3) (mul binary32 cost (scales .indirect)) cost))
+
+-- ---- for contracts of private functions
+-- the bits of a use's cost, at the costs 1.0 and 0.5
+unfoldable pub costBits : ℕ → ℕ → ℕ
+costBits kind field = cond (ltb kind 4) (cond (ltb kind 2) (cond (eqb field 0) 1065353216 0) 1056964608) (cond (ltb kind 8) field 0)

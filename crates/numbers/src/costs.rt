@@ -1,6 +1,7 @@
 // What a use costs if its virtual register is spilled.
 ghost use mathlib.Core.Path.{_≡_};
-ghost use Rattle.numbers.specs.Cost.{reloadCost, moveCost, spillCost, scaled};
+ghost use Rattle.numbers.specs.Cost.{reloadCost, moveCost, spillCost, scaled, costBits};
+use crate::pick::picked;
 use crate::weights;
 
 // Cost of a spill or a reload of a register from memory.
@@ -16,27 +17,26 @@ pub struct RematScales {
     pub indirect: f32,
 }
 
+// The bits of a use's cost, from its kind and its cost field. They are picked as whole numbers, which takes no branch: a processor can't
+// guess the kinds of uses.
+fn spill_cost_bits(kind: u32, cost: u32) -> u32
+    ensures { λ r. ⌜ r ≡ costBits kind cost ⌝ }
+{
+    // A fixed def or use: the spill or reload, unless the fixed register is a memory location.
+    let fixed = picked(cost == 0, f32::to_bits(SPILL_RELOAD_COST), 0);
+    // A tied use or a constraint conflict is a move, which a register makes cheaper.
+    let tied = f32::to_bits(SPILL_RELOAD_COST - MOVE_COST);
+    let first = picked(kind < 2, fixed, tied);
+    // Some instructions take stack operands: the class says what that costs. Block parameters do not care where they stand.
+    let last = picked(kind < 8, cost, 0);
+    picked(kind < 4, first, last)
+}
+
 // The cost of a use, from its kind and its cost field, before it is scaled.
 pub fn spill_cost(kind: u32, cost: u32) -> f32
     ensures { λ r. ⌜ r ≡ spillCost reloadCost moveCost kind cost ⌝ }
 {
-    // A fixed def or use: the spill or reload, unless the fixed register is a memory location.
-    if kind < 2 {
-        if cost == 0 {
-            return SPILL_RELOAD_COST;
-        }
-        return 0.0;
-    }
-    // A tied use or a constraint conflict is a move, which a register makes cheaper.
-    if kind < 4 {
-        return SPILL_RELOAD_COST - MOVE_COST;
-    }
-    // Some instructions take stack operands: the class says what that costs.
-    if kind < 8 {
-        return weights::cost_of(cost);
-    }
-    // Block parameters do not care where they stand.
-    0.0
+    weights::cost_of(spill_cost_bits(kind, cost))
 }
 
 // The cost of a use of a value with this rematerialisation code.

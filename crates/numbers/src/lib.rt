@@ -11,6 +11,7 @@ ghost use Rattle.numbers.specs.Point.{instOf, slotOf, roundUp, slotNumbe
 
 pub mod costs;
 pub mod normal;
+pub mod pick;
 pub mod weights;
 
 // An instruction, by its place in the function.
