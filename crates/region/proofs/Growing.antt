@@ -109,12 +109,12 @@ module _ (p : Register) (t : Reserved) (g : GapColumns) (froms : List ℕ) (weig
           let pass = barred-not (s .growth .region) (passesOn Previous seen (spanOf (s .growth .region))) (grownOf seen (withGap Previous seen (spanOf (s .growth .region)))) (s .growth) (sym (ap (λ (x : Growth). x .«left_barred») e) ∙ b) in
           let to : s' .growth .region .left ≡ s .growth .region .left - 1 =
           ap (λ (x : Growth). x .region .left) e ∙ ap (λ (b : Bool). afterTry Previous (triedOf b (grownOf seen (withGap Previous seen (spanOf (s .growth .region))))) (s .growth) .region .left) pass in
-          subst (λ (n : ℕ). LeftAt p (t .rows) (t .fixedUses) g n (s' .left)) (sym to) (m .0)
+          subst (λ (n : ℕ). LeftAt p (t .rows) g n (s' .left)) (sym to) (m .0)
       left-after Next e m b =
           let same = next-left (passesOn Next seen (spanOf (s .growth .region))) in
           let was = r .left (sym (ap (λ (x : Growth). x .«left_barred») e ∙ same .0) ∙ b) in
           let to : s' .growth .region .left ≡ s .growth .region .left = ap (λ (x : Growth). x .region .left) e ∙ same .1 in
-          subst (λ (n : ℕ). LeftAt p (t .rows) (t .fixedUses) g n (s' .left)) (sym to) (subst (λ (w : LeftWalker). LeftAt p (t .rows) (t .fixedUses) g (s .growth .region .left) w) (sym (m .1)) was)
+          subst (λ (n : ℕ). LeftAt p (t .rows) g n (s' .left)) (sym to) (subst (λ (w : LeftWalker). LeftAt p (t .rows) g (s .growth .region .left) w) (sym (m .1)) was)
         where
           next-left : (b : Bool) → (afterTry Next (triedOf b (grownOf seen (withGap Next seen (spanOf (s .growth .region))))) (s .growth) .«left_barred» ≡ s .growth .«left_barred») × (afterTry Next (triedOf b (grownOf seen (withGap Next seen (spanOf (s .growth .region))))) (s .growth) .region .left ≡ s .growth .region .left)
           next-left true = (refl, refl)
@@ -125,12 +125,12 @@ module _ (p : Register) (t : Reserved) (g : GapColumns) (froms : List ℕ) (weig
           let pass = barred-not-right (passesOn Next seen (spanOf (s .growth .region))) (grownOf seen (withGap Next seen (spanOf (s .growth .region)))) (s .growth) (sym (ap (λ (x : Growth). x .«right_barred») e) ∙ b) in
           let to : s' .growth .region .right ≡ s .growth .region .right + 1 =
           ap (λ (x : Growth). x .region .right) e ∙ ap (λ (b : Bool). afterTry Next (triedOf b (grownOf seen (withGap Next seen (spanOf (s .growth .region))))) (s .growth) .region .right) pass in
-          subst (λ (n : ℕ). RightAt p (t .rows) (t .fixedUses) g n (s' .right)) (sym to) (m .0)
+          subst (λ (n : ℕ). RightAt p (t .rows) g n (s' .right)) (sym to) (m .0)
       right-after Previous e m b =
           let same = previous-right (passesOn Previous seen (spanOf (s .growth .region))) in
           let was = r .right (sym (ap (λ (x : Growth). x .«right_barred») e ∙ same .0) ∙ b) in
           let to : s' .growth .region .right ≡ s .growth .region .right = ap (λ (x : Growth). x .region .right) e ∙ same .1 in
-          subst (λ (n : ℕ). RightAt p (t .rows) (t .fixedUses) g n (s' .right)) (sym to) (subst (λ (w : RightWalker). RightAt p (t .rows) (t .fixedUses) g (s .growth .region .right) w) (sym (m .1)) was)
+          subst (λ (n : ℕ). RightAt p (t .rows) g n (s' .right)) (sym to) (subst (λ (w : RightWalker). RightAt p (t .rows) g (s .growth .region .right) w) (sym (m .1)) was)
         where
           previous-right : (b : Bool) → (afterTry Previous (triedOf b (grownOf seen (withGap Previous seen (spanOf (s .growth .region))))) (s .growth) .«right_barred» ≡ s .growth .«right_barred») × (afterTry Previous (triedOf b (grownOf seen (withGap Previous seen (spanOf (s .growth .region))))) (s .growth) .region .right ≡ s .growth .region .right)
           previous-right true = (refl, refl)
@@ -162,12 +162,12 @@ module _ (p : Register) (t : Reserved) (g : GapColumns) (ordered : OrderedGaps g
   unfolding pointAt
   point-past h = cond-false (getD (g .from) next 0) 4294967295 (le-ltb next (length (g .from)) (le-trans (le-of-eq (sym long)) h))
 
-  pub right-starts : (w : RightWalker) → w .next ≡ next → StandsRight p (t .rows) (t .fixedUses) point w → RightAt p (t .rows) (t .fixedUses) g own w
+  pub right-starts : (w : RightWalker) → w .next ≡ next → StandsRight p (t .rows) point w → RightAt p (t .rows) g own w
   right-starts w e s =
       right-begins g own point w (subst (GapsFrom g own) (sym e) (gaps-found g ordered own next found))
       (λ h. le-of-eq (point-row (subst (λ (n : ℕ). n < g .used) e h) ∙ ap (λ (n : ℕ). getD (g .from) n 0) (sym e))) s
 
-  pub left-starts : ((k : ℕ) → getD (g .to) k 0 ≤ 4294967295) → (w : LeftWalker) → w .next ≡ next → StandsLeft p (t .rows) (t .fixedUses) point w → LeftAt p (t .rows) (t .fixedUses) g own w
+  pub left-starts : ((k : ℕ) → getD (g .to) k 0 ≤ 4294967295) → (w : LeftWalker) → w .next ≡ next → StandsLeft p (t .rows) point w → LeftAt p (t .rows) g own w
   left-starts small w e s =
       left-begins g own point w (subst (GapsFrom g own) (sym e) (gaps-found g ordered own next found))
       (λ h. le-trans (le-of-eq (ap (λ (n : ℕ). getD (g .to) (n - 1) 0) e))
@@ -208,12 +208,12 @@ module _ (p : Register) (t : Reserved) (g : GapColumns) (froms : List ℕ) (weig
   own-fails e = answer-nothing view (tried-fails (passes view own (ownSpan view)) (grownOf view (ownSpan view)) (sym own-tried ∙ e))
 
   -- where it passes growth starts from it
-  pub own-reached : (region : Grown) → tried ≡ Grows region → (s : Stand) → s .growth ≡ startAt region → LeftAt p (t .rows) (t .fixedUses) g own (s .left) → RightAt p (t .rows) (t .fixedUses) g (own + 1) (s .right) → Reached view p t g s
+  pub own-reached : (region : Grown) → tried ≡ Grows region → (s : Stand) → s .growth ≡ startAt region → LeftAt p (t .rows) g own (s .left) → RightAt p (t .rows) g (own + 1) (s .right) → Reached view p t g s
   own-reached region e s is l r =
       let q = tried-grows (passes view own (ownSpan view)) (grownOf view (ownSpan view)) region (sym own-tried ∙ e) in
       let f = is ∙ ap startAt (q .1) in
       record {
         going = subst (Going view) (sym f) (going-start view (q .0));
-        left = λ _. subst (λ (x : Growth). LeftAt p (t .rows) (t .fixedUses) g (x .region .left) (s .left)) (sym f) l;
-        right = λ _. subst (λ (x : Growth). RightAt p (t .rows) (t .fixedUses) g (x .region .right) (s .right)) (sym f) r;
+        left = λ _. subst (λ (x : Growth). LeftAt p (t .rows) g (x .region .left) (s .left)) (sym f) l;
+        right = λ _. subst (λ (x : Growth). RightAt p (t .rows) g (x .region .right) (s .right)) (sym f) r;
       }

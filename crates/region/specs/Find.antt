@@ -46,13 +46,13 @@ pub record RowsInside (gaps : ℕ) (froms : List ℕ) (weights : List Float) (li
 -- ---- for contracts of private functions
 -- the walker of a side stands at the region's end
 abbrev pub Standing : Side → Register → Reserved → GapColumns → Stand → Type 0
-Standing Previous p t g s = LeftAt p (t .rows) (t .fixedUses) g (s .growth .region .left) (s .left)
-Standing Next p t g s = RightAt p (t .rows) (t .fixedUses) g (s .growth .region .right) (s .right)
+Standing Previous p t g s = LeftAt p (t .rows) g (s .growth .region .left) (s .left)
+Standing Next p t g s = RightAt p (t .rows) g (s .growth .region .right) (s .right)
 
 -- it has moved on by a gap, and the other one has not
 abbrev pub Moved : Side → Register → Reserved → GapColumns → Stand → Stand → Type 0
-Moved Previous p t g s r = LeftAt p (t .rows) (t .fixedUses) g (s .growth .region .left - 1) (r .left) × (r .right ≡ s .right)
-Moved Next p t g s r = RightAt p (t .rows) (t .fixedUses) g (s .growth .region .right + 1) (r .right) × (r .left ≡ s .left)
+Moved Previous p t g s r = LeftAt p (t .rows) g (s .growth .region .left - 1) (r .left) × (r .right ≡ s .right)
+Moved Next p t g s r = RightAt p (t .rows) g (s .growth .region .right + 1) (r .right) × (r .left ≡ s .left)
 
 -- growth after some tries, with a walker at each end that is not barred
 pub record Reached (seen : GapsSeen) (p : Register) (t : Reserved) (g : GapColumns) (s : Stand) : Type 0 where

@@ -12,6 +12,7 @@ use crate::proposal::proposal_of;
 use links::lower::Side;
 use links::search::first_at_least;
 use numbers::Point;
+use walkers::both::Walkers;
 use walkers::left::LeftWalker;
 use walkers::meeting::Register;
 use walkers::right::RightWalker;
@@ -225,34 +226,19 @@ pub fn find_split_region(
     let gaps = from.len();
     let next = first_at_least(out_gap, 0, out_from.len(), initial as u32);
     let point = point_at(out_from, next);
-    let left = LeftWalker::new(
+    let walkers = Walkers::new(
         unit,
         start,
         end,
         kind,
         index,
         fixed,
-        f_unit,
-        f_point,
-        f_value,
         register,
         next,
         point,
     );
-    let right = RightWalker::new(
-        unit,
-        start,
-        end,
-        kind,
-        index,
-        fixed,
-        f_unit,
-        f_point,
-        f_value,
-        register,
-        next,
-        point,
-    );
+    let left = walkers.left;
+    let right = walkers.right;
     let own = right.take_gap(
         unit,
         start,

@@ -9,7 +9,7 @@ ghost use mathlib.Core.Path.{_≡_};
 ghost use Prim.Native.Nat.{_+_, _-_};
 ghost use lib.ListN.{length};
 ghost use Rattle.links.specs.declared.lower.Side.the-variants.{Previous, Next};
-ghost use Rattle.jobs.specs.Rows.{reservationsOf, fixedUsesOf};
+ghost use Rattle.jobs.specs.Rows.{reservationsOf};
 ghost use Rattle.walkers.specs.Meeting.{reservedOf};
 ghost use Rattle.walkers.specs.Gaps.{gapColumns, RightAt, LeftAt};
 ghost use Rattle.region.specs.OneTry.{Walkable, Triable, triedOn};
@@ -44,9 +44,9 @@ pub fn try_left(
     walker: LeftWalker,
 ) -> TriedLeft
     requires { ⌜ Walkable register (reservedOf (now unit) (now start) (now end) (now kind) (now index) (now fixed) (now «f_unit») (now «f_point») (now «f_value») (now «spill_weight»)) (gapColumns (now «out_from») (now «out_to») (now «out_value») (now «out_gap») (length (now «out_from»))) ⌝ }
-    requires { ⌜ LeftAt register (reservationsOf (now unit) (now start) (now end) (now kind) (now index) (now fixed)) (fixedUsesOf (now «f_unit») (now «f_point») (now «f_value»)) (gapColumns (now «out_from») (now «out_to») (now «out_value») (now «out_gap») (length (now «out_from»))) (growth .region .left) walker ⌝ }
+    requires { ⌜ LeftAt register (reservationsOf (now unit) (now start) (now end) (now kind) (now index) (now fixed)) (gapColumns (now «out_from») (now «out_to») (now «out_value») (now «out_gap») (length (now «out_from»))) (growth .region .left) walker ⌝ }
     requires { ⌜ Triable Previous (now weight) (now live) growth ⌝ }
-    ensures { λ r. ⌜ (r .growth ≡ triedOn Previous register (reservedOf (now (unit .entry)) (now (start .entry)) (now (end .entry)) (now (kind .entry)) (now (index .entry)) (now (fixed .entry)) (now («f_unit» .entry)) (now («f_point» .entry)) (now («f_value» .entry)) (now («spill_weight» .entry))) (gapColumns (now («out_from» .entry)) (now («out_to» .entry)) (now («out_value» .entry)) (now («out_gap» .entry)) (length (now («out_from» .entry)))) (now (weight .entry)) (now (live .entry)) k growth) × LeftAt register (reservationsOf (now (unit .entry)) (now (start .entry)) (now (end .entry)) (now (kind .entry)) (now (index .entry)) (now (fixed .entry))) (fixedUsesOf (now («f_unit» .entry)) (now («f_point» .entry)) (now («f_value» .entry))) (gapColumns (now («out_from» .entry)) (now («out_to» .entry)) (now («out_value» .entry)) (now («out_gap» .entry)) (length (now («out_from» .entry)))) (growth .region .left - 1) (r .walker) ⌝ }
+    ensures { λ r. ⌜ (r .growth ≡ triedOn Previous register (reservedOf (now (unit .entry)) (now (start .entry)) (now (end .entry)) (now (kind .entry)) (now (index .entry)) (now (fixed .entry)) (now («f_unit» .entry)) (now («f_point» .entry)) (now («f_value» .entry)) (now («spill_weight» .entry))) (gapColumns (now («out_from» .entry)) (now («out_to» .entry)) (now («out_value» .entry)) (now («out_gap» .entry)) (length (now («out_from» .entry)))) (now (weight .entry)) (now (live .entry)) k growth) × LeftAt register (reservationsOf (now (unit .entry)) (now (start .entry)) (now (end .entry)) (now (kind .entry)) (now (index .entry)) (now (fixed .entry))) (gapColumns (now («out_from» .entry)) (now («out_to» .entry)) (now («out_value» .entry)) (now («out_gap» .entry)) (length (now («out_from» .entry)))) (growth .region .left - 1) (r .walker) ⌝ }
 {
     let g = growth.region;
     let gap = g.left - 1;
@@ -117,9 +117,9 @@ pub fn try_right(
     walker: RightWalker,
 ) -> TriedRight
     requires { ⌜ Walkable register (reservedOf (now unit) (now start) (now end) (now kind) (now index) (now fixed) (now «f_unit») (now «f_point») (now «f_value») (now «spill_weight»)) (gapColumns (now «out_from») (now «out_to») (now «out_value») (now «out_gap») (length (now «out_from»))) ⌝ }
-    requires { ⌜ RightAt register (reservationsOf (now unit) (now start) (now end) (now kind) (now index) (now fixed)) (fixedUsesOf (now «f_unit») (now «f_point») (now «f_value»)) (gapColumns (now «out_from») (now «out_to») (now «out_value») (now «out_gap») (length (now «out_from»))) (growth .region .right) walker ⌝ }
+    requires { ⌜ RightAt register (reservationsOf (now unit) (now start) (now end) (now kind) (now index) (now fixed)) (gapColumns (now «out_from») (now «out_to») (now «out_value») (now «out_gap») (length (now «out_from»))) (growth .region .right) walker ⌝ }
     requires { ⌜ Triable Next (now weight) (now live) growth ⌝ }
-    ensures { λ r. ⌜ (r .growth ≡ triedOn Next register (reservedOf (now (unit .entry)) (now (start .entry)) (now (end .entry)) (now (kind .entry)) (now (index .entry)) (now (fixed .entry)) (now («f_unit» .entry)) (now («f_point» .entry)) (now («f_value» .entry)) (now («spill_weight» .entry))) (gapColumns (now («out_from» .entry)) (now («out_to» .entry)) (now («out_value» .entry)) (now («out_gap» .entry)) (length (now («out_from» .entry)))) (now (weight .entry)) (now (live .entry)) k growth) × RightAt register (reservationsOf (now (unit .entry)) (now (start .entry)) (now (end .entry)) (now (kind .entry)) (now (index .entry)) (now (fixed .entry))) (fixedUsesOf (now («f_unit» .entry)) (now («f_point» .entry)) (now («f_value» .entry))) (gapColumns (now («out_from» .entry)) (now («out_to» .entry)) (now («out_value» .entry)) (now («out_gap» .entry)) (length (now («out_from» .entry)))) (growth .region .right + 1) (r .walker) ⌝ }
+    ensures { λ r. ⌜ (r .growth ≡ triedOn Next register (reservedOf (now (unit .entry)) (now (start .entry)) (now (end .entry)) (now (kind .entry)) (now (index .entry)) (now (fixed .entry)) (now («f_unit» .entry)) (now («f_point» .entry)) (now («f_value» .entry)) (now («spill_weight» .entry))) (gapColumns (now («out_from» .entry)) (now («out_to» .entry)) (now («out_value» .entry)) (now («out_gap» .entry)) (length (now («out_from» .entry)))) (now (weight .entry)) (now (live .entry)) k growth) × RightAt register (reservationsOf (now (unit .entry)) (now (start .entry)) (now (end .entry)) (now (kind .entry)) (now (index .entry)) (now (fixed .entry))) (gapColumns (now («out_from» .entry)) (now («out_to» .entry)) (now («out_value» .entry)) (now («out_gap» .entry)) (length (now («out_from» .entry)))) (growth .region .right + 1) (r .walker) ⌝ }
 {
     let g = growth.region;
     let gap = g.right;

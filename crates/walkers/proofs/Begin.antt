@@ -120,9 +120,6 @@ module _ (rows : List Reservation) (ordered : OrderedRows rows) (u : ℕ) where
     same-unit : (i k : ℕ) → from ≤ i → i ≤ k → k < to → getD rows i noReservation .unit ≡ getD rows k noReservation .unit
     same-unit i k p q r = own .own i p (lt-of-le-of-lt q r) ∙ sym (own .own k (le-trans p q) r)
 
-    pub starts-searchable : (start : List ℕ) → Holds start rows noReservation (λ (r : Reservation). r .start) → Searchable start from to
-    starts-searchable start h = searchable start rows noReservation (λ (r : Reservation). r .start) h from to (own .order) (own .inside) (λ i k p q r. starts-rise i k q (lt-of-lt-of-le r (own .inside)) (same-unit i k p q r))
-
     pub ends-searchable : (end : List ℕ) → Holds end rows noReservation (λ (r : Reservation). r .end) → Searchable end from to
     ends-searchable end h = searchable end rows noReservation (λ (r : Reservation). r .end) h from to (own .order) (own .inside) (λ i k p q r. ends-rise i k q (lt-of-lt-of-le r (own .inside)) (same-unit i k p q r))
 
@@ -144,14 +141,32 @@ module _ (rows : List Reservation) (ordered : OrderedRows rows) (u : ℕ) where
           ended = λ k l e. le-of-lt (passed end rows noReservation (λ (x : Reservation). x .end) h point from to r (own .inside) f k (not-before k e) l);
         }
 
-    pub beyond-found : (start : List ℕ) → Holds start rows noReservation (λ (r : Reservation). r .start) → (point r : ℕ) → FirstIn (λ (k : ℕ). leb point (getD start k 0)) from to r → Beyond rows u point r
-    beyond-found start h point r f =
+    -- a place among the rows of the unit, from which on they start at or past the point
+    beyond-at : (point l : ℕ) → from ≤ l → l ≤ to → ((k : ℕ) → l ≤ k → k < to → point ≤ getD rows k noReservation .start) → Beyond rows u point l
+    beyond-at point l p q f =
         record {
-          inside = le-trans (f .to) (own .inside);
-          earlier = λ k l. ⊎-elim (λ x. le-of-lt (own .before k x)) (λ x. le-of-eq (own .own k x (lt-of-lt-of-le l (f .to)))) (split k from);
-          begun = λ k l m e. let q = not-later k m e in
-              le-trans (found start rows noReservation (λ (x : Reservation). x .start) h point from to r (own .inside) f (lt-of-le-of-lt l q)) (starts-rise r k l m (same-unit r k (f .from) l q));
+          inside = le-trans q (own .inside);
+          earlier = λ k h. ⊎-elim (λ x. le-of-lt (own .before k x)) (λ x. le-of-eq (own .own k x (lt-of-lt-of-le h q))) (split k from);
+          begun = λ k h m e. f k h (not-later k m e);
         }
+
+    -- behind a row that reaches the point, and at the first that does if it starts at the point or past it
+    module _ (end : List ℕ) (h : Holds end rows noReservation (λ (r : Reservation). r .end)) (point r : ℕ) (f : FirstIn (λ (k : ℕ). leb point (getD end k 0)) from to r) where
+      pub beyond-row : r < to → Beyond rows u point (r + 1)
+      beyond-row q = beyond-at point (r + 1) (le-trans (f .from) (upto-next r)) (past r to q)
+          (λ k l m. le-trans (found end rows noReservation (λ (x : Reservation). x .end) h point from to r (own .inside) f q) (ordered .apart r k (past-row r k l) (lt-of-lt-of-le m (own .inside)) (same-unit r k (f .from) (le-of-lt (past-row r k l)) m)))
+        where
+          upto-next : (a : ℕ) → a ≤ a + 1
+          upto-next a = omega arith
+
+          past : (a b : ℕ) → a < b → a + 1 ≤ b
+          past a b p = omega arith
+
+          past-row : (a b : ℕ) → a + 1 ≤ b → a < b
+          past-row a b p = omega arith
+
+      pub beyond-here : (r < to → point ≤ getD rows r noReservation .start) → Beyond rows u point r
+      beyond-here g = beyond-at point r (f .from) (f .to) (λ k l m. le-trans (g (lt-of-le-of-lt l m)) (starts-rise r k l (lt-of-lt-of-le m (own .inside)) (same-unit r k (f .from) l m)))
 
 -- ---- the fixed uses of a unit
 module _ (fixedUses : List FixedUse) (ordered : OrderedUses fixedUses) (u : ℕ) (unit : List ℕ) (h : Holds unit fixedUses noFixedUse (λ (f : FixedUse). f .unit)) where

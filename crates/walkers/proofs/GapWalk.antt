@@ -13,7 +13,6 @@ use Rattle.numbers.specs.Weight.{Weight}
 use Rattle.links.specs.First.{FirstIn, Searchable}
 use Rattle.links.proofs.Firsts.{split}
 use Rattle.jobs.specs.declared.rows.Reservation.{Reservation}
-use Rattle.jobs.specs.declared.rows.FixedUse.{FixedUse}
 use Rattle.walkers.specs.declared.meeting.Register.{Register}
 use Rattle.walkers.specs.declared.meeting.Met.{Met}
 use Rattle.walkers.specs.declared.right.RightWalker.{RightWalker}
@@ -26,25 +25,25 @@ use Rattle.walkers.proofs.OneUnit.{behind-later, beyond-earlier}
 use Rattle.walkers.proofs.GapSegments.{SeenGap, gap-none, gap-more, gap-all}
 
 -- ---- a walker carried on: to a later point, to an earlier one, to another row
-pub right-later : {p : Register} {rows : List Reservation} {fixedUses : List FixedUse} {a b : ℕ} {w : RightWalker} → a ≤ b → StandsRight p rows fixedUses a w → StandsRight p rows fixedUses b w
-right-later h s = record { eight = s .eight; eight-uses = s .eight-uses; behind = λ v l. behind-later h (s .behind v l); from = s .from }
+pub right-later : {p : Register} {rows : List Reservation} {a b : ℕ} {w : RightWalker} → a ≤ b → StandsRight p rows a w → StandsRight p rows b w
+right-later h s = record { eight = s .eight; behind = λ v l. behind-later h (s .behind v l) }
 
-pub left-earlier : {p : Register} {rows : List Reservation} {fixedUses : List FixedUse} {a b : ℕ} {w : LeftWalker} → b ≤ a → StandsLeft p rows fixedUses a w → StandsLeft p rows fixedUses b w
-left-earlier h s = record { eight = s .eight; eight-uses = s .eight-uses; beyond = λ v l. beyond-earlier h (s .beyond v l); from = s .from }
+pub left-earlier : {p : Register} {rows : List Reservation} {a b : ℕ} {w : LeftWalker} → b ≤ a → StandsLeft p rows a w → StandsLeft p rows b w
+left-earlier h s = record { eight = s .eight; beyond = λ v l. beyond-earlier h (s .beyond v l) }
 
-pub right-moved : {p : Register} {rows : List Reservation} {fixedUses : List FixedUse} {a : ℕ} {w : RightWalker} (n : ℕ) → StandsRight p rows fixedUses a w → StandsRight p rows fixedUses a (record { next = n; at = w .at; uses = w .uses })
-right-moved n s = record { eight = s .eight; eight-uses = s .eight-uses; behind = s .behind; from = s .from }
+pub right-moved : {p : Register} {rows : List Reservation} {a : ℕ} {w : RightWalker} (n : ℕ) → StandsRight p rows a w → StandsRight p rows a (record { next = n; at = w .at })
+right-moved n s = record { eight = s .eight; behind = s .behind }
 
-pub left-moved : {p : Register} {rows : List Reservation} {fixedUses : List FixedUse} {a : ℕ} {w : LeftWalker} (n : ℕ) → StandsLeft p rows fixedUses a w → StandsLeft p rows fixedUses a (record { next = n; at = w .at; uses = w .uses })
-left-moved n s = record { eight = s .eight; eight-uses = s .eight-uses; beyond = s .beyond; from = s .from }
+pub left-moved : {p : Register} {rows : List Reservation} {a : ℕ} {w : LeftWalker} (n : ℕ) → StandsLeft p rows a w → StandsLeft p rows a (record { next = n; at = w .at })
+left-moved n s = record { eight = s .eight; beyond = s .beyond }
 
 -- a new walker stands at its gap, if the gap segments that come start at or past its point, or end at or before it
-pub right-begins : {p : Register} {rows : List Reservation} {fixedUses : List FixedUse} (g : GapColumns) (gap point : ℕ) (w : RightWalker)
-    → GapsFrom g gap (w .next) → (w .next < g .used → point ≤ getD (g .from) (w .next) 0) → StandsRight p rows fixedUses point w → RightAt p rows fixedUses g gap w
+pub right-begins : {p : Register} {rows : List Reservation} (g : GapColumns) (gap point : ℕ) (w : RightWalker)
+    → GapsFrom g gap (w .next) → (w .next < g .used → point ≤ getD (g .from) (w .next) 0) → StandsRight p rows point w → RightAt p rows g gap w
 right-begins g gap point w f h s = record { place = f; stands = λ l. right-later (h l) s }
 
-pub left-begins : {p : Register} {rows : List Reservation} {fixedUses : List FixedUse} (g : GapColumns) (gap point : ℕ) (w : LeftWalker)
-    → GapsFrom g gap (w .next) → (0 < w .next → getD (g .to) (w .next - 1) 0 ≤ point) → StandsLeft p rows fixedUses point w → LeftAt p rows fixedUses g gap w
+pub left-begins : {p : Register} {rows : List Reservation} (g : GapColumns) (gap point : ℕ) (w : LeftWalker)
+    → GapsFrom g gap (w .next) → (0 < w .next → getD (g .to) (w .next - 1) 0 ≤ point) → StandsLeft p rows point w → LeftAt p rows g gap w
 left-begins g gap point w f h s = record { place = f; stands = λ l. left-earlier (h l) s }
 
 -- the first row of the gaps from one on, by a search in the column of gaps

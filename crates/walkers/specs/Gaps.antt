@@ -7,7 +7,6 @@ use lib.Ieee.{Float}
 use lib.ListN.{length, getD}
 use Rattle.numbers.specs.Weight.{heavier, heaviest}
 use Rattle.jobs.specs.declared.rows.Reservation.{Reservation}
-use Rattle.jobs.specs.declared.rows.FixedUse.{FixedUse}
 use Rattle.walkers.specs.declared.meeting.GapSegment.{GapSegment}
 use Rattle.walkers.specs.declared.meeting.Register.{Register}
 use Rattle.walkers.specs.declared.meeting.Met.{Met}
@@ -66,13 +65,13 @@ pub record GapsFrom (g : GapColumns) (gap next : ℕ) : Type 0 where
   pub later : (k : ℕ) → next ≤ k → k < g .used → gap ≤ getD (g .gap) k 0
 
 -- a walker to the right stands before the rows of the gaps from one on, and one to the left behind the rows of the gaps before one
-pub record RightAt (p : Register) (rows : List Reservation) (fixedUses : List FixedUse) (g : GapColumns) (gap : ℕ) (w : RightWalker) : Type 0 where
+pub record RightAt (p : Register) (rows : List Reservation) (g : GapColumns) (gap : ℕ) (w : RightWalker) : Type 0 where
   pub place : GapsFrom g gap (w .next)
-  pub stands : w .next < g .used → StandsRight p rows fixedUses (getD (g .from) (w .next) 0) w
+  pub stands : w .next < g .used → StandsRight p rows (getD (g .from) (w .next) 0) w
 
-pub record LeftAt (p : Register) (rows : List Reservation) (fixedUses : List FixedUse) (g : GapColumns) (gap : ℕ) (w : LeftWalker) : Type 0 where
+pub record LeftAt (p : Register) (rows : List Reservation) (g : GapColumns) (gap : ℕ) (w : LeftWalker) : Type 0 where
   pub place : GapsFrom g gap (w .next)
-  pub stands : 0 < w .next → StandsLeft p rows fixedUses (getD (g .to) (w .next - 1) 0) w
+  pub stands : 0 < w .next → StandsLeft p rows (getD (g .to) (w .next - 1) 0) w
 
 -- the heaviest of a weight and of those that the gap segments of a gap meet
 abbrev pub heaviestInGap : Register → Reserved → GapColumns → ℕ → Float → Float

@@ -33,12 +33,6 @@ pub record Known (p : Register) : Type 0 where
   pub few : p .units ≤ 8
   pub fits : p .first .0 + p .units ≤ 4294967295
 
--- a unit's fixed uses begin at `from`
-pub record UsesFrom (fixedUses : List FixedUse) (unit from : ℕ) : Type 0 where
-  pub inside : from ≤ length fixedUses
-  pub before : (k : ℕ) → k < from → getD fixedUses k noFixedUse .unit < unit
-  pub later : (k : ℕ) → from ≤ k → k < length fixedUses → unit ≤ getD fixedUses k noFixedUse .unit
-
 -- to the right: no row of an earlier unit stands from `at` on, and the unit's rows before `at` end at or before the point
 pub record Behind (rows : List Reservation) (unit point at : ℕ) : Type 0 where
   pub inside : at ≤ length rows
@@ -51,21 +45,22 @@ pub record Beyond (rows : List Reservation) (unit point at : ℕ) : Type 0 where
   pub earlier : (k : ℕ) → k < at → getD rows k noReservation .unit ≤ unit
   pub begun : (k : ℕ) → at ≤ k → k < length rows → getD rows k noReservation .unit ≡ unit → point ≤ getD rows k noReservation .start
 
--- a walker to the right stands at a point: it is behind it in each unit of the register, and has where the unit's fixed uses begin;
--- and one to the left, beyond it
-pub record StandsRight (p : Register) (rows : List Reservation) (fixedUses : List FixedUse) (point : ℕ) (w : RightWalker) : Type 0 where
+-- a walker to the right stands at a point: it is behind it in each unit of the register; and one to the left, beyond it
+pub record StandsRight (p : Register) (rows : List Reservation) (point : ℕ) (w : RightWalker) : Type 0 where
   pub eight : length (w .at) ≡ 8
-  pub eight-uses : length (w .uses) ≡ 8
   pub behind : (v : ℕ) → v < p .units → Behind rows (p .first .0 + v) point (getD (w .at) v 0)
-  pub from : (v : ℕ) → v < p .units → UsesFrom fixedUses (p .first .0 + v) (getD (w .uses) v 0)
 
-pub record StandsLeft (p : Register) (rows : List Reservation) (fixedUses : List FixedUse) (point : ℕ) (w : LeftWalker) : Type 0 where
+pub record StandsLeft (p : Register) (rows : List Reservation) (point : ℕ) (w : LeftWalker) : Type 0 where
   pub eight : length (w .at) ≡ 8
-  pub eight-uses : length (w .uses) ≡ 8
   pub beyond : (v : ℕ) → v < p .units → Beyond rows (p .first .0 + v) point (getD (w .at) v 0)
-  pub from : (v : ℕ) → v < p .units → UsesFrom fixedUses (p .first .0 + v) (getD (w .uses) v 0)
 
 -- ---- for contracts of private functions
+-- a unit's fixed uses begin at `from`
+pub record UsesFrom (fixedUses : List FixedUse) (unit from : ℕ) : Type 0 where
+  pub inside : from ≤ length fixedUses
+  pub before : (k : ℕ) → k < from → getD fixedUses k noFixedUse .unit < unit
+  pub later : (k : ℕ) → from ≤ k → k < length fixedUses → unit ≤ getD fixedUses k noFixedUse .unit
+
 -- a unit's rows stand from one to before another
 pub record RowsOfUnit (rows : List Reservation) (unit from to : ℕ) : Type 0 where
   pub order : from ≤ to

@@ -1,4 +1,5 @@
 // What a gap segment meets: one fixed use, one reservation, and what was met so far.
+use crate::units::first_use;
 use jobs::rows::FixedUse;
 use jobs::rows::Reservation;
 use jobs::rows::cell;
@@ -15,7 +16,7 @@ ghost use Prim.Native.Nat.{_<_};
 ghost use lib.ListN.{length};
 ghost use Rattle.jobs.specs.Rows.{fixedUsesOf};
 ghost use Rattle.walkers.specs.Meeting.{anyBelow, meets, clashes, useCounts, countsAsFixed, looked};
-ghost use Rattle.walkers.specs.Standing.{OrderedUses, UsesFrom};
+ghost use Rattle.walkers.specs.Standing.{OrderedUses};
 
 // A gap segment: points from one to before another, and a value.
 pub struct GapSegment {
@@ -59,21 +60,20 @@ fn clashes(s: GapSegment, f: FixedUse) -> bool
     f.value != s.value.0
 }
 
-// A fixed use of the reservation's unit, from its fixed row on, clashes with the segment. The unit's fixed uses begin at `from`. They
-// are in order: once one lies past the segment, the rest does.
+// A fixed use of the reservation's unit, from its fixed row on, clashes with the segment. Where the unit's fixed uses begin is
+// searched for here: few reservations have a fixed row. They are in order: once one lies past the segment, the rest does.
 fn use_clashes(
     f_unit: &[u32],
     f_point: &[u32],
     f_value: &[u32],
-    from: usize,
     r: Reservation,
     s: GapSegment,
 ) -> bool
     requires { ⌜ OrderedUses (fixedUsesOf (now «f_unit») (now «f_point») (now «f_value»)) ⌝ }
-    requires { ⌜ UsesFrom (fixedUsesOf (now «f_unit») (now «f_point») (now «f_value»)) (r .unit) from ⌝ }
     ensures { λ b. ⌜ b ≡ anyBelow (useCounts (fixedUsesOf (now («f_unit» .entry)) (now («f_point» .entry)) (now («f_value» .entry))) s r) (length (fixedUsesOf (now («f_unit» .entry)) (now («f_point» .entry)) (now («f_value» .entry)))) ⌝ }
 {
     let n = fixed_use_count(f_unit, f_point, f_value);
+    let from = first_use(f_unit, f_point, f_value, Unit(r.unit));
     let mut i = from + r.fixed as usize;
     while i < n {
         let f = fixed_use_at(f_unit, f_point, f_value, i);
@@ -91,24 +91,22 @@ fn use_clashes(
     false
 }
 
-// Whether a reservation that meets the segment counts as fixed. The fixed uses of its unit begin at `from`.
+// Whether a reservation that meets the segment counts as fixed.
 fn counts_as_fixed(
     f_unit: &[u32],
     f_point: &[u32],
     f_value: &[u32],
-    from: usize,
     r: Reservation,
     s: GapSegment,
 ) -> bool
     requires { ⌜ OrderedUses (fixedUsesOf (now «f_unit») (now «f_point») (now «f_value»)) ⌝ }
-    requires { ⌜ UsesFrom (fixedUsesOf (now «f_unit») (now «f_point») (now «f_value»)) (r .unit) from ⌝ }
     ensures { λ b. ⌜ b ≡ countsAsFixed (fixedUsesOf (now («f_unit» .entry)) (now («f_point» .entry)) (now («f_value» .entry))) s r ⌝ }
 {
     if r.kind == 0 {
         if r.fixed == 4294967295 {
             return false;
         }
-        return use_clashes(f_unit, f_point, f_value, from, r, s);
+        return use_clashes(f_unit, f_point, f_value, r, s);
     }
     if r.kind == 1 {
         return true;
@@ -134,20 +132,18 @@ pub(crate) fn look(
     f_point: &[u32],
     f_value: &[u32],
     weight: &[u32],
-    from: usize,
     r: Reservation,
     s: GapSegment,
     met: Met,
 ) -> Met
     requires { ⌜ OrderedUses (fixedUsesOf (now «f_unit») (now «f_point») (now «f_value»)) ⌝ }
-    requires { ⌜ UsesFrom (fixedUsesOf (now «f_unit») (now «f_point») (now «f_value»)) (r .unit) from ⌝ }
     requires { ⌜ (r .kind ≡ 0 → r .index < length (now weight)) ⌝ }
     ensures { λ m. ⌜ m ≡ looked (fixedUsesOf (now («f_unit» .entry)) (now («f_point» .entry)) (now («f_value» .entry))) (now (weight .entry)) s r met ⌝ }
 {
     if !meets(s, r) {
         return met;
     }
-    let counts = counts_as_fixed(f_unit, f_point, f_value, from, r, s);
+    let counts = counts_as_fixed(f_unit, f_point, f_value, r, s);
     let fixed = either(met.fixed, counts);
     if r.kind == 0 {
         let w = weight_of(cell(weight, r.index as usize));

@@ -12,7 +12,7 @@ use Rattle.walkers.specs.Meeting.{reservedOf}
 use Rattle.walkers.specs.Gaps.{gapColumns}
 use Rattle.walkers.specs.Standing.{StandsRight, StandsLeft}
 use Rattle.walkers.proofs.GapWalk.{gaps-searchable}
-use Rattle.jobs.specs.Rows.{reservationsOf, fixedUsesOf}
+use Rattle.jobs.specs.Rows.{reservationsOf}
 use Rattle.region.specs.declared.proposal.SplitProposal.{SplitProposal}
 use Rattle.region.specs.declared.proposal.Region.the-variants.{Found}
 use Rattle.region.specs.Find.{seenBy}
@@ -33,33 +33,30 @@ point-at-requires : tie.Need-point-at-requires
 point-at-requires c κs = search needs
 
 new-requires : tie.Need-new-requires
-new-requires c κs = let p = c .before .before .before .before .before .before .before .before .before .before .before .before .before .before .before .before .before .before .before .before .pre in (p .0 .ready .rows, (p .0 .ready .uses, p .0 .known))
-
-new-requires-2 : tie.Need-new-requires-2
-new-requires-2 c κs = let p = c .before .before .before .before .before .before .before .before .before .before .before .before .before .before .before .before .before .before .before .before .before .pre in (p .0 .ready .rows, (p .0 .ready .uses, p .0 .known))
+new-requires c κs = let p = c .before .before .before .before .before .before .before .before .before .before .before .before .before .before .before .before .before .before .before .before .pre in (p .0 .ready .rows, p .0 .known)
 
 cast-take-gap : tie.Need-cast-take-gap
-cast-take-gap c = let h = c .before .before .before .before .before .before .before .before .before .before .before .before .before .before .before .before .before .before .before .before .before .before .pre .1 .sound .inside in let f = c .before .before .before .before .before .before .before .before .before .before .before .before .before .before .before .before .before .before .before .before .before .before .pre .1 .few in omega (arith, h, f)
+cast-take-gap c = let h = c .before .before .before .before .before .before .before .before .before .before .before .before .before .before .before .before .before .before .before .before .before .before .before .pre .1 .sound .inside in let f = c .before .before .before .before .before .before .before .before .before .before .before .before .before .before .before .before .before .before .before .before .before .before .before .pre .1 .few in omega (arith, h, f)
 
 take-gap-requires : tie.Need-take-gap-requires
 unfolding ofBits
 take-gap-requires c κs =
-    let a = c .before .before .before .before .before .before .before .before .before .before .before .before .before .before .before .before .before .before .before .before .before .before .args in
-    let p = c .before .before .before .before .before .before .before .before .before .before .before .before .before .before .before .before .before .before .before .before .before .before .pre in
-    let stands = subst (λ (x : ℕ). StandsRight (a .register) (reservationsOf (a .unit .now) (a .start .now) (a .end .now) (a .kind .now) (a .index .now) (a .fixed .now)) (fixedUsesOf (a .f-unit .now) (a .f-point .now) (a .f-value .now)) x (c .new2 .result)) (c .before .before .point-at .ensures) (c .new2 .ensures .1) in
-    (p .0 .ready, ((p .0 .known, finite zero-finite), (p .0 .ordered, right-starts (a .register) (reservedOf (a .unit .now) (a .start .now) (a .end .now) (a .kind .now) (a .index .now) (a .fixed .now) (a .f-unit .now) (a .f-point .now) (a .f-value .now) (a .spill-weight .now)) (gapColumns (a .out-from .now) (a .out-to .now) (a .out-value .now) (a .out-gap .now) (length (a .out-from .now))) (p .0 .ordered) refl (a .initial) (c .before .before .before .first-at-least .result) (c .before .before .before .first-at-least .ensures) (c .new2 .result) (c .new2 .ensures .0) stands)))
+    let a = c .before .before .before .before .before .before .before .before .before .before .before .before .before .before .before .before .before .before .before .before .before .before .before .args in
+    let p = c .before .before .before .before .before .before .before .before .before .before .before .before .before .before .before .before .before .before .before .before .before .before .before .pre in
+    let stands = subst (λ (x : ℕ). StandsRight (a .register) (reservationsOf (a .unit .now) (a .start .now) (a .end .now) (a .kind .now) (a .index .now) (a .fixed .now)) x (c .before .before .new .result .right)) (c .before .before .before .point-at .ensures) (c .before .before .new .ensures .3) in
+    (p .0 .ready, ((p .0 .known, finite zero-finite), (p .0 .ordered, right-starts (a .register) (reservedOf (a .unit .now) (a .start .now) (a .end .now) (a .kind .now) (a .index .now) (a .fixed .now) (a .f-unit .now) (a .f-point .now) (a .f-value .now) (a .spill-weight .now)) (gapColumns (a .out-from .now) (a .out-to .now) (a .out-value .now) (a .out-gap .now) (length (a .out-from .now))) (p .0 .ordered) refl (a .initial) (c .before .before .before .before .first-at-least .result) (c .before .before .before .before .first-at-least .ensures) (c .before .before .new .result .right) (c .before .before .new .ensures .1) stands)))
 
-weight-inside : (c : tie.After-struct-known) → c .before .before .before .before .before .before .before .before .before .before .before .before .before .before .before .before .before .before .before .before .before .before .before .before .args .initial < length (c .before .before .before .before .before .before .before .before .before .before .before .before .before .before .before .before .before .before .before .before .before .before .before .before .args .weight .now)
-weight-inside c = let h = c .before .before .before .before .before .before .before .before .before .before .before .before .before .before .before .before .before .before .before .before .before .before .before .before .pre .1 .sound .inside in let e = c .before .before .before .before .before .before .before .before .before .before .before .before .before .before .before .before .before .before .before .before .before .before .before .before .pre .1 .weights-long in omega (arith, h, e)
+weight-inside : (c : tie.After-struct-known) → c .before .before .before .before .before .before .before .before .before .before .before .before .before .before .before .before .before .before .before .before .before .before .before .before .before .args .initial < length (c .before .before .before .before .before .before .before .before .before .before .before .before .before .before .before .before .before .before .before .before .before .before .before .before .before .args .weight .now)
+weight-inside c = let h = c .before .before .before .before .before .before .before .before .before .before .before .before .before .before .before .before .before .before .before .before .before .before .before .before .before .pre .1 .sound .inside in let e = c .before .before .before .before .before .before .before .before .before .before .before .before .before .before .before .before .before .before .before .before .before .before .before .before .before .pre .1 .weights-long in omega (arith, h, e)
 
 mul-tested : tie.Need-mul-tested
-mul-tested c = scaled-fits _ _ 4 (weight-inside c) (c .before .before .before .before .before .before .before .before .before .before .before .before .before .before .before .before .before .before .before .before .before .before .before .before .good .1 .0 .1)
+mul-tested c = scaled-fits _ _ 4 (weight-inside c) (c .before .before .before .before .before .before .before .before .before .before .before .before .before .before .before .before .before .before .before .before .before .before .before .before .before .good .1 .0 .1)
 
 shared-slice-read-tested : tie.Need-shared-slice-read-tested
 shared-slice-read-tested c = weight-inside (c .before)
 
 add-tested : tie.Need-add-tested
-add-tested c = let h = c .before .before .before .before .before .before .before .before .before .before .before .before .before .before .before .before .before .before .before .before .before .before .before .before .before .pre .1 .sound .inside in let f = c .before .before .before .before .before .before .before .before .before .before .before .before .before .before .before .before .before .before .before .before .before .before .before .before .before .pre .1 .few in omega (arith, h, f)
+add-tested c = let h = c .before .before .before .before .before .before .before .before .before .before .before .before .before .before .before .before .before .before .before .before .before .before .before .before .before .before .pre .1 .sound .inside in let f = c .before .before .before .before .before .before .before .before .before .before .before .before .before .before .before .before .before .before .before .before .before .before .before .before .before .before .pre .1 .few in omega (arith, h, f)
 
 tested-requires : tie.Need-tested-requires
 tested-requires c κs = search needs
@@ -73,26 +70,26 @@ enum-told c = search needs
 returns : tie.Need-returns
 unfolding ofBits
 returns c =
-    let a = c .before .before .before .before .before .before .before .before .before .before .before .before .before .before .before .before .before .before .before .before .before .before .before .before .before .before .before .before .args in
-    let p = c .before .before .before .before .before .before .before .before .before .before .before .before .before .before .before .before .before .before .before .before .before .before .before .before .before .before .before .before .pre in
+    let a = c .before .before .before .before .before .before .before .before .before .before .before .before .before .before .before .before .before .before .before .before .before .before .before .before .before .before .before .before .before .args in
+    let p = c .before .before .before .before .before .before .before .before .before .before .before .before .before .before .before .before .before .before .before .before .before .before .before .before .before .before .before .before .before .pre in
     own-fails (a .register) (reservedOf (a .unit .now) (a .start .now) (a .end .now) (a .kind .now) (a .index .now) (a .fixed .now) (a .f-unit .now) (a .f-point .now) (a .f-value .now) (a .spill-weight .now)) (gapColumns (a .out-from .now) (a .out-to .now) (a .out-value .now) (a .out-gap .now) (length (a .out-from .now))) (a .from .now) (a .weight .now) (a .live .now) (a .min-freq .now) (a .initial) (a .k) (p .1) (c .before .before .before .before .before .take-gap .ensures .0) (c .before .before .before .before .before .take-gap .ensures .1) (c .before .before .tested .ensures) (c .enum-told .given .1)
 
-new-requires-3 : tie.Need-new-requires-3
-new-requires-3 c κs = search needs
+new-requires-2 : tie.Need-new-requires-2
+new-requires-2 c κs = search needs
 
 grow-requires : tie.Need-grow-requires
 unfolding ofBits
 grow-requires c κs =
-    let a = c .before .before .before .before .before .before .before .before .before .before .before .before .before .before .before .before .before .before .before .before .before .before .before .before .before .before .before .before .before .before .before .args in
-    let p = c .before .before .before .before .before .before .before .before .before .before .before .before .before .before .before .before .before .before .before .before .before .before .before .before .before .before .before .before .before .before .before .pre in
-    let stands = subst (λ (x : ℕ). StandsLeft (a .register) (reservationsOf (a .unit .now) (a .start .now) (a .end .now) (a .kind .now) (a .index .now) (a .fixed .now)) (fixedUsesOf (a .f-unit .now) (a .f-point .now) (a .f-value .now)) x (c .before .before .before .before .before .before .before .before .before .before .new .result)) (c .before .before .before .before .before .before .before .before .before .before .before .point-at .ensures) (c .before .before .before .before .before .before .before .before .before .before .new .ensures .1) in (
+    let a = c .before .before .before .before .before .before .before .before .before .before .before .before .before .before .before .before .before .before .before .before .before .before .before .before .before .before .before .before .before .before .before .before .args in
+    let p = c .before .before .before .before .before .before .before .before .before .before .before .before .before .before .before .before .before .before .before .before .before .before .before .before .before .before .before .before .before .before .before .before .pre in
+    let stands = subst (λ (x : ℕ). StandsLeft (a .register) (reservationsOf (a .unit .now) (a .start .now) (a .end .now) (a .kind .now) (a .index .now) (a .fixed .now)) x (c .before .before .before .before .before .before .before .before .before .before .before .new .result .left)) (c .before .before .before .before .before .before .before .before .before .before .before .before .point-at .ensures) (c .before .before .before .before .before .before .before .before .before .before .before .new .ensures .2) in (
       (p .0, p .1),
-      own-reached (a .register) (reservedOf (a .unit .now) (a .start .now) (a .end .now) (a .kind .now) (a .index .now) (a .fixed .now) (a .f-unit .now) (a .f-point .now) (a .f-value .now) (a .spill-weight .now)) (gapColumns (a .out-from .now) (a .out-to .now) (a .out-value .now) (a .out-gap .now) (length (a .out-from .now))) (a .from .now) (a .weight .now) (a .live .now) (a .min-freq .now) (a .initial) (a .k) (p .1) (c .before .before .before .before .before .before .before .before .take-gap .ensures .0) (c .before .before .before .before .before .before .before .before .take-gap .ensures .1) (c .before .before .before .before .before .tested .ensures) (c .before .before .before .tried .given .0 .0) (c .before .before .before .tried .given .1) (record { growth = c .new3 .result; left = c .before .before .before .before .before .before .before .before .before .before .new .result; right = c .before .before .before .before .before .before .before .before .take-gap .result .walker }) (c .new3 .ensures)
-          (left-starts (a .register) (reservedOf (a .unit .now) (a .start .now) (a .end .now) (a .kind .now) (a .index .now) (a .fixed .now) (a .f-unit .now) (a .f-point .now) (a .f-value .now) (a .spill-weight .now)) (gapColumns (a .out-from .now) (a .out-to .now) (a .out-value .now) (a .out-gap .now) (length (a .out-from .now))) (p .0 .ordered) refl (a .initial) (c .before .before .before .before .before .before .before .before .before .before .before .before .first-at-least .result) (c .before .before .before .before .before .before .before .before .before .before .before .before .first-at-least .ensures) (λ k. let b = c .before .before .before .before .before .before .before .before .before .before .before .before .before .before .before .before .before .before .before .before .before .before .before .before .before .shared-slice-known6 .given k in omega (arith, b)) (c .before .before .before .before .before .before .before .before .before .before .new .result) (c .before .before .before .before .before .before .before .before .before .before .new .ensures .0) stands) (c .before .before .before .before .before .before .before .before .take-gap .ensures .2),
+      own-reached (a .register) (reservedOf (a .unit .now) (a .start .now) (a .end .now) (a .kind .now) (a .index .now) (a .fixed .now) (a .f-unit .now) (a .f-point .now) (a .f-value .now) (a .spill-weight .now)) (gapColumns (a .out-from .now) (a .out-to .now) (a .out-value .now) (a .out-gap .now) (length (a .out-from .now))) (a .from .now) (a .weight .now) (a .live .now) (a .min-freq .now) (a .initial) (a .k) (p .1) (c .before .before .before .before .before .before .before .before .take-gap .ensures .0) (c .before .before .before .before .before .before .before .before .take-gap .ensures .1) (c .before .before .before .before .before .tested .ensures) (c .before .before .before .tried .given .0 .0) (c .before .before .before .tried .given .1) (record { growth = c .new2 .result; left = c .before .before .before .before .before .before .before .before .before .before .before .new .result .left; right = c .before .before .before .before .before .before .before .before .take-gap .result .walker }) (c .new2 .ensures)
+          (left-starts (a .register) (reservedOf (a .unit .now) (a .start .now) (a .end .now) (a .kind .now) (a .index .now) (a .fixed .now) (a .f-unit .now) (a .f-point .now) (a .f-value .now) (a .spill-weight .now)) (gapColumns (a .out-from .now) (a .out-to .now) (a .out-value .now) (a .out-gap .now) (length (a .out-from .now))) (p .0 .ordered) refl (a .initial) (c .before .before .before .before .before .before .before .before .before .before .before .before .before .first-at-least .result) (c .before .before .before .before .before .before .before .before .before .before .before .before .before .first-at-least .ensures) (λ k. let b = c .before .before .before .before .before .before .before .before .before .before .before .before .before .before .before .before .before .before .before .before .before .before .before .before .before .before .shared-slice-known6 .given k in omega (arith, b)) (c .before .before .before .before .before .before .before .before .before .before .before .new .result .left) (c .before .before .before .before .before .before .before .before .before .before .before .new .ensures .0) stands) (c .before .before .before .before .before .before .before .before .take-gap .ensures .2),
     )
 
 proposal-of-requires : tie.Need-proposal-of-requires
-proposal-of-requires c κs = let a = c .before .before .before .before .before .before .before .before .before .before .before .before .before .before .before .before .before .before .before .before .before .before .before .before .before .before .before .before .before .before .before .before .args in let p = c .before .before .before .before .before .before .before .before .before .before .before .before .before .before .before .before .before .before .before .before .before .before .before .before .before .before .before .before .before .before .before .before .pre in (c .grow .ensures .inside, (le-refl (length (a .from .now)), le-of-eq (sym (p .1 .freqs-long))))
+proposal-of-requires c κs = let a = c .before .before .before .before .before .before .before .before .before .before .before .before .before .before .before .before .before .before .before .before .before .before .before .before .before .before .before .before .before .before .before .before .before .args in let p = c .before .before .before .before .before .before .before .before .before .before .before .before .before .before .before .before .before .before .before .before .before .before .before .before .before .before .before .before .before .before .before .before .before .pre in (c .grow .ensures .inside, (le-refl (length (a .from .now)), le-of-eq (sym (p .1 .freqs-long))))
 
 returns-2 : tie.Need-returns-2
 returns-2 c = ap (λ (x : SplitProposal). Found x) (c .proposal-of .ensures) ∙ c .before .grow .ensures .is
@@ -105,7 +102,6 @@ find-split-region-spec =
     first-at-least-requires
     point-at-requires
     new-requires
-    new-requires-2
     cast-take-gap
     take-gap-requires
     mul-tested
@@ -115,7 +111,7 @@ find-split-region-spec =
     enum-known-tried
     enum-told
     returns
-    new-requires-3
+    new-requires-2
     grow-requires
     proposal-of-requires
     returns-2)

@@ -7,7 +7,7 @@ use borrow.Author.Needs.{needs, scaled-fits}
 use lib.Ieee.{Float}
 use lib.ListN.{length}
 use Rattle.links.specs.declared.lower.Side.the-variants.{Previous}
-use Rattle.jobs.specs.Rows.{reservationsOf, fixedUsesOf}
+use Rattle.jobs.specs.Rows.{reservationsOf}
 use Rattle.walkers.specs.Gaps.{gapColumns, LeftAt}
 use Rattle.region.specs.Columns.{numbers, floats, testedOf, afterTry}
 use Rattle.region.specs.declared.growth.Tried.{Tried}
@@ -27,7 +27,7 @@ take-gap-requires : tie.Need-take-gap-requires
 take-gap-requires c κs =
     let a = c .before .before .before .before .before .before .before .before .before .before .before .before .before .before .before .before .before .before .args in
     let p = c .before .before .before .before .before .before .before .before .before .before .before .before .before .before .before .before .before .before .pre in
-    (p .0 .ready, ((p .0 .known, p .1 .1 .heaviest), (p .0 .ordered, subst (λ (x : ℕ). LeftAt (a .register) (reservationsOf (a .unit .now) (a .start .now) (a .end .now) (a .kind .now) (a .index .now) (a .fixed .now)) (fixedUsesOf (a .f-unit .now) (a .f-point .now) (a .f-value .now)) (gapColumns (a .out-from .now) (a .out-to .now) (a .out-value .now) (a .out-gap .now) (length (a .out-from .now))) x (a .walker)) (up (a .growth .region .left) (p .1 .1 .some)) (p .1 .0))))
+    (p .0 .ready, ((p .0 .known, p .1 .1 .heaviest), (p .0 .ordered, subst (λ (x : ℕ). LeftAt (a .register) (reservationsOf (a .unit .now) (a .start .now) (a .end .now) (a .kind .now) (a .index .now) (a .fixed .now)) (gapColumns (a .out-from .now) (a .out-to .now) (a .out-value .now) (a .out-gap .now) (length (a .out-from .now))) x (a .walker)) (up (a .growth .region .left) (p .1 .1 .some)) (p .1 .0))))
 
 mul-tested : tie.Need-mul-tested
 mul-tested c = scaled-fits _ _ 4 (c .before .before .before .before .before .before .before .before .before .before .before .before .before .before .before .before .before .before .before .before .pre .1 .1 .weight) (c .before .before .before .before .before .before .before .before .before .before .before .before .before .before .before .before .before .before .before .before .good .1 .1 .1 .1 .1 .1 .1 .1 .1 .1 .1 .1 .1 .1 .0 .1)

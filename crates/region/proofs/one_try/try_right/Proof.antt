@@ -7,7 +7,7 @@ use borrow.Author.Needs.{needs, scaled-fits}
 use lib.Ieee.{Float}
 use lib.ListN.{length}
 use Rattle.links.specs.declared.lower.Side.the-variants.{Next}
-use Rattle.jobs.specs.Rows.{reservationsOf, fixedUsesOf}
+use Rattle.jobs.specs.Rows.{reservationsOf}
 use Rattle.walkers.specs.Gaps.{gapColumns, RightAt}
 use Rattle.region.specs.Columns.{numbers, floats, testedOf, afterTry}
 use Rattle.region.specs.declared.growth.Tried.{Tried}

@@ -20,7 +20,7 @@ unfolding looked
 returns c = sym (pick-second _ _ _ _ (sym (c .before .meets .ensures) ∙ not-true _ (c .if1 .taken)) refl)
 
 counts-as-fixed-requires : tie.Need-counts-as-fixed-requires
-counts-as-fixed-requires c κs = let b = c .before .before .before .before .before .before in (b .pre .0, b .pre .1 .0)
+counts-as-fixed-requires c κs = let b = c .before .before .before .before .before .before in b .pre .0
 
 either-requires : tie.Need-either-requires
 either-requires c κs = search needs
@@ -29,7 +29,7 @@ cast-cell : tie.Need-cast-cell
 cast-cell c = search needs
 
 cell-requires : tie.Need-cell-requires
-cell-requires c κs = c .before .before .before .before .before .before .before .before .before .before .before .pre .1 .1 (c .before .if2 .taken)
+cell-requires c κs = c .before .before .before .before .before .before .before .before .before .before .before .pre .1 (c .before .if2 .taken)
 
 weight-of-requires : tie.Need-weight-of-requires
 weight-of-requires c κs = search needs

@@ -12,19 +12,19 @@ use Rattle.jobs.specs.Rows.{reservationRow, reservationsOf, noReservation}
 use Rattle.jobs.proofs.Walk.{own-row}
 use Rattle.walkers.specs.declared.meeting.Met.{Met}
 use Rattle.walkers.specs.Meeting.{Reserved, reservedOf, looked, alsoMet, oneUnit}
-use Rattle.walkers.specs.Standing.{Behind, UsesFrom}
+use Rattle.walkers.specs.Standing.{Behind}
 use Rattle.walkers.proofs.Seen.{Seen, All, rowOf, seen-is}
 use Rattle.walkers.proofs.OneUnit.{behind-later, right-begin, right-look, right-next, right-end, right-unit, right-past}
 use Rattle.walkers.proofs.right.walk_right.Statement.{statement}
 use Rattle.walkers.proofs.right.walk_right.Tie as tie
 
 abbrev Inv-loop : tie.InvT-loop
-Inv-loop unit start end kind index fixed f-unit f-point f-value weight u at from s n i₀ met₀ i met =
+Inv-loop unit start end kind index fixed f-unit f-point f-value weight u at s n i₀ met₀ i met =
     Behind (reservationsOf unit start end kind index fixed) (u .0) (s .to .0) i
     × Seen (oneUnit (u .0)) (reservedOf unit start end kind index fixed f-unit f-point f-value weight) s (λ (k : ℕ). k < i) met₀ met
 
 abbrev μ-loop : tie.MeasureT-loop
-μ-loop unit start end kind index fixed f-unit f-point f-value weight u at from s n i₀ met₀ i met = n - i
+μ-loop unit start end kind index fixed f-unit f-point f-value weight u at s n i₀ met₀ i met = n - i
 
 abbrev table : tie.Start Inv-loop μ-loop → Reserved
 table b =
@@ -50,14 +50,14 @@ loop-holds : tie.Need-loop-holds Inv-loop μ-loop
 loop-holds c =
     let b = c .before .before .before .before .before .before .before .before .before .before .before in
     let e = b .pre .1 .0 in
-    (behind-later (le-of-lt (b .pre .1 .1 .1 .0)) e, right-begin (table b) (b .pre .0 .rows) (b .args .s) (b .args .u .0) (b .args .at) (b .args .met) (b .pre .1 .1 .1 .1) e)
+    (behind-later (le-of-lt (b .pre .1 .1 .0)) e, right-begin (table b) (b .pre .0 .rows) (b .args .s) (b .args .u .0) (b .args .at) (b .args .met) (b .pre .1 .1 .1) e)
 
 reservation-at-requires : tie.Need-reservation-at-requires Inv-loop μ-loop
 reservation-at-requires c κs = in-list c
 
 -- what was seen of all rows is the answer
 answer : (b : tie.Start Inv-loop μ-loop) (m : Met) → Seen (oneUnit (b .args .u .0)) (table b) (b .args .s) (All (table b)) (b .args .met) m → m ≡ alsoMet (oneUnit (b .args .u .0)) (table b) (b .args .s) (b .args .met)
-answer b m k = seen-is (oneUnit (b .args .u .0)) (table b) (b .args .s) (b .args .met) m (b .pre .1 .1 .1 .1) k
+answer b m k = seen-is (oneUnit (b .args .u .0)) (table b) (b .args .s) (b .args .met) m (b .pre .1 .1 .1) k
 
 returns : tie.Need-returns Inv-loop μ-loop
 returns c =
@@ -71,13 +71,8 @@ of-unit c = ap (λ (r : Reservation). r .unit) (sym (row (c .before .before .bef
 
 look-requires : tie.Need-look-requires Inv-loop μ-loop
 look-requires c κs =
-    let b = c .before .before .before .before .before .before .before .before .before .before .before .before .before .before .before .before .before in (
-      b .pre .0 .uses,
-      (
-        subst (λ (x : ℕ). UsesFrom (table b .fixedUses) x (b .args .from)) (sym (c .if1 .left)) (b .pre .1 .1 .0),
-        λ z. subst (λ (r : Reservation). r .index < length (table b .weights)) (sym (row (c .before .before .before))) (b .pre .0 .weights (c .before .before .before .before .before .loop .i) (in-list (c .before .before .before .before)) (ap (λ (r : Reservation). r .kind) (sym (row (c .before .before .before))) ∙ z)),
-      ),
-    )
+    let b = c .before .before .before .before .before .before .before .before .before .before .before .before .before .before .before .before .before in
+    (b .pre .0 .uses, λ z. subst (λ (r : Reservation). r .index < length (table b .weights)) (sym (row (c .before .before .before))) (b .pre .0 .weights (c .before .before .before .before .before .loop .i) (in-list (c .before .before .before .before)) (ap (λ (r : Reservation). r .kind) (sym (row (c .before .before .before))) ∙ z)))
 
 -- behind a look the row is among those passed
 turn : (c : tie.After-look Inv-loop μ-loop) → Seen (oneUnit (c .before .before .before .before .before .before .before .before .before .before .before .before .before .before .before .before .before .before .args .u .0)) (table (c .before .before .before .before .before .before .before .before .before .before .before .before .before .before .before .before .before .before)) (c .before .before .before .before .before .before .before .before .before .before .before .before .before .before .before .before .before .before .args .s) (λ (k : ℕ). k < c .before .before .before .before .before .before .loop .i + 1) (c .before .before .before .before .before .before .before .before .before .before .before .before .before .before .before .before .before .before .args .met) (c .look .result)

@@ -24,7 +24,7 @@ use Rattle.walkers.proofs.left.LeftWalker.take_gap.Tie as tie
 -- the walker stands for the next row, between the rows of the gap, and what was met is what the rows passed meet
 abbrev Taken : Register → Reserved → GapColumns → ℕ → LeftWalker → Met → Met → ℕ → Type 0
 Taken p t g gap w m₀ m i =
-    Within g gap i × (0 < i → StandsLeft p (t .rows) (t .fixedUses) (getD (g .to) (i - 1) 0) w) × SeenGap p t g gap (λ (k : ℕ). (i ≤ k) × (k < g .used)) m₀ m
+    Within g gap i × (0 < i → StandsLeft p (t .rows) (getD (g .to) (i - 1) 0) w) × SeenGap p t g gap (λ (k : ℕ). (i ≤ k) × (k < g .used)) m₀ m
 
 abbrev Inv-loop : tie.InvT-loop
 Inv-loop self₀ unit start end kind index fixed f-unit f-point f-value weight out-from out-to out-value out-gap used register gap heaviest met₀ i₀ self met i =
@@ -83,7 +83,7 @@ take-segment-requires c κs =
     let o = b .pre .1 .1 .0 in (
       b .pre .0,
       (
-        (b .pre .1 .0 .0, read c (λ (s : GapSegment). StandsLeft (b .args .register) (table b .rows) (table b .fixedUses) (s .to .0) (l .self)) (l .inv .1 (of-gap (c .before) .0))),
+        (b .pre .1 .0 .0, read c (λ (s : GapSegment). StandsLeft (b .args .register) (table b .rows) (s .to .0) (l .self)) (l .inv .1 (of-gap (c .before) .0))),
         (read c (λ (s : GapSegment). s .from .0 < s .to .0) (o .nonempty (c .before .before .before .loop .i - 1) (inside (c .before))), l .inv .2 .weight),
       ),
     )

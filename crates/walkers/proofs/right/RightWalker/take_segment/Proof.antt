@@ -25,11 +25,11 @@ Units p t s at m₀ m v =
     × Seen (firstUnits p v) t s (All t) m₀ m
 
 abbrev Inv-loop : tie.InvT-loop
-Inv-loop self unit start end kind index fixed f-unit f-point f-value weight register s heaviest at₀ uses met₀ v₀ at met v =
+Inv-loop self unit start end kind index fixed f-unit f-point f-value weight register s heaviest at₀ met₀ v₀ at met v =
     Units register (reservedOf unit start end kind index fixed f-unit f-point f-value weight) s at met₀ met v
 
 abbrev μ-loop : tie.MeasureT-loop
-μ-loop self unit start end kind index fixed f-unit f-point f-value weight register s heaviest at₀ uses met₀ v₀ at met v = register .units - v
+μ-loop self unit start end kind index fixed f-unit f-point f-value weight register s heaviest at₀ met₀ v₀ at met v = register .units - v
 
 abbrev table : tie.Start Inv-loop μ-loop → Reserved
 table b =
@@ -42,19 +42,19 @@ first b = record { fixed = false; heaviest = b .args .heaviest }
 
 loop-holds : tie.Need-loop-holds Inv-loop μ-loop
 loop-holds c =
-    let b = c .before .before .before .before .before .before .before .before .before .before .before .before in
+    let b = c .before .before .before .before .before .before .before .before .before .before .before in
     let st = b .pre .1 .0 .1 in
     (zero-le, walked-none _ _ _ (b .args .self .at) (st .eight) (st .behind), units-none (b .args .register) (table b) (b .args .s) (first b) (b .pre .1 .1 .1))
 
 -- the unit is one of the eight
 unit-inside : (c : tie.Then1 Inv-loop μ-loop) → c .before .before .loop .v < 8
-unit-inside c = let few = c .before .before .before .before .before .before .before .before .before .before .before .before .before .before .before .pre .1 .0 .0 .few in omega (arith, few, c .if1 .taken)
+unit-inside c = let few = c .before .before .before .before .before .before .before .before .before .before .before .before .before .before .pre .1 .0 .0 .few in omega (arith, few, c .if1 .taken)
 
 cast-i : tie.Need-cast-i Inv-loop μ-loop
 cast-i c = search needs
 
-add-t22 : tie.Need-add-t22 Inv-loop μ-loop
-add-t22 c = let fits = c .before .before .before .before .before .before .before .before .before .before .before .before .before .before .before .before .pre .1 .0 .0 .fits in omega (arith, fits, c .before .if1 .taken)
+add-t21 : tie.Need-add-t21 Inv-loop μ-loop
+add-t21 c = let fits = c .before .before .before .before .before .before .before .before .before .before .before .before .before .before .before .pre .1 .0 .0 .fits in omega (arith, fits, c .before .if1 .taken)
 
 mul-walk-right : tie.Need-mul-walk-right Inv-loop μ-loop
 mul-walk-right c = omega (arith, unit-inside (c .before))
@@ -62,18 +62,12 @@ mul-walk-right c = omega (arith, unit-inside (c .before))
 array-read-walk-right : tie.Need-array-read-walk-right Inv-loop μ-loop
 array-read-walk-right c = omega (arith, unit-inside (c .before), c .before .before .before .loop .inv .1 .eight)
 
-mul-walk-right-2 : tie.Need-mul-walk-right-2 Inv-loop μ-loop
-mul-walk-right-2 c = omega (arith, unit-inside (c .before))
-
-array-read-walk-right-2 : tie.Need-array-read-walk-right-2 Inv-loop μ-loop
-array-read-walk-right-2 c = omega (arith, unit-inside (c .before), c .before .before .before .before .before .before .before .before .before .before .before .before .before .before .before .before .pre .1 .0 .1 .eight-uses)
-
 walk-right-requires : tie.Need-walk-right-requires Inv-loop μ-loop
 walk-right-requires c κs =
-    let b = c .before .before .before .before .before .before .before .before .before .before .before .before .before .before .before .before in
+    let b = c .before .before .before .before .before .before .before .before .before .before .before .before .before .before .before in
     let l = c .before .before .before .loop in
     let v = c .before .if1 .taken in
-    (b .pre .0, (l .inv .1 .waiting (l .v) (le-refl (l .v)) v, (b .pre .1 .0 .1 .from (l .v) v, (b .pre .1 .1 .0, l .inv .2 .weight))))
+    (b .pre .0, (l .inv .1 .waiting (l .v) (le-refl (l .v)) v, (b .pre .1 .1 .0, l .inv .2 .weight)))
 
 mul-at : tie.Need-mul-at Inv-loop μ-loop
 mul-at c = omega (arith, unit-inside (c .before .before .before))
@@ -89,7 +83,7 @@ loop-less c = omega (arith, c .before .before .before .if1 .taken)
 
 loop-again : tie.Need-loop-again Inv-loop μ-loop
 loop-again c =
-    let b = c .before .before .before .before .before .before .before .before .before .before .before .before .before .before .before .before .before .before in
+    let b = c .before .before .before .before .before .before .before .before .before .before .before .before .before .before .before .before .before in
     let l = c .before .before .before .before .before .loop in
     let v = c .before .before .before .if1 .taken in
     let k = c .before .walk-right in (
@@ -100,14 +94,14 @@ loop-again c =
 
 returns : tie.Need-returns Inv-loop μ-loop
 returns c =
-    let b = c .before .before .before .before .before .before .before .before .before .before .before .before .before .before .before in
+    let b = c .before .before .before .before .before .before .before .before .before .before .before .before .before .before in
     let l = c .before .before .loop in
     let e = le-antisymm (l .inv .0) (c .if1 .left) in
     let m = seen-is (b .args .register) (table b) (b .args .s) (first b) (l .met) (b .pre .1 .1 .1) (subst (λ (v : ℕ). Seen (firstUnits (b .args .register) v) (table b) (b .args .s) (All (table b)) (first b) (l .met)) e (l .inv .2)) in (
       ap (λ (x : Met). x .fixed) m,
       ap (λ (x : Met). x .heaviest) m,
       refl,
-      record { eight = l .inv .1 .eight; eight-uses = b .pre .1 .0 .1 .eight-uses; behind = λ v h. l .inv .1 .walked v (below-upto v (b .args .register .units) (l .v) h (c .if1 .left)); from = b .pre .1 .0 .1 .from },
+      record { eight = l .inv .1 .eight; behind = λ v h. l .inv .1 .walked v (below-upto v (b .args .register .units) (l .v) h (c .if1 .left)) },
     )
 
 pub take-segment-spec : {M : Type 1} → statement M
@@ -118,11 +112,9 @@ take-segment-spec =
     μ-loop
     loop-holds
     cast-i
-    add-t22
+    add-t21
     mul-walk-right
     array-read-walk-right
-    mul-walk-right-2
-    array-read-walk-right-2
     walk-right-requires
     mul-at
     array-write-at
