@@ -226,17 +226,7 @@ pub fn find_split_region(
     let gaps = from.len();
     let next = first_at_least(out_gap, 0, out_from.len(), initial as u32);
     let point = point_at(out_from, next);
-    let walkers = Walkers::new(
-        unit,
-        start,
-        end,
-        kind,
-        index,
-        fixed,
-        register,
-        next,
-        point,
-    );
+    let walkers = Walkers::new(unit, start, end, kind, index, fixed, register, next, point);
     let left = walkers.left;
     let right = walkers.right;
     let own = right.take_gap(
