@@ -11,25 +11,30 @@ use jobs::rows::cell;
 use jobs::rows::segment_at;
 use jobs::rows::segment_count;
 use jobs::rows::use_at as job_use;
-use links::blocks::block_of;
+use links::blocks::block_near;
+use numbers::Block;
 use numbers::Inst;
 use numbers::costs::RematScales;
 use numbers::costs::use_spill_cost;
 use numbers::weights::frequency_of;
 ghost use mathlib.Core.Path.{_≡_};
-ghost use Prim.Native.Nat.{_+_, _-_, _≤_};
+ghost use Prim.Native.Nat.{_+_, _-_, _≤_, _<_};
 ghost use Rattle.walks.specs.Uses.{startInst, endInst, sourceOf, useTableOf};
 ghost use Rattle.walks.specs.UseColumns.{columns, Inside, Holds};
 ghost use Rattle.walks.specs.CheckedUses.{CheckedUses};
-ghost use Rattle.walks.specs.Collecting.{collecting, isStored, addedBefore, added, weightAt, counted, Listing, Listings, Room, countedList, countedLists, Starting, Ending, held, withLast};
+ghost use Rattle.walks.specs.Collecting.{collecting, isStored, addedBefore, added, counted, Listing, Listings, Room, countedList, countedLists, Starting, Ending, held, withLast};
 ghost use Rattle.jobs.specs.Rows.{usesOf, segmentsOf};
 ghost use Rattle.links.specs.Blocks.{Ends, blocksOf, SoundColumns};
-ghost use lib.ListN.{length};
+ghost use Rattle.numbers.specs.Weight.{frequencyLimit, valueOf};
+ghost use lib.Ieee.{binary32, mul};
+ghost use lib.ListN.{length, getD};
 
-// How far the collection is: the rows stored, and the latest row, which is not.
+// How far the collection is: the rows stored, the latest row, which is not, and the block of the latest use that counted, where the
+// search for the next one's begins.
 pub struct Collected {
     pub rows: usize,
     pub latest: SplitUse,
+    pub near: Block,
 }
 
 // Whether the row stored last is that of an instruction.
@@ -59,11 +64,12 @@ fn add_before(
 {
     let rows = done.rows;
     let latest = done.latest;
+    let near = done.near;
     if is_stored(inst, rows, p) {
         let u = use_at(inst, weight, left_weight, right_weight, rows - 1);
         let v = added_to(u, part, w);
         put_use(inst, weight, left_weight, right_weight, rows - 1, v);
-        return Collected { rows, latest };
+        return Collected { rows, latest, near };
     }
     let u = no_weights(p);
     let v = added_to(u, part, w);
@@ -71,6 +77,7 @@ fn add_before(
     Collected {
         rows: rows + 1,
         latest,
+        near,
     }
 }
 
@@ -94,9 +101,14 @@ fn add_use(
         return add_before(inst, weight, left_weight, right_weight, done, p, part, w);
     }
     let rows = done.rows;
+    let near = done.near;
     if p.0 == at.0 {
         let v = added_to(latest, part, w);
-        return Collected { rows, latest: v };
+        return Collected {
+            rows,
+            latest: v,
+            near,
+        };
     }
     put_use(inst, weight, left_weight, right_weight, rows, latest);
     let u = no_weights(p);
@@ -104,15 +116,15 @@ fn add_use(
     Collected {
         rows: rows + 1,
         latest: v,
+        near,
     }
 }
 
-// A use's weight: its cost times the frequency of the block of its instruction.
-fn use_weight(freq: &[u32], end: &[u32], cost: f32, p: Inst) -> f32
-    requires { ⌜ Ends (now end) (length (now freq)) (p .0) ⌝ }
-    ensures { λ r. ⌜ r ≡ weightAt (now (freq .entry)) (now (end .entry)) cost (p .0) ⌝ }
+// A use's weight: its cost times the frequency of its block.
+fn weight_in(freq: &[u32], cost: f32, b: Block) -> f32
+    requires { ⌜ b .0 < length (now freq) ⌝ }
+    ensures { λ r. ⌜ r ≡ mul binary32 cost (valueOf frequencyLimit (getD (now (freq .entry)) (b .0) 0)) ⌝ }
 {
-    let b = block_of(end, freq.len(), p);
     let i = b.0 as usize;
     cost * frequency_of(freq[i])
 }
@@ -137,8 +149,13 @@ fn count_use(
     if cost == 0.0 {
         return done;
     }
-    let w = use_weight(freq, end, cost, p);
+    // Uses come in order, but for fixed defs: the search goes on where that of the use before ended.
+    let near = done.near;
+    let b = block_near(end, freq.len(), p, near);
+    let w = weight_in(freq, cost, b);
     let part = part_of(s, p);
+    let mut done = done;
+    done.near = b;
     add_use(inst, weight, left_weight, right_weight, done, p, part, w)
 }
 
@@ -335,7 +352,11 @@ pub fn collect_uses(
         weight,
         left_weight,
         right_weight,
-        Collected { rows: 0, latest },
+        Collected {
+            rows: 0,
+            latest,
+            near: Block(0),
+        },
     );
     put_last(inst, weight, left_weight, right_weight, done, last)
 }

@@ -16,7 +16,7 @@ is-stored-requires : tie.Need-is-stored-requires
 is-stored-requires c κs = search needs
 
 sub-use-at : tie.Need-sub-use-at
-sub-use-at c = stored-some (c .before .before .before .before .before .before .before .before .before .before .before .before .args .inst .now) (c .before .before .before .before .before .before .before .before .before .before .before .before .args .done .rows) (c .before .before .before .before .before .before .before .before .before .before .before .before .args .p .0) (sym (c .before .before .before .before .before .is-stored .ensures) ∙ c .before .before .before .before .if1 .taken)
+sub-use-at c = stored-some (c .before .before .before .before .before .before .before .before .before .before .before .before .before .args .inst .now) (c .before .before .before .before .before .before .before .before .before .before .before .before .before .args .done .rows) (c .before .before .before .before .before .before .before .before .before .before .before .before .before .args .p .0) (sym (c .before .before .before .before .before .is-stored .ensures) ∙ c .before .before .before .before .if1 .taken)
 
 use-at-requires : tie.Need-use-at-requires
 use-at-requires c κs = search needs
@@ -25,7 +25,7 @@ added-to-requires : tie.Need-added-to-requires
 added-to-requires c κs = search needs
 
 sub-put-use : tie.Need-sub-put-use
-sub-put-use c = stored-some (c .before .before .before .before .before .before .before .before .before .before .before .before .before .before .before .before .before .before .args .inst .now) (c .before .before .before .before .before .before .before .before .before .before .before .before .before .before .before .before .before .before .args .done .rows) (c .before .before .before .before .before .before .before .before .before .before .before .before .before .before .before .before .before .before .args .p .0) (sym (c .before .before .before .before .before .before .before .before .before .before .before .is-stored .ensures) ∙ c .before .before .before .before .before .before .before .before .before .before .if1 .taken)
+sub-put-use c = stored-some (c .before .before .before .before .before .before .before .before .before .before .before .before .before .before .before .before .before .before .before .args .inst .now) (c .before .before .before .before .before .before .before .before .before .before .before .before .before .before .before .before .before .before .before .args .done .rows) (c .before .before .before .before .before .before .before .before .before .before .before .before .before .before .before .before .before .before .before .args .p .0) (sym (c .before .before .before .before .before .before .before .before .before .before .before .is-stored .ensures) ∙ c .before .before .before .before .before .before .before .before .before .before .if1 .taken)
 
 put-use-requires : tie.Need-put-use-requires
 put-use-requires c κs = search needs
@@ -45,7 +45,7 @@ same-length-4 c = search needs
 returns : tie.Need-returns
 unfolding addedBefore
 returns c =
-    let a = c .before .before .before .before .before .before .before .before .before .before .before .before .before .before .before .before .before .before .before .before .before .before .before .before .before .before .before .args in
+    let a = c .before .before .before .before .before .before .before .before .before .before .before .before .before .before .before .before .before .before .before .before .before .before .before .before .before .before .before .before .args in
     let cols = columns (a .inst .now) (a .weight .now) (a .left-weight .now) (a .right-weight .now) in
     ap (λ (x : UseColumns). record { cols = x; rows = a .done .rows; latest = a .done .latest })
     (c .before .before .before .before .before .before .before .before .put-use .ensures ∙ ap (withUse cols (a .done .rows - 1)) (c .before .before .before .before .before .before .before .before .before .before .before .before .before .added-to .ensures ∙ ap (λ (u : SplitUse). addedTo u (a .part) (a .w)) (c .before .before .before .before .before .before .before .before .before .before .before .before .before .before .use-at .ensures)))
@@ -60,8 +60,8 @@ added-to-requires-2 c κs = search needs
 put-use-requires-2 : tie.Need-put-use-requires-2
 put-use-requires-2 c κs = search needs
 
-add-t45 : tie.Need-add-t45
-add-t45 c = omega (arith, c .before .before .before .before .before .before .before .before .before .before .before .before .before .before .before .before .before .before .before .before .before .before .before .pre .inst, c .before .before .before .before .before .before .before .before .before .before .before .before .before .before .before .before .before .before .before .before .before .before .before .good .0 .1)
+add-t46 : tie.Need-add-t46
+add-t46 c = omega (arith, c .before .before .before .before .before .before .before .before .before .before .before .before .before .before .before .before .before .before .before .before .before .before .before .before .pre .inst, c .before .before .before .before .before .before .before .before .before .before .before .before .before .before .before .before .before .before .before .before .before .before .before .before .good .0 .1)
 
 same-length-5 : tie.Need-same-length-5
 same-length-5 c = search needs
@@ -78,7 +78,7 @@ same-length-8 c = search needs
 returns-2 : tie.Need-returns-2
 unfolding addedBefore
 returns-2 c =
-    let a = c .before .before .before .before .before .before .before .before .before .before .before .before .before .before .before .before .before .before .before .before .before .before .before .args in
+    let a = c .before .before .before .before .before .before .before .before .before .before .before .before .before .before .before .before .before .before .before .before .before .before .before .before .args in
     let cols = columns (a .inst .now) (a .weight .now) (a .left-weight .now) (a .right-weight .now) in
     ap (λ (x : UseColumns). record { cols = x; rows = a .done .rows + 1; latest = a .done .latest })
     (c .before .before .before .before .before .before .before .before .put-use2 .ensures ∙ ap (withUse cols (a .done .rows)) (c .before .before .before .before .before .before .before .before .before .before .before .before .before .added-to2 .ensures ∙ ap (λ (u : SplitUse). addedTo u (a .part) (a .w)) (c .before .before .before .before .before .before .before .before .before .before .before .before .before .before .no-weights .ensures)))
@@ -102,7 +102,7 @@ add-before-spec =
     no-weights-requires
     added-to-requires-2
     put-use-requires-2
-    add-t45
+    add-t46
     same-length-5
     same-length-6
     same-length-7

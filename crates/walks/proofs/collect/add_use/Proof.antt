@@ -37,9 +37,9 @@ added-to-requires c κs = search needs
 returns-2 : tie.Need-returns-2
 unfolding added
 returns-2 c =
-    let a = c .before .before .before .before .before .before .before .before .before .before .before .before .before .args in
+    let a = c .before .before .before .before .before .before .before .before .before .before .before .before .before .before .args in
     ap (λ (u : SplitUse). record { cols = columns (a .inst .now) (a .weight .now) (a .left-weight .now) (a .right-weight .now); rows = a .done .rows; latest = u }) (c .added-to .ensures)
-    ∙ sym (cond-false _ _ (le-ltb _ _ (c .before .before .before .before .if1 .left)) ∙ cond-true _ _ (eq-eqb _ _ (c .before .if2 .taken)))
+    ∙ sym (cond-false _ _ (le-ltb _ _ (c .before .before .before .before .before .if1 .left)) ∙ cond-true _ _ (eq-eqb _ _ (c .before .if2 .taken)))
 
 put-use-requires : tie.Need-put-use-requires
 put-use-requires c κs = search needs
@@ -50,8 +50,8 @@ no-weights-requires c κs = search needs
 added-to-requires-2 : tie.Need-added-to-requires-2
 added-to-requires-2 c κs = search needs
 
-add-t33 : tie.Need-add-t33
-add-t33 c = omega (arith, c .before .before .before .before .before .before .before .before .before .before .before .before .before .before .before .before .before .before .before .before .before .before .before .before .before .before .before .pre .inst, c .before .before .before .before .before .before .before .before .before .before .before .before .before .before .before .before .before .before .before .before .before .before .before .before .before .before .before .good .0 .1)
+add-t34 : tie.Need-add-t34
+add-t34 c = omega (arith, c .before .before .before .before .before .before .before .before .before .before .before .before .before .before .before .before .before .before .before .before .before .before .before .before .before .before .before .before .pre .inst, c .before .before .before .before .before .before .before .before .before .before .before .before .before .before .before .before .before .before .before .before .before .before .before .before .before .before .before .before .good .0 .1)
 
 same-length-5 : tie.Need-same-length-5
 same-length-5 c = search needs
@@ -68,9 +68,9 @@ same-length-8 c = search needs
 returns-3 : tie.Need-returns-3
 unfolding added
 returns-3 c =
-    let a = c .before .before .before .before .before .before .before .before .before .before .before .before .before .before .before .before .before .before .before .before .before .before .before .before .before .before .before .args in
+    let a = c .before .before .before .before .before .before .before .before .before .before .before .before .before .before .before .before .before .before .before .before .before .before .before .before .before .before .before .before .args in
     ap₂ (λ (x : UseColumns) (u : SplitUse). record { cols = x; rows = a .done .rows + 1; latest = u }) (c .before .before .before .before .before .before .before .before .before .before .put-use .ensures) (c .added-to2 .ensures ∙ ap (λ (u : SplitUse). addedTo u (a .part) (a .w)) (c .before .no-weights .ensures))
-    ∙ sym (cond-false _ _ (le-ltb _ _ (c .before .before .before .before .before .before .before .before .before .before .before .before .before .before .before .before .before .before .if1 .left)) ∙ cond-false _ _ (ne-eqb _ _ (c .before .before .before .before .before .before .before .before .before .before .before .before .before .before .before .if2 .left)))
+    ∙ sym (cond-false _ _ (le-ltb _ _ (c .before .before .before .before .before .before .before .before .before .before .before .before .before .before .before .before .before .before .before .if1 .left)) ∙ cond-false _ _ (ne-eqb _ _ (c .before .before .before .before .before .before .before .before .before .before .before .before .before .before .before .if2 .left)))
 
 pub add-use-spec : {M : Type 1} → statement M
 add-use-spec =
@@ -87,7 +87,7 @@ add-use-spec =
     put-use-requires
     no-weights-requires
     added-to-requires-2
-    add-t33
+    add-t34
     same-length-5
     same-length-6
     same-length-7
