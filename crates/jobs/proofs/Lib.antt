@@ -3,3 +3,4 @@ pub mod Walk
 pub mod UseLists
 pub mod Sound
 pub mod SoundUses
+pub mod AllUses

@@ -16,7 +16,7 @@ use Rattle.jobs.specs.Lines.{badDef, badUse, badEnd, costMost, outside}
 use Rattle.jobs.proofs.Sound.{or-parts}
 
 -- an "and" that fails, one part of which holds
-and-rest : (a b : Bool) → a ≡ true → (a && b) ≡ false → b ≡ false
+pub and-rest : (a b : Bool) → a ≡ true → (a && b) ≡ false → b ≡ false
 and-rest true b t e = e
 and-rest false b t e = absurd (true≢false (sym t))
 

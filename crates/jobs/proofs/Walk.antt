@@ -49,3 +49,7 @@ pick-second t x y r p q = rw p q
 pub count-next : (test : ℕ → Bool) (i : ℕ) → countBelow test (i + 1) ≡ countBelow test i + cond (test i) 1 0
 unfolding countBelow
 count-next test i = ap (countBelow test) (add-one i)
+
+-- a turn of a loop that counts
+pub count-turn : (test : ℕ → Bool) (i have m : ℕ) (b : Bool) → have ≡ countBelow test i → b ≡ test i → m ≡ have + cond b 1 0 → m ≡ countBelow test (i + 1)
+count-turn test i have m b p q r = r ∙ ap (λ (x : ℕ). x + cond b 1 0) p ∙ ap (λ (t : Bool). countBelow test i + cond t 1 0) q ∙ sym (count-next test i)

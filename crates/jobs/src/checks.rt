@@ -6,6 +6,7 @@ ghost use Rattle.links.specs.First.{firstBelow, FirstIn};
 ghost use Prim.Native.Nat.{_≤_};
 ghost use Rattle.jobs.specs.Rows.{segmentsOf, usesOf, reservationsOf, fixedUsesOf};
 ghost use Rattle.jobs.specs.Lines.{above, badValue, badBounds, badList, badSegment, badDef, badDefAt, badEnd, badEndAt, badWeight, fixedOf, badSpan, badKind, badReservation, badFixedUse, badFixedUseAt, costMost, outside, badUse, badUseOf, badUseAt, Lists};
+use crate::all_uses::uses_fit;
 use crate::rows;
 use crate::rows::FixedUse;
 use crate::rows::Limits;
@@ -361,7 +362,7 @@ pub fn first_bad_reservation(
 }
 
 // The largest cost field of a kind.
-fn cost_most(kind: u32) -> u32
+pub(crate) fn cost_most(kind: u32) -> u32
     ensures { λ r. ⌜ r ≡ costMost kind ⌝ }
 {
     let first = picked(kind < 2, 1, 0);
@@ -370,7 +371,7 @@ fn cost_most(kind: u32) -> u32
 }
 
 // A use lies outside a segment. The products are made in 64 bits: a position may be any 32-bit number here.
-fn is_outside(s: Segment, u: Use) -> bool
+pub(crate) fn is_outside(s: Segment, u: Use) -> bool
     ensures { λ r. ⌜ r ≡ outside s u ⌝ }
 {
     let p = u.position as u64;
@@ -430,8 +431,8 @@ fn first_bad_use_of(
     i
 }
 
-// Line 7: the first bad use. The use lists are those that line 5 has passed.
-pub fn first_bad_use(
+// Line 7: the first bad use, looked for list by list. The use lists are those that line 5 has passed.
+fn search_bad_use(
     start: &[u32],
     end: &[u32],
     value: &[u32],
@@ -457,4 +458,50 @@ pub fn first_bad_use(
         i += 1;
     }
     rows::use_count(position, kind, cost)
+}
+
+// Line 7: the first bad use. All uses are asked at once; only where one is bad it is looked for. The use lists are those that line 5 has
+// passed.
+pub fn first_bad_use(
+    start: &[u32],
+    end: &[u32],
+    value: &[u32],
+    first_use: &[u32],
+    end_use: &[u32],
+    flags: &[u32],
+    position: &[u32],
+    kind: &[u32],
+    cost: &[u32],
+    limits: Limits,
+) -> usize
+    requires { ⌜ Lists (length (usesOf (now position) (now kind) (now cost))) (segmentsOf (now start) (now end) (now value) (now «first_use») (now «end_use») (now flags)) ⌝ }
+    ensures { λ r. ⌜ r ≡ firstBelow (badUseAt limits (usesOf (now (position .entry)) (now (kind .entry)) (now (cost .entry))) (segmentsOf (now (start .entry)) (now (end .entry)) (now (value .entry)) (now («first_use» .entry)) (now («end_use» .entry)) (now (flags .entry)))) (length (usesOf (now (position .entry)) (now (kind .entry)) (now (cost .entry)))) ⌝ }
+{
+    let fit = uses_fit(
+        start,
+        end,
+        value,
+        first_use,
+        end_use,
+        flags,
+        position,
+        kind,
+        cost,
+        limits,
+    );
+    if fit {
+        return rows::use_count(position, kind, cost);
+    }
+    search_bad_use(
+        start,
+        end,
+        value,
+        first_use,
+        end_use,
+        flags,
+        position,
+        kind,
+        cost,
+        limits,
+    )
 }

@@ -6,5 +6,6 @@
 // that have passed.
 // A caller should know: a row is read where it exists (`_at`, `cell`), and the check of line 7 relies on use lists that line 5 has
 // passed; no other check has a `requires`. Rows hold numbers as the columns do: before its check a number is no index of anything.
+mod all_uses;
 pub mod checks;
 pub mod rows;

@@ -1,0 +1,97 @@
+-- `begins_lower` compares the list's first use with the one before, if there is one
+use mathlib.Core.Path.{_≡_, sym, ap, ap₂, _∙_}
+use mathlib.Core.Bool.{Bool}
+use mathlib.Core.List.{List, [], _∷_}
+use Prim.Native.Nat.{ℕ, zero, suc, _+_, _-_, _≤_, _<_, zero-le}
+use native.Mathlib.Nat.{lt-of-lt-of-le}
+use native.Mathlib.Omega.{arith}
+use borrow.Author.Needs.{needs}
+use borrow.Author.Tests.{lt-ltb, le-ltb}
+use lib.Dec.{ltb}
+use lib.ListN.{length, getD}
+use Rattle.links.specs.Table.{shortest}
+use Rattle.jobs.specs.declared.rows.Use.{Use}
+use Rattle.jobs.specs.Rows.{useRow, usesOf, noUse}
+use Rattle.jobs.specs.Lines.{rowBefore}
+use Rattle.jobs.specs.AllUses.{fallsAt, beginsLower}
+use Rattle.jobs.proofs.Walk.{own-row, and-both, and-first, before-next}
+use Rattle.jobs.proofs.all_uses.begins_lower.Statement.{statement}
+use Rattle.jobs.proofs.all_uses.begins_lower.Tie as tie
+
+abbrev uses : tie.Start → List Use
+uses b = usesOf (b .args .position .now) (b .args .kind .now) (b .args .cost .now)
+
+abbrev begin : tie.Else1 → tie.Start
+begin c = c .before .before .before .before .before .before
+
+cast-first : tie.Need-cast-first
+cast-first c = search needs
+
+cast-end : tie.Need-cast-end
+cast-end c = search needs
+
+returns : tie.Need-returns
+unfolding beginsLower
+returns c = sym (and-first _ _ (le-ltb _ _ (c .if1 .taken)))
+
+-- the first use of all has none before
+first-never : (rows : List Use) (f : ℕ) → f ≡ 0 → fallsAt rows f ≡ mathlib.Core.Bool.false
+first-never rows f e = ap (fallsAt rows) e ∙ le-ltb (getD rows 0 noUse .position) 0 zero-le
+
+returns-2 : tie.Need-returns-2
+unfolding beginsLower
+returns-2 c = let b = begin (c .before) in sym (and-both _ _ _ (lt-ltb _ _ (c .before .if1 .left)) (first-never (uses b) (b .args .s .«first_use») (c .if2 .taken)))
+
+some : (n : ℕ) → (n ≡ 0 → ⊥) → 1 ≤ n
+some zero h = absurd (h mathlib.Core.Path.refl)
+some (suc n) h = omega arith
+
+sub-use-at : tie.Need-sub-use-at
+sub-use-at c = some (begin (c .before) .args .s .«first_use») (c .if2 .left)
+
+inside : (c : tie.Else1) → begin c .args .s .«first_use» < length (uses (begin c))
+inside c = lt-of-lt-of-le (c .if1 .left) (begin c .pre)
+
+last-inside : (c : tie.Else1) → begin c .args .s .«first_use» - 1 < length (uses (begin c))
+last-inside c = below (begin c .args .s .«first_use») (length (uses (begin c))) (inside c)
+  where
+    below : (i n : ℕ) → i < n → i - 1 < n
+    below i n h = omega arith
+
+use-at-requires : tie.Need-use-at-requires
+use-at-requires c κs = last-inside (c .before)
+
+use-at-requires-2 : tie.Need-use-at-requires-2
+use-at-requires-2 c κs = inside (c .before .before)
+
+-- a row that was read is the table's
+own : (b : tie.Start) (i : ℕ) (u : Use) → u ≡ useRow (b .args .position .now) (b .args .kind .now) (b .args .cost .now) i → i < length (uses b) → u ≡ getD (uses b) i noUse
+own b i u e h = own-row (useRow (b .args .position .now) (b .args .kind .now) (b .args .cost .now)) (shortest (length (b .args .position .now) ∷ length (b .args .kind .now) ∷ length (b .args .cost .now) ∷ [])) i noUse u e h
+
+returns-3 : tie.Need-returns-3
+unfolding beginsLower
+returns-3 c =
+    let t = c .before .before in
+    let l = t .before in
+    let e = l .before .before in
+    let b = begin e in
+    let f = b .args .s .«first_use» in
+    let u = own b f (t .use-at2 .result) (t .use-at2 .ensures) (inside e) in
+    let v = own b (f - 1) (l .use-at .result) (l .use-at .ensures) (last-inside e) ∙ before-next (uses b) noUse (f - 1) ∙ ap (rowBefore (uses b) noUse) (back f (some f (l .before .if2 .left))) in
+    sym (and-both _ _ _ (lt-ltb _ _ (e .if1 .left)) (sym (ap₂ (λ (x y : Use). ltb (x .position) (y .position)) u v)))
+  where
+    back : (i : ℕ) → 1 ≤ i → i - 1 + 1 ≡ i
+    back i h = omega arith
+
+pub begins-lower-spec : {M : Type 1} → statement M
+begins-lower-spec =
+    tie.close
+    (tie.spec
+    cast-first
+    cast-end
+    returns
+    returns-2
+    sub-use-at
+    use-at-requires
+    use-at-requires-2
+    returns-3)
