@@ -4,11 +4,11 @@ use crate::gap_rows::segment_at;
 use crate::meeting::GapSegment;
 use crate::meeting::Met;
 use crate::meeting::Register;
-use crate::meeting::either;
 use crate::meeting::look;
 use jobs::rows::reservation_at;
 use jobs::rows::reservation_count;
 use numbers::Unit;
+use numbers::pick::either;
 ghost use mathlib.Core.Path.{_≡_};
 ghost use Prim.Native.Nat.{_+_, _<_};
 ghost use Rattle.numbers.specs.Weight.{Weight};
@@ -97,7 +97,6 @@ impl LeftWalker {
         requires { ⌜ (s .from .0 < s .to .0) × Weight heaviest ⌝ }
         ensures { λ r. ⌜ (r .fixed ≡ fixedMet register (reservedOf (now (unit .entry)) (now (start .entry)) (now (end .entry)) (now (kind .entry)) (now (index .entry)) (now (fixed .entry)) (now («f_unit» .entry)) (now («f_point» .entry)) (now («f_value» .entry)) (now (weight .entry))) s) × (r .heaviest ≡ heaviestMet register (reservedOf (now (unit .entry)) (now (start .entry)) (now (end .entry)) (now (kind .entry)) (now (index .entry)) (now (fixed .entry)) (now («f_unit» .entry)) (now («f_point» .entry)) (now («f_value» .entry)) (now (weight .entry))) s heaviest) × (r .walker .next ≡ self .next) × StandsLeft register (reservationsOf (now (unit .entry)) (now (start .entry)) (now (end .entry)) (now (kind .entry)) (now (index .entry)) (now (fixed .entry))) (s .from .0) (r .walker) ⌝ }
     {
-        let mut at = self.at;
         let mut met = Met {
             fixed: false,
             heaviest,
@@ -117,15 +116,14 @@ impl LeftWalker {
                 f_value,
                 weight,
                 Unit(register.first.0 + v),
-                at[i],
+                self.at[i],
                 s,
                 met,
             );
             met = w.met;
-            at[i] = w.at;
+            self.at[i] = w.at;
             v += 1;
         }
-        self.at = at;
         TookLeft {
             fixed: met.fixed,
             heaviest: met.heaviest,

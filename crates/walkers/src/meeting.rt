@@ -8,10 +8,10 @@ use jobs::rows::fixed_use_count;
 use numbers::Point;
 use numbers::Unit;
 use numbers::Value;
+use numbers::pick::either;
 use numbers::weights::heavier;
 use numbers::weights::weight_of;
 ghost use mathlib.Core.Path.{_≡_};
-ghost use mathlib.Core.Bool.{_||_};
 ghost use Prim.Native.Nat.{_<_};
 ghost use lib.ListN.{length};
 ghost use Rattle.jobs.specs.Rows.{fixedUsesOf};
@@ -115,15 +115,6 @@ fn counts_as_fixed(
         return false;
     }
     r.index != s.value.0
-}
-
-pub(crate) fn either(a: bool, b: bool) -> bool
-    ensures { λ r. ⌜ r ≡ (a || b) ⌝ }
-{
-    if a {
-        return true;
-    }
-    b
 }
 
 // What was met, and with it one reservation of the register.

@@ -36,6 +36,10 @@ pub(crate) fn first_use(f_unit: &[u32], f_point: &[u32], f_value: &[u32], u: Uni
     requires { ⌜ OrderedUses (fixedUsesOf (now «f_unit») (now «f_point») (now «f_value»)) ⌝ }
     ensures { λ r. ⌜ UsesFrom (fixedUsesOf (now («f_unit» .entry)) (now («f_point» .entry)) (now («f_value» .entry))) (u .0) r ⌝ }
 {
+    // Most registers have one unit, and that is the first.
+    if u.0 == 0 {
+        return 0;
+    }
     let n = fixed_use_count(f_unit, f_point, f_value);
     first_at_least(f_unit, 0, n, u.0)
 }
