@@ -46,7 +46,7 @@ pub pick-second : {A : Type 0} (t : Bool) (x y r : A) → t ≡ false → y ≡ 
 pick-second t x y r p q = rw p q
 
 -- counting one more
-pub count-next : (test : ℕ → Bool) (i : ℕ) → countBelow test (i + 1) ≡ countBelow test i + cond (test i) 1 0
+count-next : (test : ℕ → Bool) (i : ℕ) → countBelow test (i + 1) ≡ countBelow test i + cond (test i) 1 0
 unfolding countBelow
 count-next test i = ap (countBelow test) (add-one i)
 

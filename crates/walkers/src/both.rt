@@ -24,8 +24,8 @@ pub struct Walkers {
     pub right: RightWalker,
 }
 
-// To the right: the first row of the unit that reaches the point. To the left: the row after the last that starts before it, which is that
-// row or the one before.
+// To the right: the first row of the unit that reaches the point. To the left: the row after the last that starts before the point, which
+// is the same row or the next one.
 fn places_in(
     unit: &[u32],
     start: &[u32],

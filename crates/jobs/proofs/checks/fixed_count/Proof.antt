@@ -13,7 +13,7 @@ use Rattle.links.specs.Table.{shortest}
 use Rattle.jobs.specs.declared.rows.FixedUse.{FixedUse}
 use Rattle.jobs.specs.Rows.{fixedUseRow, fixedUsesOf, noFixedUse}
 use Rattle.jobs.specs.Lines.{countBelow}
-use Rattle.jobs.proofs.Walk.{own-row, count-next}
+use Rattle.jobs.proofs.Walk.{own-row, count-turn}
 use borrow.Author.Needs.{needs}
 use Rattle.jobs.proofs.checks.fixed_count.Statement.{statement}
 use Rattle.jobs.proofs.checks.fixed_count.Tie as tie
@@ -41,9 +41,8 @@ counted : (c : tie.After-fixed-use-at Inv-loop μ-loop) (b : Bool) (m : ℕ) →
     → m ≡ countBelow (λ (k : ℕ). eqb (getD (fixedUsesOf (begin (c .before) .args .f-unit .now) (begin (c .before) .args .point .now) (begin (c .before) .args .value .now)) k noFixedUse .unit) (begin (c .before) .args .u)) (c .before .before .loop .i + 1)
 counted d b m e q =
     let c = d .before in
-    let test : ℕ → Bool = λ k. eqb (getD (fixedUsesOf (begin c .args .f-unit .now) (begin c .args .point .now) (begin c .args .value .now)) k noFixedUse .unit) (begin c .args .u) in
-    q ∙ ap (λ (x : ℕ). x + cond b 1 0) (c .before .loop .inv .1)
-    ∙ ap (λ (t : Bool). countBelow test (c .before .loop .i) + cond t 1 0) (sym e ∙ ap (λ (x : ℕ). eqb x (begin c .args .u)) (unit d)) ∙ sym (count-next test (c .before .loop .i))
+    count-turn (λ (k : ℕ). eqb (getD (fixedUsesOf (begin c .args .f-unit .now) (begin c .args .point .now) (begin c .args .value .now)) k noFixedUse .unit) (begin c .args .u)) (c .before .loop .i) (c .before .loop .have) m b (c .before .loop .inv .1)
+    (sym e ∙ ap (λ (x : ℕ). eqb x (begin c .args .u)) (unit d)) q
 
 fixed-use-count-requires : tie.Need-fixed-use-count-requires Inv-loop μ-loop
 fixed-use-count-requires c κs = search needs
