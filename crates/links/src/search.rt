@@ -31,3 +31,20 @@ pub fn first_at_least(col: &[u32], lo: usize, hi: usize, x: u32) -> usize
     }
     base + below(col[base], x)
 }
+
+// The same, asked at both ends first: for a column whose first number is often at least x, or its last one below it.
+pub fn first_from_ends(col: &[u32], lo: usize, hi: usize, x: u32) -> usize
+    requires { ⌜ Searchable (now col) lo hi ⌝ }
+    ensures { λ r. ⌜ FirstIn (λ (k : ℕ). leb x (getD (now (col .entry)) k 0)) lo hi r ⌝ }
+{
+    if lo == hi {
+        return hi;
+    }
+    if col[lo] >= x {
+        return lo;
+    }
+    if col[hi - 1] < x {
+        return hi;
+    }
+    first_at_least(col, lo, hi, x)
+}

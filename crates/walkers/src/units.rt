@@ -1,7 +1,8 @@
-// Where the rows and the fixed uses of a unit stand. Units do not fall, so both stand together.
+// Where the rows and the fixed uses of a unit stand. Units do not fall, so both stand together. Most registers have one unit, whose rows are
+// all rows: the ends of the column tell.
 use jobs::rows::fixed_use_count;
 use jobs::rows::reservation_count;
-use links::search::first_at_least;
+use links::search::first_from_ends;
 use numbers::Unit;
 ghost use Prim.Native.Nat.{_<_};
 ghost use Rattle.jobs.specs.Rows.{reservationsOf, fixedUsesOf};
@@ -26,8 +27,8 @@ pub(crate) fn rows_of_unit(
     ensures { λ r. ⌜ RowsOfUnit (reservationsOf (now (unit .entry)) (now (start .entry)) (now (end .entry)) (now (kind .entry)) (now (index .entry)) (now (fixed .entry))) (u .0) (r .from) (r .to) ⌝ }
 {
     let n = reservation_count(unit, start, end, kind, index, fixed);
-    let from = first_at_least(unit, 0, n, u.0);
-    let to = first_at_least(unit, from, n, u.0 + 1);
+    let from = first_from_ends(unit, 0, n, u.0);
+    let to = first_from_ends(unit, from, n, u.0 + 1);
     UnitRows { from, to }
 }
 
@@ -36,10 +37,6 @@ pub(crate) fn first_use(f_unit: &[u32], f_point: &[u32], f_value: &[u32], u: Uni
     requires { ⌜ OrderedUses (fixedUsesOf (now «f_unit») (now «f_point») (now «f_value»)) ⌝ }
     ensures { λ r. ⌜ UsesFrom (fixedUsesOf (now («f_unit» .entry)) (now («f_point» .entry)) (now («f_value» .entry))) (u .0) r ⌝ }
 {
-    // Most registers have one unit, and that is the first.
-    if u.0 == 0 {
-        return 0;
-    }
     let n = fixed_use_count(f_unit, f_point, f_value);
-    first_at_least(f_unit, 0, n, u.0)
+    first_from_ends(f_unit, 0, n, u.0)
 }

@@ -23,36 +23,36 @@ holds b = let a = b .args in holds-unit (a .unit .now) (a .start .now) (a .end .
 reservation-count-requires : tie.Need-reservation-count-requires
 reservation-count-requires c κs = search needs
 
-first-at-least-requires : tie.Need-first-at-least-requires
-first-at-least-requires c κs =
+first-from-ends-requires : tie.Need-first-from-ends-requires
+first-from-ends-requires c κs =
     let b = c .before .before .before .before .before .before .before in
     subst (λ (n : ℕ). Searchable (b .args .unit .now) 0 n) (sym (c .reservation-count .ensures)) (units-searchable (rows b) (b .pre .0) (b .args .u .0) (b .args .unit .now) (holds b) 0 zero-le)
 
-add-first-at-least : tie.Need-add-first-at-least
-add-first-at-least c = omega (arith, c .before .before .before .before .before .before .before .before .before .pre .1)
+add-first-from-ends : tie.Need-add-first-from-ends
+add-first-from-ends c = omega (arith, c .before .before .before .before .before .before .before .before .before .pre .1)
 
-first-at-least-requires-2 : tie.Need-first-at-least-requires-2
-first-at-least-requires-2 c κs =
+first-from-ends-requires-2 : tie.Need-first-from-ends-requires-2
+first-from-ends-requires-2 c κs =
     let b = c .before .before .before .before .before .before .before .before .before in
     let e = c .before .before .reservation-count .ensures in
-    subst (λ (n : ℕ). Searchable (b .args .unit .now) (c .before .first-at-least .result) n) (sym e) (units-searchable (rows b) (b .pre .0) (b .args .u .0) (b .args .unit .now) (holds b) (c .before .first-at-least .result) (le-trans (c .before .first-at-least .ensures .to) (le-of-eq e)))
+    subst (λ (n : ℕ). Searchable (b .args .unit .now) (c .before .first-from-ends .result) n) (sym e) (units-searchable (rows b) (b .pre .0) (b .args .u .0) (b .args .unit .now) (holds b) (c .before .first-from-ends .result) (le-trans (c .before .first-from-ends .ensures .to) (le-of-eq e)))
 
 returns : tie.Need-returns
 returns c =
     let b = c .before .before .before .before .before .before .before .before .before .before in
     let e = c .before .before .before .reservation-count .ensures in
-    let a = c .before .before .first-at-least .result in
-    let z = c .first-at-least2 .result in
+    let a = c .before .before .first-from-ends .result in
+    let z = c .first-from-ends2 .result in
     rows-found (rows b) (b .pre .0) (b .args .u .0) (b .args .unit .now) (holds b) a z
-    (subst (λ (n : ℕ). FirstIn (λ (k : ℕ). leb (b .args .u .0) (getD (b .args .unit .now) k 0)) 0 n a) e (c .before .before .first-at-least .ensures))
-    (subst (λ (n : ℕ). FirstIn (λ (k : ℕ). leb (b .args .u .0 + 1) (getD (b .args .unit .now) k 0)) a n z) e (c .first-at-least2 .ensures))
+    (subst (λ (n : ℕ). FirstIn (λ (k : ℕ). leb (b .args .u .0) (getD (b .args .unit .now) k 0)) 0 n a) e (c .before .before .first-from-ends .ensures))
+    (subst (λ (n : ℕ). FirstIn (λ (k : ℕ). leb (b .args .u .0 + 1) (getD (b .args .unit .now) k 0)) a n z) e (c .first-from-ends2 .ensures))
 
 pub rows-of-unit-spec : {M : Type 1} → statement M
 rows-of-unit-spec =
     tie.close
     (tie.spec
     reservation-count-requires
-    first-at-least-requires
-    add-first-at-least
-    first-at-least-requires-2
+    first-from-ends-requires
+    add-first-from-ends
+    first-from-ends-requires-2
     returns)
