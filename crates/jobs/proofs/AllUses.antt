@@ -1,15 +1,14 @@
--- Where the counts fit, no use breaks line 7: positions fall as often as from list to list, so never within one, and a list whose ends lie inside its segment lies inside
+-- Where the counts fit, no use breaks line 7: positions fall within no list, and a list whose ends lie inside its segment lies inside
 use mathlib.Core.Path.{_≡_, refl, sym, ap, _∙_, subst}
-use mathlib.Core.Logic.{_⊎_, ⊎-elim}
+use mathlib.Core.Logic.{⊎-elim}
 use mathlib.Core.Bool.{Bool, true, false, not, _&&_, _||_, cond, true≢false}
 use mathlib.Core.List.{List}
 use Prim.Native.Nat.{ℕ, zero, suc, _+_, _-_, _*_, _≤_, _<_, zero-le}
-use native.Mathlib.Nat.{le-refl, le-trans, le-of-eq, lt-of-lt-of-le, lt-of-le-of-lt, not-suc-le-zero}
-use native.Mathlib.Numerals.{add-one}
+use native.Mathlib.Nat.{le-refl, le-trans, le-of-eq, le-antisymm, lt-of-lt-of-le, lt-of-le-of-lt, not-suc-le-zero}
 use native.Mathlib.Omega.{arith}
 use lib.Dec.{leb, ltb, eqb}
 use lib.ListN.{length, getD}
-use borrow.Author.Tests.{ltb-true, ltb-false, leb-false, eqb-true, eqb-false, lt-ltb, le-ltb, lt-leb, eq-eqb, ne-eqb}
+use borrow.Author.Tests.{ltb-true, ltb-false, leb-false, eqb-true, eqb-false, lt-ltb, le-ltb, lt-leb}
 use Rattle.links.specs.First.{firstBelow}
 use Rattle.links.proofs.Firsts.{split, first-none}
 use Rattle.jobs.specs.declared.rows.Segment.{Segment}
@@ -18,56 +17,22 @@ use Rattle.jobs.specs.declared.rows.Limits.{Limits}
 use Rattle.jobs.specs.Rows.{noSegment, noUse, fixedDef}
 use Rattle.jobs.specs.Lines.{rowBefore, countBelow, costMost, outside, badUse, badUseOf, badUseAt, Lists}
 use Rattle.jobs.specs.AllUses.{badField, badFieldAt, fallsAt, heldFrom, strays, straysAt, beginsLower, beginsLowerAt, usesFit}
-use Rattle.jobs.proofs.Walk.{before-next, or-none, and-first, and-both}
+use Rattle.jobs.proofs.Walk.{or-none}
 use Rattle.jobs.proofs.Sound.{or-parts}
 use Rattle.jobs.proofs.SoundUses.{Fitting, and-rest}
 use Rattle.jobs.proofs.UseLists.{list-of}
+use Rattle.jobs.proofs.Counting.{count-none, count-more, count-hit}
 
--- ---- counts
-module _ (test : ℕ → Bool) where
-  -- where nothing is counted nothing passes
-  pub count-none : (n : ℕ) → countBelow test n ≡ 0 → (k : ℕ) → k < n → test k ≡ false
-  unfolding countBelow
-  count-none zero e k h = absurd (not-suc-le-zero h)
-  count-none (suc n) e k h = ⊎-elim (λ m. count-none n (none-first (countBelow test n) (cond (test n) 1 0) e) k m) (λ m. ap test (last k n h m) ∙ none-last (test n) (countBelow test n) e) (split k n)
-    where
-      none-first : (a b : ℕ) → a + b ≡ 0 → a ≡ 0
-      none-first a b p = omega arith
+-- ---- numbers
+next : (i : ℕ) → i ≤ suc i
+next i = omega arith
 
-      last : (k n : ℕ) → k < suc n → n ≤ k → k ≡ n
-      last k n p q = omega arith
+earlier : (i n : ℕ) → suc i ≤ n → i ≤ n
+earlier i n p = omega arith
 
-      none-last : (b : Bool) (a : ℕ) → a + cond b 1 0 ≡ 0 → b ≡ false
-      none-last true a p = absurd (omega (arith, p))
-      none-last false a p = refl
-
-  -- one more that passes is counted
-  count-more : (a b : ℕ) → a ≤ b → countBelow test a ≤ countBelow test b
-  unfolding countBelow
-  count-more a zero h = le-of-eq (ap (countBelow test) (none a h))
-    where
-      none : (a : ℕ) → a ≤ 0 → a ≡ 0
-      none a p = omega arith
-  count-more a (suc b) h = ⊎-elim (λ m. le-trans (count-more a b (inner a b m)) (grown (countBelow test b) (cond (test b) 1 0))) (λ m. le-of-eq (ap (countBelow test) (same a b h m))) (split a (suc b))
-    where
-      inner : (a b : ℕ) → a < suc b → a ≤ b
-      inner a b p = omega arith
-
-      same : (a b : ℕ) → a ≤ suc b → suc b ≤ a → a ≡ suc b
-      same a b p q = omega arith
-
-      grown : (x y : ℕ) → x ≤ x + y
-      grown x y = omega arith
-
-  count-hit : (a u b : ℕ) → a ≤ u → u < b → test u ≡ true → countBelow test a + 1 ≤ countBelow test b
-  unfolding countBelow
-  count-hit a u b p q t = le-trans (plus (countBelow test a) (countBelow test u) (count-more a u p)) (le-trans (le-of-eq (sym (here u t))) (count-more (suc u) b q))
-    where
-      plus : (x y : ℕ) → x ≤ y → x + 1 ≤ y + 1
-      plus x y h = omega arith
-
-      here : (u : ℕ) → test u ≡ true → countBelow test (suc u) ≡ countBelow test u + 1
-      here u t = ap (λ (b : Bool). countBelow test u + cond b 1 0) t
+-- a later number that is another is above
+apart : (f u : ℕ) → f ≤ u → (u ≡ f → ⊥) → f < u
+apart f u p n = ⊎-elim (λ m. m) (λ m. absurd (n (sym (le-antisymm p m)))) (split f u)
 
 -- ---- tests
 -- both parts of an "and" that holds
@@ -147,9 +112,6 @@ module _ (limits : Limits) (uses : List Use) (segments : List Segment) (lists : 
   unfolding countBelow
   begun zero h = zero-le
   begun (suc i) h = carried i 0 h (begun i (earlier i (length segments) h))
-    where
-      earlier : (i n : ℕ) → suc i ≤ n → i ≤ n
-      earlier i n p = omega arith
 
   -- a fall within a list stands over behind it
   over-by : (i u : ℕ) (b : Bool) → beginsLower uses (row i) ≡ b → i < length segments → row i .«first_use» < u → u < row i .«end_use» → fallsAt uses u ≡ true → lower i + cond b 1 0 + 1 ≤ fallen (row i .«end_use»)
@@ -161,18 +123,12 @@ module _ (limits : Limits) (uses : List Use) (segments : List Segment) (lists : 
     where
       two : (a x y z w : ℕ) → a + 0 ≤ x → y ≡ x → y + 1 ≤ z → z + 1 ≤ w → a + 1 + 1 ≤ w
       two a x y z w p e q r = omega arith
-
-      next : (i : ℕ) → i ≤ suc i
-      next i = omega arith
   over-by i u false e h p q t =
       let f = row i .«first_use» in
       one (lower i) (fallen (ended i)) (fallen f) (fallen (row i .«end_use»)) (begun i (le-trans (next i) h)) (ap fallen (lists .follows i h)) (count-hit (fallsAt uses) f u (row i .«end_use») (le-trans (next f) p) q t)
     where
       one : (a x y z : ℕ) → a + 0 ≤ x → y ≡ x → y + 1 ≤ z → a + 0 + 1 ≤ z
       one a x y z p e q = omega arith
-
-      next : (i : ℕ) → i ≤ suc i
-      next i = omega arith
 
   fall-over : (i u : ℕ) → i < length segments → row i .«first_use» < u → u < row i .«end_use» → fallsAt uses u ≡ true → lower (suc i) + 1 ≤ fallen (ended (suc i))
   unfolding countBelow
@@ -239,20 +195,14 @@ module _ (limits : Limits) (uses : List Use) (segments : List Segment) (lists : 
 
       -- where the use has to lie inside, the list's first such one is no later
       held-before : (b : Bool) → (eqb u (s .«first_use») && b) ≡ false → s .«first_use» + cond b 1 0 ≤ u
-      held-before true e = apart (s .«first_use») u first (eqb-false u (s .«first_use») (fails (eqb u (s .«first_use»)) e))
+      held-before true e = above (s .«first_use») u (apart (s .«first_use») u first (eqb-false u (s .«first_use») (fails (eqb u (s .«first_use»)) e)))
         where
           fails : (a : Bool) → (a && true) ≡ false → a ≡ false
           fails true e = e
           fails false e = refl
 
-          apart : (f u : ℕ) → f ≤ u → (u ≡ f → ⊥) → f + 1 ≤ u
-          apart f u p n = ⊎-elim (λ m. above f u m) (λ m. absurd (n (sym (both f u p m)))) (split f u)
-            where
-              above : (f u : ℕ) → f < u → f + 1 ≤ u
-              above f u p = omega arith
-
-              both : (f u : ℕ) → f ≤ u → u ≤ f → f ≡ u
-              both f u p q = omega arith
+          above : (f u : ℕ) → f < u → f + 1 ≤ u
+          above f u p = omega arith
       held-before false e = plain (s .«first_use») u first
         where
           plain : (f u : ℕ) → f ≤ u → f + 0 ≤ u
@@ -290,27 +240,18 @@ module _ (limits : Limits) (uses : List Use) (segments : List Segment) (lists : 
           below : (e p q : ℕ) → p ≤ q → 4 * q < e → 4 * p < e
           below e p q x y = omega arith
 
-          apart : (f u : ℕ) → f ≤ u → (u ≡ f → ⊥) → f < u
-          apart f u p n = ⊎-elim (λ m. m) (λ m. absurd (n (sym (both f u p m)))) (split f u)
-            where
-              both : (f u : ℕ) → f ≤ u → u ≤ f → f ≡ u
-              both f u p q = omega arith
-
-      pub listed-sound : badUseOf limits uses s u ≡ false
+      listed-sound : badUseOf limits uses s u ≡ false
       listed-sound = fits limits s (eqb u (s .«first_use»)) (rowBefore uses noUse u) (getD uses u noUse) fitting
 
     -- ---- all lists
     module _ (sound : (u : ℕ) → u < length uses → badField (getD uses u noUse) ≡ false) (held : (i : ℕ) → i < length segments → strays limits uses (row i) ≡ false) where
-      pub sound-upto : (i : ℕ) → i ≤ length segments → (u : ℕ) → u < ended i → badUseAt limits uses segments u ≡ false
+      sound-upto : (i : ℕ) → i ≤ length segments → (u : ℕ) → u < ended i → badUseAt limits uses segments u ≡ false
       sound-upto zero h u l = absurd (not-suc-le-zero l)
       sound-upto (suc i) h u l =
           ⊎-elim
           (λ m. sound-upto i (earlier i (length segments) h) u m)
           (λ m. let f = le-trans (le-of-eq (lists .follows i h)) m in sym (ap (λ (k : ℕ). badUseOf limits uses (getD segments k noSegment) u) (list-of (length uses) segments lists i u h f l)) ∙ listed-sound i u h f l (sound u (lt-of-lt-of-le l (lists .inside i h))) (held i h))
           (split u (ended i))
-        where
-          earlier : (i n : ℕ) → suc i ≤ n → i ≤ n
-          earlier i n p = omega arith
 
   -- where the counts fit no use is bad
   pub all-fit : usesFit limits uses segments ≡ true → length uses ≡ firstBelow (badUseAt limits uses segments) (length uses)

@@ -1,5 +1,7 @@
 -- What the checks share
 pub mod Walk
+pub mod Reading
+pub mod Counting
 pub mod UseLists
 pub mod Sound
 pub mod SoundUses

@@ -8,7 +8,7 @@ use native.Mathlib.Numerals.{add-one}
 use lib.ListN.{length, getD}
 use Rattle.links.specs.Table.{table}
 use Rattle.links.proofs.Tables.{table-length, table-at}
-use Rattle.jobs.specs.Lines.{rowBefore, countBelow}
+use Rattle.jobs.specs.Lines.{rowBefore}
 
 -- before the next row stands this one
 pub before-next : {A : Type 0} (rows : List A) (none : A) (i : ℕ) → getD rows i none ≡ rowBefore rows none (i + 1)
@@ -44,12 +44,3 @@ pick-first t x y r p q = rw p q
 
 pub pick-second : {A : Type 0} (t : Bool) (x y r : A) → t ≡ false → y ≡ r → cond t x y ≡ r
 pick-second t x y r p q = rw p q
-
--- counting one more
-count-next : (test : ℕ → Bool) (i : ℕ) → countBelow test (i + 1) ≡ countBelow test i + cond (test i) 1 0
-unfolding countBelow
-count-next test i = ap (countBelow test) (add-one i)
-
--- a turn of a loop that counts
-pub count-turn : (test : ℕ → Bool) (i have m : ℕ) (b : Bool) → have ≡ countBelow test i → b ≡ test i → m ≡ have + cond b 1 0 → m ≡ countBelow test (i + 1)
-count-turn test i have m b p q r = r ∙ ap (λ (x : ℕ). x + cond b 1 0) p ∙ ap (λ (t : Bool). countBelow test i + cond t 1 0) q ∙ sym (count-next test i)

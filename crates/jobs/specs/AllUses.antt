@@ -14,6 +14,7 @@ use Rattle.jobs.specs.declared.rows.Limits.{Limits}
 unfoldable pub badField : Use → Bool
 badField u = ltb 9 (u .kind) || ltb (costMost (u .kind)) (u .cost)
 
+-- the same of use u
 abbrev pub badFieldAt : List Use → ℕ → Bool
 badFieldAt uses u = badField (getD uses u noUse)
 
@@ -25,12 +26,13 @@ fallsAt uses u = ltb (getD uses u noUse .position) (rowBefore uses noUse u .posi
 abbrev pub heldFrom : Segment → ℕ
 heldFrom s = s .«first_use» + cond (fixedDef (s .flags)) 1 0
 
--- the last use of a list is past the blocks, or it or the first use that has to lie inside the segment does not
+-- a segment's list strays: its last use is past the blocks, or it or the first use that has to lie inside the segment does not
 unfoldable pub strays : Limits → List Use → Segment → Bool
 strays limits uses s =
     let last = getD uses (s .«end_use» - 1) noUse in
     ltb (s .«first_use») (s .«end_use») && (leb (limits .end) (4 * last .position) || (ltb (heldFrom s) (s .«end_use») && (outside s (getD uses (heldFrom s) noUse) || outside s last)))
 
+-- the list of segment i strays
 abbrev pub straysAt : Limits → List Use → List Segment → ℕ → Bool
 straysAt limits uses segments i = strays limits uses (getD segments i noSegment)
 
@@ -38,6 +40,7 @@ straysAt limits uses segments i = strays limits uses (getD segments i noSegment)
 unfoldable pub beginsLower : List Use → Segment → Bool
 beginsLower uses s = ltb (s .«first_use») (s .«end_use») && fallsAt uses (s .«first_use»)
 
+-- the same of segment i's list
 abbrev pub beginsLowerAt : List Use → List Segment → ℕ → Bool
 beginsLowerAt uses segments i = beginsLower uses (getD segments i noSegment)
 

@@ -2,7 +2,8 @@
 use mathlib.Core.Path.{_≡_, refl}
 use mathlib.Core.Bool.{Bool, true, false, not, _&&_, cond}
 use Prim.Native.Nat.{ℕ, _<_}
-use lib.Dec.{T, ltb, ltb→lt, lt→ltb}
+use native.Mathlib.Nat.{lt-trans}
+use lib.Dec.{T, ltb, ltb→lt, lt→ltb, lit<}
 use lib.Ieee.Fits.{and-l, and-r}
 
 -- two tests that imply each other are equal
@@ -33,3 +34,13 @@ cond-true x y e = rw e
 
 pub cond-false : {A : Type 0} {t : Bool} (x y : A) → t ≡ false → cond t x y ≡ y
 cond-false x y e = rw e
+
+-- asked by halves, or one after the other
+pub halved : {A : Type 0} (two four : Bool) (x y z : A) → (T two → T four) → cond four (cond two x y) z ≡ cond two x (cond four y z)
+halved true true x y z h = refl
+halved true false x y z h = absurd (h tt)
+halved false true x y z h = refl
+halved false false x y z h = refl
+
+pub two-four : (n : ℕ) → T (ltb n 2) → T (ltb n 4)
+two-four n t = lt→ltb n 4 (lt-trans (ltb→lt n 2 t) (lit< tt))

@@ -1,15 +1,15 @@
 -- Use costs are weights of at most 65536.0 before they are scaled, and finite after it; a cost may be picked as bits
 use mathlib.Core.Path.{_≡_, refl, sym, ap, _∙_, subst}
 use Prim.Native.Nat.{ℕ, _*_, _^_, _≤_, _<_, zero-le}
-use native.Mathlib.Nat.{le-refl, le-trans, le-of-eq, lt-of-le-of-lt, lt-trans, mul-pos, mul-le-mul, mul-le-mul-right}
+use native.Mathlib.Nat.{le-refl, le-trans, le-of-eq, lt-of-le-of-lt, mul-pos, mul-le-mul, mul-le-mul-right}
 use mathlib.Core.Bool.{Bool, true, false, not, cond}
-use lib.Dec.{T, leb, ltb, eqb, leb→le, ltb→lt, lt→ltb, lit≤, lit<}
+use lib.Dec.{T, leb, ltb, eqb, leb→le, lit≤, lit<}
 use lib.Pow.{pow-pos}
 use lib.Ieee.{Float, fin, binary32, fits, sub, mul, ofBits}
 use Rattle.numbers.specs.declared.costs.RematScales.{RematScales}
 use Rattle.numbers.specs.Weight.{Finite, number, Weight, finite, infiniteUnits, unitsOf, zeroWeight, costLimit, valueOf}
 use Rattle.numbers.specs.Cost.{reloadCost, moveCost, spillCost, scaled, costBits}
-use Rattle.numbers.proofs.Tests.{cond-both}
+use Rattle.numbers.proofs.Tests.{cond-both, halved, two-four}
 use Rattle.numbers.proofs.Units.{units-below, finite-of-units, zero-finite, zero-units}
 use Rattle.numbers.proofs.Rounding.{rounded, round-at-most}
 use Rattle.numbers.proofs.Operations.{product-round, product-weight, difference-finite}
@@ -102,18 +102,19 @@ scaled-finite {cost} {s} code k c =
 
 -- ---- from bits
 -- picked as bits and then made a number, or picked as a number, by the same tests
-picked-bits : (two four eight free : Bool) (field : ℕ) → (T two → T four) →
-    valueOf costLimit (cond four (cond two (cond free 1065353216 0) 1056964608) (cond eight field 0))
+picked-bits : (two four eight free : Bool) (field : ℕ) →
+    valueOf costLimit (cond two (cond free 1065353216 0) (cond four 1056964608 (cond eight field 0)))
     ≡ cond two (cond free reloadCost zeroWeight) (cond four (sub binary32 reloadCost moveCost) (cond eight (valueOf costLimit field) zeroWeight))
 unfolding valueOf sub ofBits
-picked-bits true true eight true field h = refl
-picked-bits true true eight false field h = refl
-picked-bits true false eight free field h = absurd (h tt)
-picked-bits false true eight free field h = refl
-picked-bits false false true free field h = refl
-picked-bits false false false free field h = refl
+picked-bits true four eight true field = refl
+picked-bits true four eight false field = refl
+picked-bits false true eight free field = refl
+picked-bits false false true free field = refl
+picked-bits false false false free field = refl
 
 -- the value of the bits of a use's cost is its cost
 pub bits-cost : (kind field : ℕ) → valueOf costLimit (costBits kind field) ≡ spillCost reloadCost moveCost kind field
 unfolding costBits spillCost
-bits-cost kind field = picked-bits (ltb kind 2) (ltb kind 4) (ltb kind 8) (eqb field 0) field (λ t. lt→ltb kind 4 (lt-trans (ltb→lt kind 2 t) (lit< tt)))
+bits-cost kind field =
+    ap (valueOf costLimit) (halved (ltb kind 2) (ltb kind 4) (cond (eqb field 0) 1065353216 0) 1056964608 (cond (ltb kind 8) field 0) (two-four kind))
+    ∙ picked-bits (ltb kind 2) (ltb kind 4) (ltb kind 8) (eqb field 0) field

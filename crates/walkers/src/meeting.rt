@@ -61,7 +61,7 @@ fn clashes(s: GapSegment, f: FixedUse) -> bool
 }
 
 // A fixed use of the reservation's unit, from its fixed row on, clashes with the segment. Where the unit's fixed uses begin is
-// searched for here: few reservations have a fixed row. They are in order: once one lies past the segment, the rest does.
+// searched for here, so that no walker has to keep it. They are in order: once one lies past the segment, the rest does.
 fn use_clashes(
     f_unit: &[u32],
     f_point: &[u32],

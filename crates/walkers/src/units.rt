@@ -1,5 +1,5 @@
-// Where the rows and the fixed uses of a unit stand. Units do not fall, so both stand together. Most registers have one unit, whose rows are
-// all rows: the ends of the column tell.
+// Where the rows and the fixed uses of a unit stand. Units do not fall, so both stand together. A register often has one unit, whose rows
+// are all rows: the ends of the column tell.
 use jobs::rows::fixed_use_count;
 use jobs::rows::reservation_count;
 use links::search::first_from_ends;

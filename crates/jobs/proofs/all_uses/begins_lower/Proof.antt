@@ -1,20 +1,18 @@
 -- `begins_lower` compares the list's first use with the one before, if there is one
 use mathlib.Core.Path.{_≡_, sym, ap, ap₂, _∙_}
-use mathlib.Core.Bool.{Bool}
-use mathlib.Core.List.{List, [], _∷_}
-use Prim.Native.Nat.{ℕ, zero, suc, _+_, _-_, _≤_, _<_, zero-le}
+use mathlib.Core.Bool.{false}
+use mathlib.Core.List.{List}
+use Prim.Native.Nat.{ℕ, _-_, _<_, zero-le}
 use native.Mathlib.Nat.{lt-of-lt-of-le}
-use native.Mathlib.Omega.{arith}
 use borrow.Author.Needs.{needs}
 use borrow.Author.Tests.{lt-ltb, le-ltb}
 use lib.Dec.{ltb}
 use lib.ListN.{length, getD}
-use Rattle.links.specs.Table.{shortest}
 use Rattle.jobs.specs.declared.rows.Use.{Use}
-use Rattle.jobs.specs.Rows.{useRow, usesOf, noUse}
-use Rattle.jobs.specs.Lines.{rowBefore}
+use Rattle.jobs.specs.Rows.{usesOf, noUse}
 use Rattle.jobs.specs.AllUses.{fallsAt, beginsLower}
-use Rattle.jobs.proofs.Walk.{own-row, and-both, and-first, before-next}
+use Rattle.jobs.proofs.Walk.{and-both, and-first}
+use Rattle.jobs.proofs.Reading.{own-use, not-none, row-before, before-inside}
 use Rattle.jobs.proofs.all_uses.begins_lower.Statement.{statement}
 use Rattle.jobs.proofs.all_uses.begins_lower.Tie as tie
 
@@ -35,38 +33,27 @@ unfolding beginsLower
 returns c = sym (and-first _ _ (le-ltb _ _ (c .if1 .taken)))
 
 -- the first use of all has none before
-first-never : (rows : List Use) (f : ℕ) → f ≡ 0 → fallsAt rows f ≡ mathlib.Core.Bool.false
+first-never : (rows : List Use) (f : ℕ) → f ≡ 0 → fallsAt rows f ≡ false
 first-never rows f e = ap (fallsAt rows) e ∙ le-ltb (getD rows 0 noUse .position) 0 zero-le
 
 returns-2 : tie.Need-returns-2
 unfolding beginsLower
 returns-2 c = let b = begin (c .before) in sym (and-both _ _ _ (lt-ltb _ _ (c .before .if1 .left)) (first-never (uses b) (b .args .s .«first_use») (c .if2 .taken)))
 
-some : (n : ℕ) → (n ≡ 0 → ⊥) → 1 ≤ n
-some zero h = absurd (h mathlib.Core.Path.refl)
-some (suc n) h = omega arith
-
 sub-use-at : tie.Need-sub-use-at
-sub-use-at c = some (begin (c .before) .args .s .«first_use») (c .if2 .left)
+sub-use-at c = not-none (begin (c .before) .args .s .«first_use») (c .if2 .left)
 
 inside : (c : tie.Else1) → begin c .args .s .«first_use» < length (uses (begin c))
 inside c = lt-of-lt-of-le (c .if1 .left) (begin c .pre)
 
 last-inside : (c : tie.Else1) → begin c .args .s .«first_use» - 1 < length (uses (begin c))
-last-inside c = below (begin c .args .s .«first_use») (length (uses (begin c))) (inside c)
-  where
-    below : (i n : ℕ) → i < n → i - 1 < n
-    below i n h = omega arith
+last-inside c = before-inside (begin c .args .s .«first_use») (length (uses (begin c))) (inside c)
 
 use-at-requires : tie.Need-use-at-requires
 use-at-requires c κs = last-inside (c .before)
 
 use-at-requires-2 : tie.Need-use-at-requires-2
 use-at-requires-2 c κs = inside (c .before .before)
-
--- a row that was read is the table's
-own : (b : tie.Start) (i : ℕ) (u : Use) → u ≡ useRow (b .args .position .now) (b .args .kind .now) (b .args .cost .now) i → i < length (uses b) → u ≡ getD (uses b) i noUse
-own b i u e h = own-row (useRow (b .args .position .now) (b .args .kind .now) (b .args .cost .now)) (shortest (length (b .args .position .now) ∷ length (b .args .kind .now) ∷ length (b .args .cost .now) ∷ [])) i noUse u e h
 
 returns-3 : tie.Need-returns-3
 unfolding beginsLower
@@ -76,12 +63,10 @@ returns-3 c =
     let e = l .before .before in
     let b = begin e in
     let f = b .args .s .«first_use» in
-    let u = own b f (t .use-at2 .result) (t .use-at2 .ensures) (inside e) in
-    let v = own b (f - 1) (l .use-at .result) (l .use-at .ensures) (last-inside e) ∙ before-next (uses b) noUse (f - 1) ∙ ap (rowBefore (uses b) noUse) (back f (some f (l .before .if2 .left))) in
+    let own = own-use (b .args .position .now) (b .args .kind .now) (b .args .cost .now) in
+    let u = own f (t .use-at2 .result) (t .use-at2 .ensures) (inside e) in
+    let v = own (f - 1) (l .use-at .result) (l .use-at .ensures) (last-inside e) ∙ row-before (uses b) noUse f (not-none f (l .before .if2 .left)) in
     sym (and-both _ _ _ (lt-ltb _ _ (e .if1 .left)) (sym (ap₂ (λ (x y : Use). ltb (x .position) (y .position)) u v)))
-  where
-    back : (i : ℕ) → 1 ≤ i → i - 1 + 1 ≡ i
-    back i h = omega arith
 
 pub begins-lower-spec : {M : Type 1} → statement M
 begins-lower-spec =

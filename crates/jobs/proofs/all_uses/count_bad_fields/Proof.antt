@@ -1,24 +1,23 @@
 -- `count_bad_fields` counts the uses with a bad field, one by one
-use mathlib.Core.Path.{_≡_, refl, sym, ap, _∙_}
+use mathlib.Core.Path.{_≡_, sym, ap, _∙_}
 use mathlib.Core.Logic.{⊎-elim}
 use mathlib.Core.Bool.{Bool, true, false}
-use mathlib.Core.List.{List, [], _∷_}
+use mathlib.Core.List.{List}
 use Prim.Native.Nat.{ℕ, _+_, _-_, _≤_, _<_, zero-le}
-use native.Mathlib.Nat.{lt-of-lt-of-le, le-of-eq, le-antisymm, add-zero}
+use native.Mathlib.Nat.{lt-of-lt-of-le, le-trans, le-of-eq, add-zero}
 use native.Mathlib.Omega.{arith}
 use borrow.Author.Needs.{needs}
 use lib.ListN.{length, getD}
-use Rattle.links.specs.Table.{shortest}
 use Rattle.jobs.specs.declared.rows.Use.{Use}
-use Rattle.jobs.specs.Rows.{useRow, usesOf, noUse}
-use Rattle.jobs.specs.Lines.{countBelow}
+use Rattle.jobs.specs.Rows.{usesOf, noUse}
 use Rattle.jobs.specs.AllUses.{badField, badFieldAt}
-use Rattle.jobs.proofs.Walk.{own-row, count-turn}
+use Rattle.jobs.proofs.Counting.{Counted, counted-none, counted-turn, counted-all}
+use Rattle.jobs.proofs.Reading.{own-use}
 use Rattle.jobs.proofs.all_uses.count_bad_fields.Statement.{statement}
 use Rattle.jobs.proofs.all_uses.count_bad_fields.Tie as tie
 
 abbrev Inv-loop : tie.InvT-loop
-Inv-loop position kind cost n bad₀ i₀ bad i = (i ≤ n) × (bad ≡ countBelow (badFieldAt (usesOf position kind cost)) i) × (bad ≤ i)
+Inv-loop position kind cost n bad₀ i₀ bad i = (i ≤ n) × Counted (badFieldAt (usesOf position kind cost)) i bad
 
 abbrev μ-loop : tie.MeasureT-loop
 μ-loop position kind cost n bad₀ i₀ bad i = n - i
@@ -36,7 +35,7 @@ in-list c = lt-of-lt-of-le (c .loop-test .taken) (le-of-eq (c .before .before .u
 row : (d : tie.After-use-at Inv-loop μ-loop) → d .use-at .result ≡ getD (uses (begin (d .before))) (d .before .before .loop .i) noUse
 row d =
     let a = begin (d .before) .args in
-    own-row (useRow (a .position .now) (a .kind .now) (a .cost .now)) (shortest (length (a .position .now) ∷ length (a .kind .now) ∷ length (a .cost .now) ∷ [])) (d .before .before .loop .i) noUse (d .use-at .result) (d .use-at .ensures) (in-list (d .before))
+    own-use (a .position .now) (a .kind .now) (a .cost .now) (d .before .before .loop .i) (d .use-at .result) (d .use-at .ensures) (in-list (d .before))
 
 tested : (d : tie.After-field-is-bad Inv-loop μ-loop) (b : Bool) → d .field-is-bad .result ≡ b → b ≡ badFieldAt (uses (begin (d .before .before))) (d .before .before .before .loop .i)
 tested d b e = sym e ∙ d .field-is-bad .ensures ∙ ap badField (row (d .before))
@@ -45,8 +44,7 @@ use-count-requires : tie.Need-use-count-requires Inv-loop μ-loop
 use-count-requires c κs = search needs
 
 loop-holds : tie.Need-loop-holds Inv-loop μ-loop
-unfolding countBelow
-loop-holds c = (zero-le, refl, zero-le)
+loop-holds c = (zero-le, counted-none _)
 
 use-at-requires : tie.Need-use-at-requires Inv-loop μ-loop
 use-at-requires c κs = in-list c
@@ -55,7 +53,7 @@ field-is-bad-requires : tie.Need-field-is-bad-requires Inv-loop μ-loop
 field-is-bad-requires c κs = search needs
 
 add-bad : tie.Need-add-bad Inv-loop μ-loop
-add-bad c = omega (arith, c .before .before .before .loop-test .taken, c .before .before .before .before .loop .inv .2)
+add-bad c = omega (arith, c .before .before .before .loop-test .taken, c .before .before .before .before .loop .inv .1 .few)
 
 add-i : tie.Need-add-i Inv-loop μ-loop
 add-i c = omega (arith, c .before .before .before .loop-test .taken)
@@ -66,17 +64,18 @@ loop-less c = omega (arith, c .before .before .before .loop-test .taken)
 loop-again : tie.Need-loop-again Inv-loop μ-loop
 loop-again c =
     let l = c .before .before .before in
-    let v = l .before .loop .inv in
-    let test = badFieldAt (uses (begin l)) in
     let i = l .before .loop .i in
     let have = l .before .loop .bad in
-    ⊎-elim
-    (λ w. (omega (arith, l .loop-test .taken), count-turn test i have (c .if1 .bad) true (v .1) (tested (c .before) true (w .0 .taken)) (w .1), omega (arith, w .1, v .2)))
-    (λ w. (omega (arith, l .loop-test .taken), count-turn test i have (c .if1 .bad) false (v .1) (tested (c .before) false (w .0 .left)) (w .1 ∙ sym (add-zero have)), omega (arith, w .1, v .2)))
-    (c .if1 .came)
+    let turn = counted-turn (badFieldAt (uses (begin l))) i have (c .if1 .bad) in
+    (omega (arith, l .loop-test .taken), ⊎-elim
+    (λ w. turn true (l .before .loop .inv .1) (tested (c .before) true (w .0 .taken)) (w .1))
+    (λ w. turn false (l .before .loop .inv .1) (tested (c .before) false (w .0 .left)) (w .1 ∙ sym (add-zero have)))
+    (c .if1 .came))
 
 returns : tie.Need-returns Inv-loop μ-loop
-returns c = c .before .loop .inv .1 ∙ ap (countBelow _) (le-antisymm (c .before .loop .inv .0) (c .loop-test .left) ∙ c .before .before .use-count .ensures)
+returns c =
+    let e = c .before .before .use-count .ensures in
+    counted-all _ (c .before .loop .i) (c .before .loop .bad) _ (le-trans (c .before .loop .inv .0) (le-of-eq e)) (le-trans (le-of-eq (sym e)) (c .loop-test .left)) (c .before .loop .inv .1)
 
 pub count-bad-fields-spec : {M : Type 1} → statement M
 count-bad-fields-spec =

@@ -1,26 +1,26 @@
 -- `count_falls` counts the uses that stand lower than the one before, one by one; the first never does
 use mathlib.Core.Path.{_≡_, refl, sym, ap, ap₂, _∙_}
 use mathlib.Core.Logic.{⊎-elim}
-use mathlib.Core.Bool.{Bool, true, false, cond}
-use mathlib.Core.List.{List, [], _∷_}
-use Prim.Native.Nat.{ℕ, zero, suc, _+_, _-_, _≤_, _<_, zero-le}
-use native.Mathlib.Nat.{lt-of-lt-of-le, le-of-eq, le-antisymm, le-refl, add-zero}
+use mathlib.Core.Bool.{Bool, true, false}
+use mathlib.Core.List.{List}
+use Prim.Native.Nat.{ℕ, _+_, _-_, _≤_, _<_, zero-le}
+use native.Mathlib.Nat.{lt-of-lt-of-le, le-trans, le-of-eq, le-refl, add-zero}
 use native.Mathlib.Omega.{arith}
 use borrow.Author.Needs.{needs}
 use borrow.Author.Tests.{lt-ltb, le-ltb}
 use lib.Dec.{ltb}
 use lib.ListN.{length, getD}
-use Rattle.links.specs.Table.{shortest}
 use Rattle.jobs.specs.declared.rows.Use.{Use}
-use Rattle.jobs.specs.Rows.{useRow, usesOf, noUse}
-use Rattle.jobs.specs.Lines.{countBelow, rowBefore}
+use Rattle.jobs.specs.Rows.{usesOf, noUse}
+use Rattle.jobs.specs.Lines.{countBelow}
 use Rattle.jobs.specs.AllUses.{fallsAt}
-use Rattle.jobs.proofs.Walk.{own-row, count-turn, before-next}
+use Rattle.jobs.proofs.Reading.{own-use, not-none, row-before, before-inside}
+use Rattle.jobs.proofs.Counting.{Counted, counted-none, counted-turn, counted-all}
 use Rattle.jobs.proofs.all_uses.count_falls.Statement.{statement}
 use Rattle.jobs.proofs.all_uses.count_falls.Tie as tie
 
 abbrev Inv-loop : tie.InvT-loop
-Inv-loop position kind cost n falls₀ i₀ falls i = (1 ≤ i) × (i ≤ n) × (falls ≡ countBelow (fallsAt (usesOf position kind cost)) i) × (falls ≤ i)
+Inv-loop position kind cost n falls₀ i₀ falls i = (1 ≤ i) × (i ≤ n) × Counted (fallsAt (usesOf position kind cost)) i falls
 
 abbrev μ-loop : tie.MeasureT-loop
 μ-loop position kind cost n falls₀ i₀ falls i = n - i
@@ -35,28 +35,16 @@ in-list : (c : tie.In-loop Inv-loop μ-loop) → c .before .loop .i < length (us
 in-list c = lt-of-lt-of-le (c .loop-test .taken) (le-of-eq (c .before .before .before .use-count .ensures))
 
 last-in-list : (c : tie.In-loop Inv-loop μ-loop) → c .before .loop .i - 1 < length (uses (begin c))
-last-in-list c = below (c .before .loop .i) (length (uses (begin c))) (in-list c)
-  where
-    below : (i n : ℕ) → i < n → i - 1 < n
-    below i n h = omega arith
-
--- a row that was read is the table's
-own : (c : tie.In-loop Inv-loop μ-loop) (i : ℕ) (u : Use) → u ≡ useRow (begin c .args .position .now) (begin c .args .kind .now) (begin c .args .cost .now) i → i < length (uses (begin c)) → u ≡ getD (uses (begin c)) i noUse
-own c i u e h =
-    let a = begin c .args in
-    own-row (useRow (a .position .now) (a .kind .now) (a .cost .now)) (shortest (length (a .position .now) ∷ length (a .kind .now) ∷ length (a .cost .now) ∷ [])) i noUse u e h
-
--- the row before
-last-own : (c : tie.In-loop Inv-loop μ-loop) (u : Use) → u ≡ getD (uses (begin c)) (c .before .loop .i - 1) noUse → u ≡ rowBefore (uses (begin c)) noUse (c .before .loop .i)
-last-own c u e = e ∙ before-next (uses (begin c)) noUse (c .before .loop .i - 1) ∙ ap (rowBefore (uses (begin c)) noUse) (back (c .before .loop .i) (c .before .loop .inv .0))
-  where
-    back : (i : ℕ) → 1 ≤ i → i - 1 + 1 ≡ i
-    back i h = omega arith
+last-in-list c = before-inside (c .before .loop .i) (length (uses (begin c))) (in-list c)
 
 tested : (d : tie.After-use-at2 Inv-loop μ-loop) (b : Bool) → ltb (d .use-at2 .result .position) (d .before .use-at .result .position) ≡ b → b ≡ fallsAt (uses (begin (d .before .before))) (d .before .before .before .loop .i)
 tested d b e =
     let c = d .before .before in
-    sym e ∙ ap₂ (λ (u last : Use). ltb (u .position) (last .position)) (own c (c .before .loop .i) (d .use-at2 .result) (d .use-at2 .ensures) (in-list c)) (last-own c (d .before .use-at .result) (own c (c .before .loop .i - 1) (d .before .use-at .result) (d .before .use-at .ensures) (last-in-list c)))
+    let a = begin c .args in
+    let i = c .before .loop .i in
+    let own = own-use (a .position .now) (a .kind .now) (a .cost .now) in
+    sym e ∙ ap₂ (λ (u last : Use). ltb (u .position) (last .position)) (own i (d .use-at2 .result) (d .use-at2 .ensures) (in-list c))
+    (own (i - 1) (d .before .use-at .result) (d .before .use-at .ensures) (last-in-list c) ∙ row-before (uses (begin c)) noUse i (c .before .loop .inv .0))
 
 use-count-requires : tie.Need-use-count-requires Inv-loop μ-loop
 use-count-requires c κs = search needs
@@ -65,13 +53,14 @@ returns : tie.Need-returns Inv-loop μ-loop
 unfolding countBelow
 returns c = ap (countBelow (fallsAt (uses (c .before .before .before .before .before)))) (sym (c .if1 .taken) ∙ c .before .use-count .ensures)
 
+-- the first use has none before
+first-never : (rows : List Use) → false ≡ fallsAt rows 0
+first-never rows = sym (le-ltb (getD rows 0 noUse .position) 0 zero-le)
+
 loop-holds : tie.Need-loop-holds Inv-loop μ-loop
-unfolding countBelow
-loop-holds c = (le-refl 1, some (c .before .use-count .result) (c .if1 .left), sym (ap (λ (b : Bool). 0 + cond b 1 0) (le-ltb (getD (uses (c .before .before .before .before .before)) 0 noUse .position) 0 zero-le)), zero-le)
-  where
-    some : (n : ℕ) → (n ≡ 0 → ⊥) → 1 ≤ n
-    some zero h = absurd (h refl)
-    some (suc n) h = omega arith
+loop-holds c =
+    let rows = uses (c .before .before .before .before .before) in
+    (le-refl 1, not-none (c .before .use-count .result) (c .if1 .left), counted-turn (fallsAt rows) 0 0 0 false (counted-none (fallsAt rows)) (first-never rows) refl)
 
 sub-use-at : tie.Need-sub-use-at Inv-loop μ-loop
 sub-use-at c = omega (arith, c .before .loop .inv .0)
@@ -83,7 +72,7 @@ use-at-requires-2 : tie.Need-use-at-requires-2 Inv-loop μ-loop
 use-at-requires-2 c κs = in-list (c .before)
 
 add-falls : tie.Need-add-falls Inv-loop μ-loop
-add-falls c = omega (arith, c .before .before .before .before .before .loop-test .taken, c .before .before .before .before .before .before .loop .inv .3)
+add-falls c = omega (arith, c .before .before .before .before .before .loop-test .taken, c .before .before .before .before .before .before .loop .inv .2 .few)
 
 add-i : tie.Need-add-i Inv-loop μ-loop
 add-i c = omega (arith, c .before .before .before .before .before .loop-test .taken)
@@ -96,16 +85,17 @@ loop-again c =
     let d = c .before .before .before in
     let l = d .before .before in
     let v = l .before .loop .inv in
-    let test = fallsAt (uses (begin l)) in
-    let i = l .before .loop .i in
     let have = l .before .loop .falls in
-    ⊎-elim
-    (λ w. (omega (arith, v .0), omega (arith, l .loop-test .taken), count-turn test i have (c .if2 .falls) true (v .2) (tested d true (lt-ltb _ _ (w .0 .taken))) (w .1), omega (arith, w .1, v .3)))
-    (λ w. (omega (arith, v .0), omega (arith, l .loop-test .taken), count-turn test i have (c .if2 .falls) false (v .2) (tested d false (le-ltb _ _ (w .0 .left))) (w .1 ∙ sym (add-zero have)), omega (arith, w .1, v .3)))
-    (c .if2 .came)
+    let turn = counted-turn (fallsAt (uses (begin l))) (l .before .loop .i) have (c .if2 .falls) in
+    (omega (arith, v .0), omega (arith, l .loop-test .taken), ⊎-elim
+    (λ w. turn true (v .2) (tested d true (lt-ltb _ _ (w .0 .taken))) (w .1))
+    (λ w. turn false (v .2) (tested d false (le-ltb _ _ (w .0 .left))) (w .1 ∙ sym (add-zero have)))
+    (c .if2 .came))
 
 returns-2 : tie.Need-returns-2 Inv-loop μ-loop
-returns-2 c = c .before .loop .inv .2 ∙ ap (countBelow _) (le-antisymm (c .before .loop .inv .1) (c .loop-test .left) ∙ c .before .before .before .use-count .ensures)
+returns-2 c =
+    let e = c .before .before .before .use-count .ensures in
+    counted-all _ (c .before .loop .i) (c .before .loop .falls) _ (le-trans (c .before .loop .inv .1) (le-of-eq e)) (le-trans (le-of-eq (sym e)) (c .loop-test .left)) (c .before .loop .inv .2)
 
 pub count-falls-spec : {M : Type 1} → statement M
 count-falls-spec =

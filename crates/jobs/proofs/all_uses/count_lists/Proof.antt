@@ -1,27 +1,26 @@
 -- `count_lists` counts the lists that stray and those that begin lower, one by one
-use mathlib.Core.Path.{_≡_, refl, sym, ap, _∙_, subst}
+use mathlib.Core.Path.{_≡_, sym, ap, _∙_, subst}
 use mathlib.Core.Logic.{⊎-elim}
 use mathlib.Core.Bool.{Bool, true, false}
-use mathlib.Core.List.{List, [], _∷_}
+use mathlib.Core.List.{List}
 use Prim.Native.Nat.{ℕ, _+_, _-_, _≤_, _<_, zero-le}
-use native.Mathlib.Nat.{lt-of-lt-of-le, le-of-eq, le-antisymm, add-zero}
+use native.Mathlib.Nat.{lt-of-lt-of-le, le-trans, le-of-eq, add-zero}
 use native.Mathlib.Omega.{arith}
 use borrow.Author.Needs.{needs}
 use lib.ListN.{length, getD}
-use Rattle.links.specs.Table.{shortest}
 use Rattle.jobs.specs.declared.rows.Segment.{Segment}
 use Rattle.jobs.specs.declared.rows.Use.{Use}
-use Rattle.jobs.specs.Rows.{segmentRow, segmentsOf, usesOf, noSegment}
-use Rattle.jobs.specs.Lines.{countBelow}
+use Rattle.jobs.specs.Rows.{segmentsOf, usesOf, noSegment}
 use Rattle.jobs.specs.AllUses.{strays, straysAt, beginsLower, beginsLowerAt}
-use Rattle.jobs.proofs.Walk.{own-row, count-turn}
+use Rattle.jobs.proofs.Counting.{Counted, counted-none, counted-turn, counted-all}
+use Rattle.jobs.proofs.Reading.{own-segment}
 use Rattle.jobs.proofs.all_uses.count_lists.Statement.{statement}
 use Rattle.jobs.proofs.all_uses.count_lists.Tie as tie
 
 abbrev Inv-loop : tie.InvT-loop
 Inv-loop start end value first-use end-use flags position kind cost limits n astray₀ lower₀ i₀ astray lower i =
-    (i ≤ n) × (astray ≡ countBelow (straysAt limits (usesOf position kind cost) (segmentsOf start end value first-use end-use flags)) i) × (astray ≤ i)
-    × (lower ≡ countBelow (beginsLowerAt (usesOf position kind cost) (segmentsOf start end value first-use end-use flags)) i) × (lower ≤ i)
+    (i ≤ n) × Counted (straysAt limits (usesOf position kind cost) (segmentsOf start end value first-use end-use flags)) i astray
+    × Counted (beginsLowerAt (usesOf position kind cost) (segmentsOf start end value first-use end-use flags)) i lower
 
 abbrev μ-loop : tie.MeasureT-loop
 μ-loop start end value first-use end-use flags position kind cost limits n astray₀ lower₀ i₀ astray lower i = n - i
@@ -45,7 +44,7 @@ in-list c = lt-of-lt-of-le (c .loop-test .taken) (le-of-eq (c .before .before .s
 row : (d : tie.After-segment-at Inv-loop μ-loop) → d .segment-at .result ≡ getD (segments (begin (d .before))) (at (d .before)) noSegment
 row d =
     let a = begin (d .before) .args in
-    own-row (segmentRow (a .start .now) (a .end .now) (a .value .now) (a .first-use .now) (a .end-use .now) (a .flags .now)) (shortest (length (a .start .now) ∷ length (a .end .now) ∷ length (a .value .now) ∷ length (a .first-use .now) ∷ length (a .end-use .now) ∷ length (a .flags .now) ∷ [])) (at (d .before)) noSegment (d .segment-at .result) (d .segment-at .ensures) (in-list (d .before))
+    own-segment (a .start .now) (a .end .now) (a .value .now) (a .first-use .now) (a .end-use .now) (a .flags .now) (at (d .before)) (d .segment-at .result) (d .segment-at .ensures) (in-list (d .before))
 
 -- its list lies inside the uses
 listed : (d : tie.After-segment-at Inv-loop μ-loop) → d .segment-at .result .«end_use» ≤ length (uses (begin (d .before)))
@@ -61,8 +60,7 @@ segment-count-requires : tie.Need-segment-count-requires Inv-loop μ-loop
 segment-count-requires c κs = search needs
 
 loop-holds : tie.Need-loop-holds Inv-loop μ-loop
-unfolding countBelow
-loop-holds c = (zero-le, refl, zero-le, refl, zero-le)
+loop-holds c = (zero-le, counted-none _, counted-none _)
 
 segment-at-requires : tie.Need-segment-at-requires Inv-loop μ-loop
 segment-at-requires c κs = in-list c
@@ -71,13 +69,13 @@ strays-requires : tie.Need-strays-requires Inv-loop μ-loop
 strays-requires c κs = listed c
 
 add-astray : tie.Need-add-astray Inv-loop μ-loop
-add-astray c = omega (arith, c .before .before .before .loop-test .taken, c .before .before .before .before .loop .inv .2)
+add-astray c = omega (arith, c .before .before .before .loop-test .taken, c .before .before .before .before .loop .inv .1 .few)
 
 begins-lower-requires : tie.Need-begins-lower-requires Inv-loop μ-loop
 begins-lower-requires c κs = listed (c .before .before)
 
 add-lower : tie.Need-add-lower Inv-loop μ-loop
-add-lower c = omega (arith, c .before .before .before .before .before .loop-test .taken, c .before .before .before .before .before .before .loop .inv .4)
+add-lower c = omega (arith, c .before .before .before .before .before .loop-test .taken, c .before .before .before .before .before .before .loop .inv .2 .few)
 
 add-i : tie.Need-add-i Inv-loop μ-loop
 add-i c = omega (arith, c .before .before .before .before .before .loop-test .taken)
@@ -86,40 +84,38 @@ loop-less : tie.Need-loop-less Inv-loop μ-loop
 loop-less c = omega (arith, c .before .before .before .before .before .loop-test .taken)
 
 -- the first count after a turn, and the second
-astray-more : (c : tie.Joined1 Inv-loop μ-loop) → let l = c .before .before .before in let s = begin l in (c .if1 .astray ≡ countBelow (straysAt (s .args .limits) (uses s) (segments s)) (at l + 1)) × (c .if1 .astray ≤ at l + 1)
+astray-more : (c : tie.Joined1 Inv-loop μ-loop) → let l = c .before .before .before in let s = begin l in Counted (straysAt (s .args .limits) (uses s) (segments s)) (at l + 1) (c .if1 .astray)
 astray-more c =
     let l = c .before .before .before in
     let s = begin l in
-    let v = l .before .loop .inv in
     let have = l .before .loop .astray in
-    let test = straysAt (s .args .limits) (uses s) (segments s) in
+    let turn = counted-turn (straysAt (s .args .limits) (uses s) (segments s)) (at l) have (c .if1 .astray) in
     ⊎-elim
-    (λ w. (count-turn test (at l) have (c .if1 .astray) true (v .1) (astray (c .before) true (w .0 .taken)) (w .1), omega (arith, w .1, v .2)))
-    (λ w. (count-turn test (at l) have (c .if1 .astray) false (v .1) (astray (c .before) false (w .0 .left)) (w .1 ∙ sym (add-zero have)), omega (arith, w .1, v .2)))
+    (λ w. turn true (l .before .loop .inv .1) (astray (c .before) true (w .0 .taken)) (w .1))
+    (λ w. turn false (l .before .loop .inv .1) (astray (c .before) false (w .0 .left)) (w .1 ∙ sym (add-zero have)))
     (c .if1 .came)
 
-lower-more : (c : tie.Joined2 Inv-loop μ-loop) → let l = c .before .before .before .before .before in let s = begin l in (c .if2 .lower ≡ countBelow (beginsLowerAt (uses s) (segments s)) (at l + 1)) × (c .if2 .lower ≤ at l + 1)
+lower-more : (c : tie.Joined2 Inv-loop μ-loop) → let l = c .before .before .before .before .before in let s = begin l in Counted (beginsLowerAt (uses s) (segments s)) (at l + 1) (c .if2 .lower)
 lower-more c =
     let l = c .before .before .before .before .before in
     let s = begin l in
-    let v = l .before .loop .inv in
     let have = l .before .loop .lower in
-    let test = beginsLowerAt (uses s) (segments s) in
+    let turn = counted-turn (beginsLowerAt (uses s) (segments s)) (at l) have (c .if2 .lower) in
     ⊎-elim
-    (λ w. (count-turn test (at l) have (c .if2 .lower) true (v .3) (begins (c .before) true (w .0 .taken)) (w .1), omega (arith, w .1, v .4)))
-    (λ w. (count-turn test (at l) have (c .if2 .lower) false (v .3) (begins (c .before) false (w .0 .left)) (w .1 ∙ sym (add-zero have)), omega (arith, w .1, v .4)))
+    (λ w. turn true (l .before .loop .inv .2) (begins (c .before) true (w .0 .taken)) (w .1))
+    (λ w. turn false (l .before .loop .inv .2) (begins (c .before) false (w .0 .left)) (w .1 ∙ sym (add-zero have)))
     (c .if2 .came)
 
 loop-again : tie.Need-loop-again Inv-loop μ-loop
-loop-again c =
-    let a = astray-more (c .before .before) in
-    let b = lower-more c in
-    (omega (arith, c .before .before .before .before .before .loop-test .taken), a .0, a .1, b .0, b .1)
+loop-again c = (omega (arith, c .before .before .before .before .before .loop-test .taken), astray-more (c .before .before), lower-more c)
 
 returns : tie.Need-returns Inv-loop μ-loop
 returns c =
-    let e = le-antisymm (c .before .loop .inv .0) (c .loop-test .left) ∙ c .before .before .segment-count .ensures in
-    (c .before .loop .inv .1 ∙ ap (countBelow _) e, c .before .loop .inv .3 ∙ ap (countBelow _) e)
+    let l = c .before .loop in
+    let e = c .before .before .segment-count .ensures in
+    let p = le-trans (l .inv .0) (le-of-eq e) in
+    let q = le-trans (le-of-eq (sym e)) (c .loop-test .left) in
+    (counted-all _ (l .i) (l .astray) _ p q (l .inv .1), counted-all _ (l .i) (l .lower) _ p q (l .inv .2))
 
 pub count-lists-spec : {M : Type 1} → statement M
 count-lists-spec =

@@ -1,5 +1,5 @@
 -- `strays` looks at the ends of the list
-use mathlib.Core.Path.{_≡_, refl, sym, ap, ap₂, _∙_, subst}
+use mathlib.Core.Path.{_≡_, sym, ap, ap₂, _∙_, subst}
 use mathlib.Core.Bool.{Bool, true, false, _||_, cond}
 use mathlib.Core.List.{List, [], _∷_}
 use Prim.Native.Nat.{ℕ, _+_, _-_, _*_, _≤_, _<_}
@@ -7,7 +7,7 @@ use native.Mathlib.Nat.{le-trans, le-of-eq, lt-of-lt-of-le}
 use native.Mathlib.Omega.{arith}
 use borrow.Author.Needs.{needs}
 use borrow.Author.Tests.{lt-ltb, le-ltb, le-leb, lt-leb}
-use lib.Dec.{leb, ltb, lit<}
+use lib.Dec.{leb, lit<}
 use lib.ListN.{length, getD}
 use Rattle.links.specs.Table.{shortest}
 use Rattle.links.proofs.Tables.{table-length, shortest-at-most}
@@ -15,7 +15,8 @@ use Rattle.jobs.specs.declared.rows.Use.{Use}
 use Rattle.jobs.specs.Rows.{useRow, usesOf, noUse, fixedDef}
 use Rattle.jobs.specs.Lines.{outside}
 use Rattle.jobs.specs.AllUses.{heldFrom, strays}
-use Rattle.jobs.proofs.Walk.{own-row, or-first, or-second, and-both, and-first}
+use Rattle.jobs.proofs.Walk.{or-first, or-second, and-both, and-first}
+use Rattle.jobs.proofs.Reading.{own-use}
 use Rattle.jobs.proofs.all_uses.strays.Statement.{statement}
 use Rattle.jobs.proofs.all_uses.strays.Tie as tie
 
@@ -27,10 +28,6 @@ lengths b = length (b .args .position .now) ∷ length (b .args .kind .now) ∷ 
 
 abbrev begin : tie.Else1 → tie.Start
 begin c = c .before .before .before .before .before .before
-
--- a row that was read is the table's
-own : (b : tie.Start) (i : ℕ) (u : Use) → u ≡ useRow (b .args .position .now) (b .args .kind .now) (b .args .cost .now) i → i < length (uses b) → u ≡ getD (uses b) i noUse
-own b i u e h = own-row (useRow (b .args .position .now) (b .args .kind .now) (b .args .cost .now)) (shortest (lengths b)) i noUse u e h
 
 cast-first : tie.Need-cast-first
 cast-first c = search needs
@@ -56,7 +53,7 @@ use-at-requires : tie.Need-use-at-requires
 use-at-requires c κs = last-inside c
 
 last : (d : tie.After-use-at) → d .use-at .result ≡ getD (uses (begin (d .before))) (begin (d .before) .args .s .«end_use» - 1) noUse
-last d = own (begin (d .before)) (begin (d .before) .args .s .«end_use» - 1) (d .use-at .result) (d .use-at .ensures) (last-inside (d .before))
+last d = let a = begin (d .before) .args in own-use (a .position .now) (a .kind .now) (a .cost .now) (begin (d .before) .args .s .«end_use» - 1) (d .use-at .result) (d .use-at .ensures) (last-inside (d .before))
 
 cast-if2 : tie.Need-cast-if2
 cast-if2 c = search needs
@@ -142,7 +139,7 @@ returns-4 c =
     let e = p .before .before in
     let d = e .before .before .before in
     let b = begin (d .before) in
-    let from = own b (b .args .s .«first_use» + p .picked-size .result) (o .use-at2 .result) (o .use-at2 .ensures) (lt-of-lt-of-le (t .if3 .left) (b .pre)) ∙ ap (λ (n : ℕ). getD (uses b) n noUse) (held p) in
+    let from = own-use (b .args .position .now) (b .args .kind .now) (b .args .cost .now) (b .args .s .«first_use» + p .picked-size .result) (o .use-at2 .result) (o .use-at2 .ensures) (lt-of-lt-of-le (t .if3 .left) (b .pre)) ∙ ap (λ (n : ℕ). getD (uses b) n noUse) (held p) in
     let both = ap₂ (λ (x y : Bool). x || y) (c .before .before .is-outside .ensures ∙ ap (outside (b .args .s)) from) (c .before .is-outside2 .ensures ∙ ap (outside (b .args .s)) (last d)) in
     sym (and-both _ _ _ (lt-ltb _ _ (d .before .if1 .left)) (or-second _ _ _ (blocked e) (and-both _ _ _ (lt-ltb _ _ (held-inside t)) (sym (c .either .ensures ∙ both)))))
 

@@ -7,12 +7,11 @@ use native.Mathlib.Nat.{lt-of-lt-of-le, not-suc-le-zero, le-of-eq}
 use native.Mathlib.Omega.{arith}
 use borrow.Author.Count.{below-more}
 use lib.ListN.{length, getD}
-use Rattle.links.specs.Table.{shortest}
 use Rattle.links.proofs.Firsts.{first-found, first-none}
 use Rattle.jobs.specs.declared.rows.Segment.{Segment}
 use Rattle.jobs.specs.Rows.{segmentRow, segmentsOf, noSegment, usesOf}
 use Rattle.jobs.specs.Lines.{badDef, badDefAt}
-use Rattle.jobs.proofs.Walk.{own-row}
+use Rattle.jobs.proofs.Reading.{own-segment}
 use borrow.Author.Needs.{needs}
 use Rattle.jobs.proofs.checks.first_bad_def.Statement.{statement}
 use Rattle.jobs.proofs.checks.first_bad_def.Tie as tie
@@ -37,7 +36,7 @@ in-list c = lt-of-lt-of-le (c .loop-test .taken) (le-of-eq (c .before .before .s
 
 -- the row that was read is the table's
 row : (c : tie.After-segment-at Inv-loop μ-loop) → c .segment-at .result ≡ getD (rows (c .before)) (at (c .before)) noSegment
-row d = let c = d .before in own-row (segmentRow (begin c .args .start .now) (begin c .args .end .now) (begin c .args .value .now) (begin c .args .first-use .now) (begin c .args .end-use .now) (begin c .args .flags .now)) (shortest (length (begin c .args .start .now) ∷ length (begin c .args .end .now) ∷ length (begin c .args .value .now) ∷ length (begin c .args .first-use .now) ∷ length (begin c .args .end-use .now) ∷ length (begin c .args .flags .now) ∷ [])) (at c) noSegment (d .segment-at .result) (d .segment-at .ensures) (in-list c)
+row d = let c = d .before in own-segment (begin c .args .start .now) (begin c .args .end .now) (begin c .args .value .now) (begin c .args .first-use .now) (begin c .args .end-use .now) (begin c .args .flags .now) (at c) (d .segment-at .result) (d .segment-at .ensures) (in-list c)
 
 -- what the test says of it
 tested : (c : tie.After-def-is-bad Inv-loop μ-loop) (r : Bool) → c .def-is-bad .result ≡ r → badDefAt (usesOf (begin (c .before .before) .args .position .now) (begin (c .before .before) .args .kind .now) (begin (c .before .before) .args .cost .now)) (rows (c .before .before)) (at (c .before .before)) ≡ r

@@ -8,12 +8,11 @@ use native.Mathlib.Omega.{arith}
 use borrow.Author.Count.{below-more}
 use lib.Dec.{eqb}
 use lib.ListN.{length, getD}
-use Rattle.links.specs.Table.{shortest}
 use Rattle.links.proofs.Firsts.{first-found, first-none}
 use Rattle.jobs.specs.declared.rows.Segment.{Segment}
 use Rattle.jobs.specs.Rows.{segmentRow, segmentsOf, noSegment, usesOf}
 use Rattle.jobs.specs.Lines.{badEnd, badEndAt}
-use Rattle.jobs.proofs.Walk.{own-row}
+use Rattle.jobs.proofs.Reading.{own-segment}
 use borrow.Author.Needs.{needs}
 use Rattle.jobs.proofs.checks.first_bad_end.Statement.{statement}
 use Rattle.jobs.proofs.checks.first_bad_end.Tie as tie
@@ -43,7 +42,7 @@ tested d r e =
     let uses = usesOf (begin c .args .position .now) (begin c .args .kind .now) (begin c .args .cost .now) in
     sym (sym e ∙ d .end-is-bad .ensures
     ∙ ap (λ (x : ℕ). badEnd uses (eqb (at c + 1) x) (d .before .segment-at .result)) (c .before .before .segment-count .ensures)
-    ∙ ap (badEnd uses (eqb (at c + 1) (length (rows c)))) (own-row (segmentRow (begin c .args .start .now) (begin c .args .end .now) (begin c .args .value .now) (begin c .args .first-use .now) (begin c .args .end-use .now) (begin c .args .flags .now)) (shortest (length (begin c .args .start .now) ∷ length (begin c .args .end .now) ∷ length (begin c .args .value .now) ∷ length (begin c .args .first-use .now) ∷ length (begin c .args .end-use .now) ∷ length (begin c .args .flags .now) ∷ [])) (at c) noSegment (d .before .segment-at .result) (d .before .segment-at .ensures) (in-list c)))
+    ∙ ap (badEnd uses (eqb (at c + 1) (length (rows c)))) (own-segment (begin c .args .start .now) (begin c .args .end .now) (begin c .args .value .now) (begin c .args .first-use .now) (begin c .args .end-use .now) (begin c .args .flags .now) (at c) (d .before .segment-at .result) (d .before .segment-at .ensures) (in-list c)))
 
 segment-count-requires : tie.Need-segment-count-requires Inv-loop μ-loop
 segment-count-requires c κs = search needs

@@ -7,12 +7,12 @@ use native.Mathlib.Nat.{lt-of-lt-of-le, not-suc-le-zero, le-of-eq}
 use native.Mathlib.Omega.{arith}
 use borrow.Author.Count.{below-more}
 use lib.ListN.{length, getD}
-use Rattle.links.specs.Table.{shortest}
 use Rattle.links.proofs.Firsts.{first-found, first-none}
 use Rattle.jobs.specs.declared.rows.FixedUse.{FixedUse}
 use Rattle.jobs.specs.Rows.{fixedUseRow, fixedUsesOf, noFixedUse}
 use Rattle.jobs.specs.Lines.{rowBefore, badFixedUse, badFixedUseAt}
-use Rattle.jobs.proofs.Walk.{before-next, own-row}
+use Rattle.jobs.proofs.Walk.{before-next}
+use Rattle.jobs.proofs.Reading.{own-fixed-use}
 use borrow.Author.Needs.{needs}
 use Rattle.jobs.proofs.checks.first_bad_fixed_use.Statement.{statement}
 use Rattle.jobs.proofs.checks.first_bad_fixed_use.Tie as tie
@@ -37,7 +37,7 @@ in-list c = lt-of-lt-of-le (c .loop-test .taken) (le-of-eq (c .before .before .b
 
 -- the row that was read is the table's
 row : (c : tie.After-fixed-use-at Inv-loop μ-loop) → c .fixed-use-at .result ≡ getD (rows (c .before)) (at (c .before)) noFixedUse
-row d = let c = d .before in own-row (fixedUseRow (begin c .args .unit .now) (begin c .args .point .now) (begin c .args .value .now)) (shortest (length (begin c .args .unit .now) ∷ length (begin c .args .point .now) ∷ length (begin c .args .value .now) ∷ [])) (at c) noFixedUse (d .fixed-use-at .result) (d .fixed-use-at .ensures) (in-list c)
+row d = let c = d .before in own-fixed-use (begin c .args .unit .now) (begin c .args .point .now) (begin c .args .value .now) (at c) (d .fixed-use-at .result) (d .fixed-use-at .ensures) (in-list c)
 
 -- what the test says of it
 tested : (c : tie.After-fixed-use-is-bad Inv-loop μ-loop) (r : Bool) → c .fixed-use-is-bad .result ≡ r → badFixedUseAt (begin (c .before .before) .args .limits) (rows (c .before .before)) (at (c .before .before)) ≡ r

@@ -8,12 +8,12 @@ use native.Mathlib.Omega.{arith}
 use borrow.Author.Count.{below-more}
 use lib.Dec.{eqb}
 use lib.ListN.{length, getD}
-use Rattle.links.specs.Table.{shortest}
 use Rattle.links.proofs.Firsts.{first-found, first-none}
 use Rattle.jobs.specs.declared.rows.Segment.{Segment}
 use Rattle.jobs.specs.Rows.{segmentRow, segmentsOf, noSegment}
 use Rattle.jobs.specs.Lines.{rowBefore, badBounds, badList, badSegment}
-use Rattle.jobs.proofs.Walk.{before-next, own-row, or-first, or-second}
+use Rattle.jobs.proofs.Walk.{before-next, or-first, or-second}
+use Rattle.jobs.proofs.Reading.{own-segment}
 use borrow.Author.Needs.{needs}
 use Rattle.jobs.proofs.checks.first_bad_segment.Statement.{statement}
 use Rattle.jobs.proofs.checks.first_bad_segment.Tie as tie
@@ -38,7 +38,7 @@ in-list c = lt-of-lt-of-le (c .loop-test .taken) (le-of-eq (c .before .before .b
 
 -- the row that was read is the table's
 row : (c : tie.After-segment-at Inv-loop μ-loop) → c .segment-at .result ≡ getD (rows (c .before)) (at (c .before)) noSegment
-row d = let c = d .before in own-row (segmentRow (begin c .args .start .now) (begin c .args .end .now) (begin c .args .value .now) (begin c .args .first-use .now) (begin c .args .end-use .now) (begin c .args .flags .now)) (shortest (length (begin c .args .start .now) ∷ length (begin c .args .end .now) ∷ length (begin c .args .value .now) ∷ length (begin c .args .first-use .now) ∷ length (begin c .args .end-use .now) ∷ length (begin c .args .flags .now) ∷ [])) (at c) noSegment (d .segment-at .result) (d .segment-at .ensures) (in-list c)
+row d = let c = d .before in own-segment (begin c .args .start .now) (begin c .args .end .now) (begin c .args .value .now) (begin c .args .first-use .now) (begin c .args .end-use .now) (begin c .args .flags .now) (at c) (d .segment-at .result) (d .segment-at .ensures) (in-list c)
 
 -- what the two tests say of it
 bounds : (c : tie.After-bounds-are-bad Inv-loop μ-loop) (r : Bool) → c .bounds-are-bad .result ≡ r

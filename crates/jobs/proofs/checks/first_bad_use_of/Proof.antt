@@ -8,12 +8,11 @@ use native.Mathlib.Nat.{le-refl, le-trans, lt-of-lt-of-le, not-le-of-lt}
 use native.Mathlib.Omega.{arith}
 use lib.Dec.{eqb}
 use lib.ListN.{length, getD}
-use Rattle.links.specs.Table.{shortest}
 use Rattle.links.proofs.Firsts.{split}
 use Rattle.jobs.specs.declared.rows.Use.{Use}
 use Rattle.jobs.specs.Rows.{useRow, usesOf, noUse}
 use Rattle.jobs.specs.Lines.{badUse, badUseOf}
-use Rattle.jobs.proofs.Walk.{own-row}
+use Rattle.jobs.proofs.Reading.{own-use}
 use borrow.Author.Needs.{needs}
 use Rattle.jobs.proofs.checks.first_bad_use_of.Statement.{statement}
 use Rattle.jobs.proofs.checks.first_bad_use_of.Tie as tie
@@ -41,7 +40,7 @@ tested d r e =
     let s = begin c .args .s in
     sym (sym e ∙ d .use-is-bad .ensures
     ∙ ap₂ (λ (x y : Use). badUse (begin c .args .limits) s (eqb (at c) (s .«first_use»)) x y) (d .before .use-before .ensures)
-    (own-row (useRow (begin c .args .position .now) (begin c .args .kind .now) (begin c .args .cost .now)) (shortest (length (begin c .args .position .now) ∷ length (begin c .args .kind .now) ∷ length (begin c .args .cost .now) ∷ [])) (at c) noUse (d .before .before .use-at .result) (d .before .before .use-at .ensures) (in-list c)))
+    (own-use (begin c .args .position .now) (begin c .args .kind .now) (begin c .args .cost .now) (at c) (d .before .before .use-at .result) (d .before .before .use-at .ensures) (in-list c)))
 
 same : (k i : ℕ) → k < i + 1 → i ≤ k → k ≡ i
 same k i p q = omega arith

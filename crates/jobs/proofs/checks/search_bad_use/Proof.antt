@@ -7,13 +7,12 @@ use native.Mathlib.Nat.{lt-of-lt-of-le, le-trans, le-of-eq, le-antisymm, not-suc
 use native.Mathlib.Omega.{arith}
 use lib.ListN.{length, getD}
 use Rattle.links.specs.First.{FirstIn}
-use Rattle.links.specs.Table.{shortest}
 use Rattle.links.proofs.Firsts.{first-none}
 use Rattle.jobs.specs.declared.rows.Segment.{Segment}
 use Rattle.jobs.specs.declared.rows.Use.{Use}
 use Rattle.jobs.specs.Rows.{segmentRow, segmentsOf, noSegment, usesOf}
 use Rattle.jobs.specs.Lines.{rowBefore, badUseOf, badUseAt}
-use Rattle.jobs.proofs.Walk.{own-row}
+use Rattle.jobs.proofs.Reading.{own-segment}
 use Rattle.jobs.proofs.UseLists.{first-of-all, none-listed}
 use borrow.Author.Needs.{needs}
 use Rattle.jobs.proofs.checks.search_bad_use.Statement.{statement}
@@ -42,7 +41,7 @@ in-list c = lt-of-lt-of-le (c .loop-test .taken) (le-of-eq (c .before .before .s
 
 -- the row that was read is the table's
 row : (c : tie.After-segment-at Inv-loop μ-loop) → c .segment-at .result ≡ getD (rows (c .before)) (at (c .before)) noSegment
-row d = let c = d .before in own-row (segmentRow (begin c .args .start .now) (begin c .args .end .now) (begin c .args .value .now) (begin c .args .first-use .now) (begin c .args .end-use .now) (begin c .args .flags .now)) (shortest (length (begin c .args .start .now) ∷ length (begin c .args .end .now) ∷ length (begin c .args .value .now) ∷ length (begin c .args .first-use .now) ∷ length (begin c .args .end-use .now) ∷ length (begin c .args .flags .now) ∷ [])) (at c) noSegment (d .segment-at .result) (d .segment-at .ensures) (in-list c)
+row d = let c = d .before in own-segment (begin c .args .start .now) (begin c .args .end .now) (begin c .args .value .now) (begin c .args .first-use .now) (begin c .args .end-use .now) (begin c .args .flags .now) (at c) (d .segment-at .result) (d .segment-at .ensures) (in-list c)
 
 -- what the search of its list found
 found : (c : tie.After-first-bad-use-of Inv-loop μ-loop) → FirstIn (badUseOf (begin (c .before .before) .args .limits) (uses (c .before .before)) (getD (rows (c .before .before)) (at (c .before .before)) noSegment)) (getD (rows (c .before .before)) (at (c .before .before)) noSegment .«first_use») (getD (rows (c .before .before)) (at (c .before .before)) noSegment .«end_use») (c .first-bad-use-of .result)

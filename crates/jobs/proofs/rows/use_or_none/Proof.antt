@@ -7,7 +7,7 @@ use lib.ListN.{length}
 use Rattle.links.specs.Table.{shortest}
 use Rattle.links.proofs.Tables.{table-past, table-length}
 use Rattle.jobs.specs.Rows.{useRow, noUse}
-use Rattle.jobs.proofs.Walk.{own-row}
+use Rattle.jobs.proofs.Reading.{own-use}
 use borrow.Author.Needs.{needs}
 use Rattle.jobs.proofs.rows.use_or_none.Statement.{statement}
 use Rattle.jobs.proofs.rows.use_or_none.Tie as tie
@@ -21,7 +21,7 @@ use-at-requires c κs = lt-of-lt-of-le (c .if1 .taken) (le-of-eq (c .before .use
 returns : tie.Need-returns
 returns c =
     let s = c .before .before .before .before .before .before in
-    own-row (useRow (s .args .position .now) (s .args .kind .now) (s .args .cost .now)) (shortest (length (s .args .position .now) ∷ length (s .args .kind .now) ∷ length (s .args .cost .now) ∷ [])) (s .args .i) noUse _ (c .use-at .ensures) (lt-of-lt-of-le (c .before .if1 .taken) (le-of-eq (c .before .before .use-count .ensures)))
+    own-use (s .args .position .now) (s .args .kind .now) (s .args .cost .now) (s .args .i) _ (c .use-at .ensures) (lt-of-lt-of-le (c .before .if1 .taken) (le-of-eq (c .before .before .use-count .ensures)))
 
 no-use-requires : tie.Need-no-use-requires
 no-use-requires c κs = search needs
