@@ -66,11 +66,13 @@ loop-again c =
     let l = c .before .before .before in
     let i = l .before .loop .i in
     let have = l .before .loop .bad in
-    let turn = counted-turn (badFieldAt (uses (begin l))) i have (c .if1 .bad) in
-    (omega (arith, l .loop-test .taken), ⊎-elim
-    (λ w. turn true (l .before .loop .inv .1) (tested (c .before) true (w .0 .taken)) (w .1))
-    (λ w. turn false (l .before .loop .inv .1) (tested (c .before) false (w .0 .left)) (w .1 ∙ sym (add-zero have)))
-    (c .if1 .came))
+    let turn = counted-turn (badFieldAt (uses (begin l))) i have (c .if1 .bad) in (
+      omega (arith, l .loop-test .taken),
+      ⊎-elim
+          (λ w. turn true (l .before .loop .inv .1) (tested (c .before) true (w .0 .taken)) (w .1))
+          (λ w. turn false (l .before .loop .inv .1) (tested (c .before) false (w .0 .left)) (w .1 ∙ sym (add-zero have)))
+          (c .if1 .came),
+    )
 
 returns : tie.Need-returns Inv-loop μ-loop
 returns c =

@@ -86,11 +86,14 @@ loop-again c =
     let l = d .before .before in
     let v = l .before .loop .inv in
     let have = l .before .loop .falls in
-    let turn = counted-turn (fallsAt (uses (begin l))) (l .before .loop .i) have (c .if2 .falls) in
-    (omega (arith, v .0), omega (arith, l .loop-test .taken), ⊎-elim
-    (λ w. turn true (v .2) (tested d true (lt-ltb _ _ (w .0 .taken))) (w .1))
-    (λ w. turn false (v .2) (tested d false (le-ltb _ _ (w .0 .left))) (w .1 ∙ sym (add-zero have)))
-    (c .if2 .came))
+    let turn = counted-turn (fallsAt (uses (begin l))) (l .before .loop .i) have (c .if2 .falls) in (
+      omega (arith, v .0),
+      omega (arith, l .loop-test .taken),
+      ⊎-elim
+          (λ w. turn true (v .2) (tested d true (lt-ltb _ _ (w .0 .taken))) (w .1))
+          (λ w. turn false (v .2) (tested d false (le-ltb _ _ (w .0 .left))) (w .1 ∙ sym (add-zero have)))
+          (c .if2 .came),
+    )
 
 returns-2 : tie.Need-returns-2 Inv-loop μ-loop
 returns-2 c =

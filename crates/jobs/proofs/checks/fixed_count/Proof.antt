@@ -63,11 +63,13 @@ loop-again c =
     let l = c .before .before .before in
     let d = c .before .before in
     let have = l .before .loop .have in
-    let turn = counted-turn (test (begin l)) (l .before .loop .i) have (c .if1 .have) in
-    (omega (arith, l .loop-test .taken), ⊎-elim
-    (λ w. turn true (l .before .loop .inv .1) (tested d true (eq-eqb _ _ (w .0 .taken))) (w .1))
-    (λ w. turn false (l .before .loop .inv .1) (tested d false (ne-eqb _ _ (w .0 .left))) (w .1 ∙ sym (add-zero have)))
-    (c .if1 .came))
+    let turn = counted-turn (test (begin l)) (l .before .loop .i) have (c .if1 .have) in (
+      omega (arith, l .loop-test .taken),
+      ⊎-elim
+          (λ w. turn true (l .before .loop .inv .1) (tested d true (eq-eqb _ _ (w .0 .taken))) (w .1))
+          (λ w. turn false (l .before .loop .inv .1) (tested d false (ne-eqb _ _ (w .0 .left))) (w .1 ∙ sym (add-zero have)))
+          (c .if1 .came),
+    )
 
 returns : tie.Need-returns Inv-loop μ-loop
 returns c =
