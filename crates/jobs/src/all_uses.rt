@@ -1,4 +1,4 @@
-// Line 7 of all uses at once, by counting: no branch depends on what a single use holds, which a processor could not guess. It does not
+// Line 7 of all uses at once, by counting, so that few branches depend on what a use holds: a processor could not guess them. It does not
 // say which use is bad: where the counts do not fit, `checks` looks for it.
 ghost use mathlib.Core.Path.{_≡_};
 ghost use Prim.Native.Nat.{_≤_};

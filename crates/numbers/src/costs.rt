@@ -17,7 +17,7 @@ pub struct RematScales {
     pub indirect: f32,
 }
 
-// The bits of a use's cost, from its kind and its cost field. They are picked as whole numbers, which takes no branch: a processor can't
+// The bits of a use's cost, from its kind and its cost field. They are picked as whole numbers, which needs no branch: a processor can't
 // guess the kinds of uses.
 fn spill_cost_bits(kind: u32, cost: u32) -> u32
     ensures { λ r. ⌜ r ≡ costBits kind cost ⌝ }

@@ -1,5 +1,5 @@
-// One of two numbers, and one of two tests. A compiler makes no branch of them, where it would of an `if` around more code: for tests whose
-// outcome comes in no order that a processor could guess.
+// One of two numbers, and one of two tests, for tests whose outcome comes in no order that a processor could guess: a compiler can do
+// without a branch here, where it has to make one of an `if` around more code.
 ghost use mathlib.Core.Path.{_≡_};
 ghost use mathlib.Core.Bool.{_||_, cond};
 
