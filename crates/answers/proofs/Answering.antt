@@ -21,25 +21,27 @@ use Rattle.links.specs.Blocks.{BlockRow}
 use Rattle.links.specs.declared.lower.Side.the-variants.{Previous}
 use Rattle.links.specs.declared.blocks.Checked.{Checked}
 use Rattle.links.specs.declared.blocks.Checked.the-variants as Checked·is
-use Rattle.links.proofs.Tables.{table-length}
-use Rattle.walks.specs.declared.uses.BestUse.{BestUse}
-use Rattle.walks.specs.declared.uses.BestUse.the-variants as BestUse·is
-use Rattle.tables.specs.UseTables.{bestOf}
+use Rattle.columns.proofs.Tables.{table-length}
+use Rattle.use_rows.specs.declared.row.BestUse.{BestUse}
+use Rattle.use_rows.specs.declared.row.BestUse.the-variants as BestUse·is
+use Rattle.filling.specs.UseTables.{bestOf}
 use Rattle.region.specs.Proposal.{regionOf}
 use Rattle.region.specs.declared.proposal.Region.{Region}
 use Rattle.region.specs.declared.proposal.Region.the-variants as Region·is
-use Rattle.verdict.specs.declared.job.Rooms.{Rooms}
-use Rattle.verdict.specs.Job.{Job, sourceOfJob}
-use Rattle.verdict.specs.Refusals.{refusalOf}
-use Rattle.proposer.specs.View.{seenOfJob}
+use Rattle.filling.specs.declared.lent.Rooms.{Rooms}
+use Rattle.refusals.specs.Job.{Job, sourceOfJob}
+use Rattle.rooms.specs.Rooms.{refusalOf}
+use Rattle.views.specs.View.{seenOfJob}
 use Rattle.proposer.specs.declared.propose.Answer.{Answer}
 use Rattle.proposer.specs.declared.propose.Proposed.{Proposed}
-use Rattle.proposer.specs.Answer.{ofRegion, ofBest, ifAccepted, ofChecked, answerOf, Tables, noTables, freqsOf, tablesOfBest, tablesOf, WorkColumns, roomsOf, FilledBy, IsProposed}
-use Rattle.answers.specs.Figures.{shownOf}
-use Rattle.answers.specs.SheetJob.{parameterOf, jobOfColumns, jobOfSheet, cellsColumn}
+use Rattle.proposer.specs.Answer.{ofRegion, ofBest, ofChecked, answerOf, IsProposed}
+use Rattle.tables.specs.JobTables.{ifAccepted, noTables, tablesOf}
+use Rattle.filling.specs.SourceTables.{Tables, freqsOf, tablesOfBest, WorkColumns, roomsOf, FilledBy}
+use Rattle.figures.specs.Figures.{shownOf}
+use Rattle.cells.specs.SheetJob.{parameterOf, jobOfColumns, jobOfSheet, cellsColumn}
 use Rattle.answers.specs.SheetAnswer.{ofVerdict, shownOfJob, verdictIn, ifRead, tablesOfText, isUnread, Unread, linksUsed, IsShown, IsAnswered}
 use Rattle.answers.specs.declared.answer.Answered.{Answered}
-use Rattle.answers.proofs.CellColumns.{proposed-as}
+use Rattle.cells.proofs.CellColumns.{proposed-as}
 use Rattle.answers.proofs.ReadJob.{blocks-counted, read-cells, read-job}
 
 -- no text's verdict is NoRoom
@@ -62,17 +64,17 @@ verdict-never text e = by (eqb (length text) 0) e
 
 -- one link a block, none where the job is refused
 module _ (job : Job) (n : ℕ) (counted : n ≡ length (job .blocks)) where
-  links-long : n ≡ length (tablesOfBest job BestUse·is.Nothing .prevs)
+  links-long : n ≡ length (tablesOfBest (sourceOfJob job) BestUse·is.Nothing .prevs)
   links-long =
       counted
       ∙ sym (length-map (job .blocks) (λ (b : BlockRow). b .frequency))
-      ∙ sym (table-length (lowerLink Previous (freqsOf job)) (length (freqsOf job)))
+      ∙ sym (table-length (lowerLink Previous (freqsOf (sourceOfJob job))) (length (freqsOf (sourceOfJob job))))
 
   links-region : (r : Region) → linksUsed (ofRegion r) n ≡ n
   links-region (Region·is.Found p) = refl
   links-region Region·is.Nothing = refl
 
-  links-checked : (c : Checked) (b : BestUse) → linksUsed (ofChecked c (ofBest job b)) n ≡ length (ifAccepted c (tablesOfBest job b) noTables .prevs)
+  links-checked : (c : Checked) (b : BestUse) → linksUsed (ofChecked c (ofBest job b)) n ≡ length (ifAccepted c (tablesOfBest (sourceOfJob job) b) noTables .prevs)
   links-checked (Checked·is.Refused r) b = refl
   links-checked Checked·is.Sound (BestUse·is.At best) = links-region (regionOf (seenOfJob job best)) ∙ links-long
   links-checked Checked·is.Sound BestUse·is.Nothing = links-long

@@ -5,7 +5,7 @@ use mathlib.Core.List.{List, [], _∷_}
 use lib.ListN.{getD}
 use lib.Ieee.{ofBits, toBits, add, sub, mul, div, round, lt, eq, ofInt}
 use Rattle.sheet.specs.Kinds.{letter, fields, limit, width, position, kindOf}
-use Rattle.sheet.specs.Field.{digitOrBlank, columns, field, valueFrom, value, sameText, isField}
+use Rattle.sheet.specs.Field.{digitOrBlank, digits, field, valueBehind, value, sameText, isField}
 use Rattle.sheet.specs.Sheet.{fieldsText, lineText, line, linesText, textFrom, render}
 use Rattle.sheet.specs.Refusal.{linesOf, areFields, isLine, kindOfLine, latest, ofKind, isInOrder, fault, verdictBelow, verdict, numbers, rowOf, sheetOf}
 use Rattle.sheet.specs.Cells.{column}
@@ -16,24 +16,23 @@ use Rattle.sheet.specs.declared.write.Answer.the-variants.{Proposal}
 use Rattle.numbers.specs.Weight.{unitsOf, valueOf, bitsFrom}
 use Rattle.numbers.specs.Normal.{normalised, fraction, exceeds}
 use Rattle.numbers.specs.Cost.{spillCost, scaled}
-use Rattle.links.specs.First.{firstBelow}
-use Rattle.links.specs.Table.{table}
+use Rattle.columns.specs.First.{firstBelow}
+use Rattle.columns.specs.Table.{table, anyOf}
 use Rattle.links.specs.Blocks.{isBad, blockOf}
 use Rattle.links.specs.Links.{isLower, lowerLink}
 use Rattle.links.specs.Split.{follow}
-use Rattle.jobs.specs.Lines.{badBounds, badList, badDef, badUse, badEnd, badSpan, badKind, badFixedUse, countBelow}
-use Rattle.walks.specs.Uses.{useTable, rowsFrom, carries, splitUse, addedTo, partOf, costOf, frequencyAt, firstInst, lastInst, bestUse}
-use Rattle.walks.specs.Live.{sumBelow}
-use Rattle.walks.specs.GapSegments.{joined, overlapWith, overlapsOf}
-use Rattle.walkers.specs.Meeting.{anyOf, meets, countsAsFixed, weightOf, ofRegister, fixedAgainst, weighsAgainst, fixedMet, weightsWhere, weightsMet, fixedMetAny, weightsMetAll}
-use Rattle.walkers.specs.Gaps.{picked}
-use Rattle.gaps.specs.Gaps.{plus, cutGaps, cuts, gapsBetween, gapsOf}
-use Rattle.region.specs.Growth as Growth
-use Rattle.region.specs.Growth.{numbersFrom, weightTest, passes, sideOpen, leftFirst, sideTried, tryOn, try, growth, grown}
+use Rattle.jobs.specs.Lines.{badBounds, badList, badDef, badUse, badEnd, badSpan, badKind, badFixedUse}
+use Rattle.columns.specs.Below.{countBelow, sumBelow, joined, picked}
+use Rattle.use_rows.specs.Uses.{useTable, rowsFrom, carries, splitUse, addedToRow, partOf, costOf, frequencyAt, firstInst, lastInst, bestUse}
+use Rattle.overlaps.specs.GapSegments.{overlapWith, overlapsOf}
+use Rattle.walks.specs.Meeting.{meets, countsAsFixed, spillWeight, ofRegister, fixedAgainst, weighsAgainst, fixedMet, weightsWhere, weightsMet, fixedMetAny, weightsMetAll}
+use Rattle.numbers.specs.Sum.{plus}
+use Rattle.gaps.specs.Gaps.{cutGaps, cuts, gapsBetween, gapsOf}
+use Rattle.region.specs.Growth.{numbersFrom, weightsIn, weightTest, passes, sideOpen, leftFirst, sideTried, tryOn, try, growth, grown}
 use Rattle.region.specs.Proposal.{splitCost, endOf, proposalWith, regionOf}
-use Rattle.verdict.specs.Refusals.{firstBroken, badParameters, someLong, badSizes}
+use Rattle.refusals.specs.Refusals.{firstBroken, badParameters, someLong, badSizes}
 use Rattle.numbers.specs.Figure.{figure}
-use Rattle.verdict.specs.declared.job.Rooms.{Rooms}
+use Rattle.filling.specs.declared.lent.Rooms.{Rooms}
 use Rattle.answers.specs.SheetAnswer.{answerOfText}
 
 -- the rows of case A, and more behind them
@@ -63,5 +62,5 @@ said right weight insts cost thousandths =
 
 -- A; and C: weight 1056628736 on 8 to 12
 pub cases-answered : answerOfText (textOf (caseWith [] [])) rooms ∷ answerOfText (textOf (caseWith ((1056628736 ∷ []) ∷ []) ((0 ∷ 8 ∷ 12 ∷ 0 ∷ 0 ∷ 4294967295 ∷ []) ∷ []))) rooms ∷ [] ≡ said Absent 1073741824 4 0 500 ∷ said (At 1) 1065353216 1 1065353216 1000 ∷ []
-unfolding letter fields limit width position kindOf digitOrBlank columns field valueFrom value sameText isField fieldsText lineText line linesText textFrom render linesOf areFields isLine kindOfLine latest ofKind isInOrder fault verdictBelow verdict numbers rowOf sheetOf column endText endsText weightsText figuresText answerText bitsFrom figure unitsOf toBits firstBroken badParameters someLong badSizes isBad badBounds badList badDef badUse badEnd badSpan badKind badFixedUse countBelow bestUse useTable rowsFrom carries splitUse addedTo partOf costOf frequencyAt firstInst lastInst valueOf ofBits spillCost scaled firstBelow blockOf add sub mul round eq lt table gapsOf gapsBetween cuts cutGaps plus joined follow lowerLink isLower sumBelow overlapWith overlapsOf anyOf meets countsAsFixed weightOf ofRegister fixedAgainst weighsAgainst fixedMet weightsWhere weightsMet fixedMetAny weightsMetAll picked numbersFrom weightTest passes sideOpen leftFirst sideTried tryOn try growth grown splitCost endOf proposalWith regionOf normalised fraction exceeds div ofInt Growth.weightsMet
+unfolding letter fields limit width position kindOf digitOrBlank digits field valueBehind value sameText isField fieldsText lineText line linesText textFrom render linesOf areFields isLine kindOfLine latest ofKind isInOrder fault verdictBelow verdict numbers rowOf sheetOf column endText endsText weightsText figuresText answerText bitsFrom figure unitsOf toBits firstBroken badParameters someLong badSizes isBad badBounds badList badDef badUse badEnd badSpan badKind badFixedUse countBelow bestUse useTable rowsFrom carries splitUse addedToRow partOf costOf frequencyAt firstInst lastInst valueOf ofBits spillCost scaled firstBelow blockOf add sub mul round eq lt table gapsOf gapsBetween cuts cutGaps plus joined follow lowerLink isLower sumBelow overlapWith overlapsOf anyOf meets countsAsFixed spillWeight ofRegister fixedAgainst weighsAgainst fixedMet weightsWhere weightsMet fixedMetAny weightsMetAll picked numbersFrom weightTest passes sideOpen leftFirst sideTried tryOn try growth grown splitCost endOf proposalWith regionOf normalised fraction exceeds div ofInt weightsIn
 cases-answered = refl

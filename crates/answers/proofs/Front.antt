@@ -14,9 +14,10 @@ use Rattle.sheet.specs.Answer.{answerText}
 use Rattle.sheet.specs.declared.check.Verdict.{Verdict}
 use Rattle.sheet.specs.declared.check.Verdict.the-variants as Verdict·is
 use Rattle.sheet.proofs.Prefix.{longest, sheet-short, front-decides}
-use Rattle.verdict.specs.declared.job.Rooms.{Rooms}
-use Rattle.proposer.specs.Answer.{Tables, tablesOf}
-use Rattle.answers.specs.SheetJob.{jobOfSheet}
+use Rattle.filling.specs.declared.lent.Rooms.{Rooms}
+use Rattle.filling.specs.SourceTables.{Tables}
+use Rattle.tables.specs.JobTables.{tablesOf}
+use Rattle.cells.specs.SheetJob.{jobOfSheet}
 use Rattle.answers.specs.SheetAnswer.{ofVerdict, shownOfJob, answerOfText, ifRead, tablesOfText}
 use Rattle.answers.proofs.Answering.{verdict-never}
 

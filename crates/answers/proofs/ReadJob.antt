@@ -13,12 +13,12 @@ use Rattle.sheet.proofs.SoundLaws.{sound-sheet}
 use Rattle.sheet.proofs.CellLaws.{stored-length}
 use Rattle.sheet.proofs.Exact as exact
 use Rattle.links.proofs.Columns.{list-long}
-use Rattle.verdict.specs.Job.{jobOf}
-use Rattle.answers.specs.SheetJob.{Columns, jobOfColumns, columnsOf, jobOfSheet, cellsColumn, IsColumn, InCells}
-use Rattle.answers.proofs.CellColumns.{is-column, column-long}
+use Rattle.refusals.specs.Job.{jobOf, jobColumns}
+use Rattle.cells.specs.SheetJob.{ByKind, jobOfColumns, columnsOf, jobOfSheet, cellsColumn, IsColumn, InCells}
+use Rattle.cells.proofs.CellColumns.{is-column, column-long}
 
 -- the same columns make the same job
-pub job-same : (f g : Columns) → ((k c : ℕ) → IsColumn k c → f k c ≡ g k c) → jobOfColumns f ≡ jobOfColumns g
+pub job-same : (f g : ByKind) → ((k c : ℕ) → IsColumn k c → f k c ≡ g k c) → jobOfColumns f ≡ jobOfColumns g
 job-same f g e =
     λ i. jobOf
     (record {
@@ -28,13 +28,13 @@ job-same f g e =
       indirect = getD (e 0 3 (is-column 0 3 refl refl) i) 0 0;
       units = getD (e 0 4 (is-column 0 4 refl refl) i) 0 0;
     })
-    (e 1 0 (is-column 1 0 refl refl) i) (e 1 1 (is-column 1 1 refl refl) i) (e 1 2 (is-column 1 2 refl refl) i)
+    (jobColumns (e 1 0 (is-column 1 0 refl refl) i) (e 1 1 (is-column 1 1 refl refl) i) (e 1 2 (is-column 1 2 refl refl) i)
     (e 2 0 (is-column 2 0 refl refl) i)
     (e 3 0 (is-column 3 0 refl refl) i) (e 3 1 (is-column 3 1 refl refl) i) (e 3 2 (is-column 3 2 refl refl) i) (e 3 3 (is-column 3 3 refl refl) i) (e 3 4 (is-column 3 4 refl refl) i) (e 3 5 (is-column 3 5 refl refl) i)
     (e 4 0 (is-column 4 0 refl refl) i) (e 4 1 (is-column 4 1 refl refl) i) (e 4 2 (is-column 4 2 refl refl) i)
     (e 5 0 (is-column 5 0 refl refl) i)
     (e 6 0 (is-column 6 0 refl refl) i) (e 6 1 (is-column 6 1 refl refl) i) (e 6 2 (is-column 6 2 refl refl) i) (e 6 3 (is-column 6 3 refl refl) i) (e 6 4 (is-column 6 4 refl refl) i) (e 6 5 (is-column 6 5 refl refl) i)
-    (e 7 0 (is-column 7 0 refl refl) i) (e 7 1 (is-column 7 1 refl refl) i) (e 7 2 (is-column 7 2 refl refl) i)
+    (e 7 0 (is-column 7 0 refl refl) i) (e 7 1 (is-column 7 1 refl refl) i) (e 7 2 (is-column 7 2 refl refl) i))
 
 -- as many blocks as the cells have rows of them
 pub blocks-counted : {cells counts : List ℕ} → InCells cells counts → getD counts 1 0 ≡ length (jobOfColumns (cellsColumn cells counts) .blocks)

@@ -12,15 +12,16 @@ use Rattle.sheet.specs.Refusal.{verdict, sheetOf}
 use Rattle.sheet.specs.Cells.{column}
 use Rattle.sheet.specs.declared.check.Verdict.the-variants as Verdict·is
 use Rattle.sheet.proofs.SoundLaws.{sound-sheet}
-use Rattle.links.specs.Table.{table, shortest}
+use Rattle.columns.specs.Table.{table, shortest}
 use Rattle.links.specs.declared.blocks.Checked.{Checked}
 use Rattle.links.specs.declared.blocks.Checked.the-variants as Checked·is
-use Rattle.links.proofs.Tables.{table-length, shortest-at-most}
-use Rattle.verdict.specs.declared.job.Rooms.{Rooms}
-use Rattle.verdict.specs.Job.{sizesOf}
-use Rattle.verdict.specs.Refusals.{Line, firstBroken, Passed, roomsNeeded, line12, jobLines, tableRefusalOf, refusalOf}
-use Rattle.verdict.proofs.FirstBroken.{answer-passed, empty-sound, refused-stays, sound-goes-on}
-use Rattle.answers.specs.SheetJob.{jobOfSheet}
+use Rattle.columns.proofs.Tables.{table-length, shortest-at-most}
+use Rattle.filling.specs.declared.lent.Rooms.{Rooms}
+use Rattle.refusals.specs.Job.{sizesOf}
+use Rattle.refusals.specs.Refusals.{Line, firstBroken, Passed, jobLines, tableRefusalOf}
+use Rattle.rooms.specs.Rooms.{roomsNeeded, line12, refusalOf}
+use Rattle.refusals.proofs.FirstBroken.{answer-passed, empty-sound, refused-stays, sound-goes-on}
+use Rattle.cells.specs.SheetJob.{jobOfSheet}
 
 -- tables with room for every sheet
 pub record Enough (r : Rooms) : Type 0 where

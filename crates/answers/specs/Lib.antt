@@ -1,5 +1,3 @@
 -- What a sheet's job is answered
-pub mod Figures
-pub mod SheetJob
 pub mod SheetAnswer
 pub mod Rows

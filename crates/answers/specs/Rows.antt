@@ -4,8 +4,8 @@ use mathlib.Core.List.{List, [], _∷_}
 use lib.Ieee.{Float, nan}
 use lib.ListN.{getD}
 use Rattle.sheet.specs.Sheet.{lineText}
-use Rattle.proposer.specs.Answer.{WorkColumns}
-use Rattle.answers.specs.Figures.{bitsShown}
+use Rattle.filling.specs.SourceTables.{WorkColumns}
+use Rattle.numbers.specs.Weight.{bitsShown}
 use Rattle.answers.specs.declared.rows.Table.{Table}
 use Rattle.answers.specs.declared.rows.Table.the-variants.{Links, Uses, Gaps, GapSegments}
 

@@ -15,14 +15,16 @@ use Rattle.sheet.specs.declared.write.Answer as Shown
 use Rattle.sheet.specs.declared.write.Answer.the-variants as Shown·is
 use Rattle.sheet.specs.declared.write.Written.{Written}
 use Rattle.sheet.specs.declared.write.Written.the-variants as Written·is
-use Rattle.verdict.specs.declared.job.Rooms.{Rooms}
-use Rattle.verdict.specs.Job.{Job}
+use Rattle.filling.specs.declared.lent.Rooms.{Rooms}
+use Rattle.refusals.specs.Job.{Job}
 use Rattle.proposer.specs.declared.propose.Answer.{Answer}
 use Rattle.proposer.specs.declared.propose.Answer.the-variants as Answer·is
 use Rattle.proposer.specs.declared.propose.Proposed.{Proposed}
-use Rattle.proposer.specs.Answer.{Tables, noTables, WorkColumns, answerOf, tablesOf, roomsOf, FilledBy}
-use Rattle.answers.specs.Figures.{shownOf}
-use Rattle.answers.specs.SheetJob.{jobOfSheet}
+use Rattle.proposer.specs.Answer.{answerOf}
+use Rattle.filling.specs.SourceTables.{Tables, WorkColumns, roomsOf, FilledBy}
+use Rattle.tables.specs.JobTables.{noTables, tablesOf}
+use Rattle.figures.specs.Figures.{shownOf}
+use Rattle.cells.specs.SheetJob.{jobOfSheet}
 use Rattle.answers.specs.declared.answer.Answered.{Answered}
 
 -- a text that is refused has that answer, and a sheet that of its job; no text's verdict is NoRoom

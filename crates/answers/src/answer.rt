@@ -1,7 +1,7 @@
 // The answer to a sheet: its text is read, its job proposed, and the answer written.
-use crate::cells::adjustment;
-use crate::cells::propose_cells;
-use crate::figures::shown_of;
+use cells::cells::adjustment;
+use cells::cells::propose_cells;
+use figures::figures::shown_of;
 use proposer::propose::Answer;
 use proposer::propose::Proposed;
 use sheet::Verdict;
@@ -9,7 +9,7 @@ use sheet::Written;
 use sheet::read_sheet;
 use sheet::write_answer;
 ghost use mathlib.Core.Path.{_≡_};
-ghost use Rattle.proposer.specs.Answer.{workColumns};
+ghost use Rattle.filling.specs.SourceTables.{workColumns};
 ghost use Rattle.answers.specs.SheetAnswer.{isUnread, linksUsed, Unread, IsShown, IsAnswered};
 
 // How many bytes of the answer were written, or that there was no room: too few cells, or too few bytes for the answer. And how many
@@ -92,7 +92,18 @@ pub fn answer_sheet(
     out_gap: &mut [u32],
     out: &mut [u8],
 ) -> Answered
-    ensures { λ r. ⌜ IsAnswered (now (text .entry)) (now (cells .entry)) (now (cells .exit)) (workColumns (now («prev_lower_freq» .entry)) (now («next_lower_freq» .entry)) (now (inst .entry)) (now (weight .entry)) (now («left_weight» .entry)) (now («right_weight» .entry)) (now (from .entry)) (now (to .entry)) (now («gap_weight» .entry)) (now (live .entry)) (now («min_freq» .entry)) (now («out_from» .entry)) (now («out_to» .entry)) (now («out_value» .entry)) (now («out_gap» .entry))) (workColumns (now («prev_lower_freq» .exit)) (now («next_lower_freq» .exit)) (now (inst .exit)) (now (weight .exit)) (now («left_weight» .exit)) (now («right_weight» .exit)) (now (from .exit)) (now (to .exit)) (now («gap_weight» .exit)) (now (live .exit)) (now («min_freq» .exit)) (now («out_from» .exit)) (now («out_to» .exit)) (now («out_value» .exit)) (now («out_gap» .exit))) (now (out .entry)) (now (out .exit)) r ⌝ }
+    ensures { λ r. ⌜
+        (let lent = workColumns
+        (now («prev_lower_freq» .entry)) (now («next_lower_freq» .entry))
+        (now (inst .entry)) (now (weight .entry)) (now («left_weight» .entry)) (now («right_weight» .entry))
+        (now (from .entry)) (now (to .entry)) (now («gap_weight» .entry)) (now (live .entry)) (now («min_freq» .entry))
+        (now («out_from» .entry)) (now («out_to» .entry)) (now («out_value» .entry)) (now («out_gap» .entry)) in
+        let after = workColumns
+        (now («prev_lower_freq» .exit)) (now («next_lower_freq» .exit))
+        (now (inst .exit)) (now (weight .exit)) (now («left_weight» .exit)) (now («right_weight» .exit))
+        (now (from .exit)) (now (to .exit)) (now («gap_weight» .exit)) (now (live .exit)) (now («min_freq» .exit))
+        (now («out_from» .exit)) (now («out_to» .exit)) (now («out_value» .exit)) (now («out_gap» .exit)) in
+        IsAnswered (now (text .entry)) (now (cells .entry)) (now (cells .exit)) lent after (now (out .entry)) (now (out .exit)) r) ⌝ }
 {
     let reading = read_sheet(text, cells);
     let v = reading.verdict;

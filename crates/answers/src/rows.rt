@@ -1,11 +1,11 @@
 // The rows of a job's tables as lines: weights are given as their bits.
-use crate::figures::bits_shown;
+use numbers::weights::bits_shown;
 use sheet::Written;
 use sheet::write_line;
 ghost use mathlib.Core.Path.{_≡_};
 ghost use mathlib.Core.List.{[], _∷_};
 ghost use Rattle.sheet.specs.Answer.{Wrote};
-ghost use Rattle.proposer.specs.Answer.{workColumns};
+ghost use Rattle.filling.specs.SourceTables.{workColumns};
 ghost use Rattle.answers.specs.Rows.{numberIn, bitsIn, rowText};
 
 // A table that a job fills.
@@ -45,7 +45,8 @@ fn link_row(prev: &[u32], next: &[u32], i: usize) -> [u32; 2]
 
 // Row i of the use table.
 fn use_row(inst: &[u32], weight: &[f32], left: &[f32], right: &[f32], i: usize) -> [u32; 4]
-    ensures { λ r. ⌜ r ≡ numberIn (now (inst .entry)) i ∷ bitsIn (now (weight .entry)) i ∷ bitsIn (now (left .entry)) i ∷ bitsIn (now (right .entry)) i ∷ [] ⌝ }
+    ensures { λ r. ⌜ r ≡ numberIn (now (inst .entry)) i ∷ bitsIn (now (weight .entry)) i ∷
+        bitsIn (now (left .entry)) i ∷ bitsIn (now (right .entry)) i ∷ [] ⌝ }
 {
     [
         number_at(inst, i),
@@ -64,7 +65,8 @@ fn gap_row(
     freq: &[f32],
     i: usize,
 ) -> [u32; 5]
-    ensures { λ r. ⌜ r ≡ numberIn (now (from .entry)) i ∷ numberIn (now (to .entry)) i ∷ bitsIn (now (weight .entry)) i ∷ numberIn (now (live .entry)) i ∷ bitsIn (now (freq .entry)) i ∷ [] ⌝ }
+    ensures { λ r. ⌜ r ≡ numberIn (now (from .entry)) i ∷ numberIn (now (to .entry)) i ∷
+        bitsIn (now (weight .entry)) i ∷ numberIn (now (live .entry)) i ∷ bitsIn (now (freq .entry)) i ∷ [] ⌝ }
 {
     [
         number_at(from, i),
@@ -77,7 +79,8 @@ fn gap_row(
 
 // Gap segment i.
 fn gap_segment_row(from: &[u32], to: &[u32], value: &[u32], gap: &[u32], i: usize) -> [u32; 4]
-    ensures { λ r. ⌜ r ≡ numberIn (now (from .entry)) i ∷ numberIn (now (to .entry)) i ∷ numberIn (now (value .entry)) i ∷ numberIn (now (gap .entry)) i ∷ [] ⌝ }
+    ensures { λ r. ⌜ r ≡ numberIn (now (from .entry)) i ∷ numberIn (now (to .entry)) i ∷
+        numberIn (now (value .entry)) i ∷ numberIn (now (gap .entry)) i ∷ [] ⌝ }
 {
     [
         number_at(from, i),
@@ -108,7 +111,13 @@ pub fn write_row(
     i: usize,
     out: &mut [u8],
 ) -> Written
-    ensures { λ r. ⌜ Wrote (rowText table (workColumns (now (prev .entry)) (now (next .entry)) (now (inst .entry)) (now (weight .entry)) (now (left .entry)) (now (right .entry)) (now (from .entry)) (now (to .entry)) (now («gap_weight» .entry)) (now (live .entry)) (now (freq .entry)) (now («out_from» .entry)) (now («out_to» .entry)) (now («out_value» .entry)) (now («out_gap» .entry))) i) (now (out .entry)) (now (out .exit)) r ⌝ }
+    ensures { λ r. ⌜
+        (let lent = workColumns
+        (now (prev .entry)) (now (next .entry))
+        (now (inst .entry)) (now (weight .entry)) (now (left .entry)) (now (right .entry))
+        (now (from .entry)) (now (to .entry)) (now («gap_weight» .entry)) (now (live .entry)) (now (freq .entry))
+        (now («out_from» .entry)) (now («out_to» .entry)) (now («out_value» .entry)) (now («out_gap» .entry)) in
+        Wrote (rowText table lent i) (now (out .entry)) (now (out .exit)) r) ⌝ }
 {
     match table {
         Table::Links => {

@@ -2,23 +2,21 @@
 //
 // Here: `gelduvra_propose_split` and `gelduvra_find_optimal_split_point`. A column is a pointer and how many items it has; an answer
 // comes back in a lent block of words.
-// Proved: for every input the words are those of specs/Words, and the lent columns are as `propose_split` leaves them.
+// Proved: for every input the words are those of `words`, and the lent columns are as `propose_split` leaves them.
 // A caller should know: there is no `requires`; no word is left as it was. What a caller in another language owes is what a slice
 // is: columns that can be read, or written, for their whole length, and no column that is written overlaps another.
-pub mod words;
-
 use links::split::find_optimal_split_point;
 use numbers::Inst;
 use proposer::propose::propose_split;
-use verdict::job::Parameters;
-use words::put_proposed;
-use words::put_split_point;
+use refusals::job::Parameters;
+use words::words::put_proposed;
+use words::words::put_split_point;
 ghost use mathlib.Core.Path.{_≡_};
 ghost use Rattle.links.specs.Blocks.{blocksOf};
-ghost use Rattle.links.specs.Split.{answerOf};
-ghost use Rattle.verdict.specs.Job.{jobOf};
-ghost use Rattle.proposer.specs.Answer.{workColumns};
-ghost use Rattle.exports.specs.Words.{splitPointWords, IsExported};
+ghost use Rattle.links.specs.Split.{splitAnswer};
+ghost use Rattle.refusals.specs.Job.{jobOf, jobColumns};
+ghost use Rattle.filling.specs.SourceTables.{workColumns};
+ghost use Rattle.words.specs.Words.{splitPointWords, IsExported};
 
 // The answer to a job, and its tables in the lent columns: `propose_split`, with its answer in ten words.
 #[no_mangle]
@@ -68,7 +66,33 @@ pub extern "C" fn gelduvra_propose_split(
     out_gap: &mut [u32],
     answer: &mut [u64; 10],
 )
-    ensures { λ _. ⌜ IsExported (jobOf (record { k = k; «cheaper_than_move» = «cheaper_than_move»; «cheaper_than_load» = «cheaper_than_load»; indirect = indirect; units = units }) (now (freq .entry)) (now (first .entry)) (now (end .entry)) (now (code .entry)) (now («s_start» .entry)) (now («s_end» .entry)) (now («s_value» .entry)) (now («s_first_use» .entry)) (now («s_end_use» .entry)) (now («s_flags» .entry)) (now (position .entry)) (now («u_kind» .entry)) (now (cost .entry)) (now («spill_weight» .entry)) (now («r_unit» .entry)) (now («r_start» .entry)) (now («r_end» .entry)) (now («r_kind» .entry)) (now («r_index» .entry)) (now («r_fixed» .entry)) (now («f_unit» .entry)) (now («f_point» .entry)) (now («f_value» .entry))) (workColumns (now («prev_lower_freq» .entry)) (now («next_lower_freq» .entry)) (now (inst .entry)) (now (weight .entry)) (now («left_weight» .entry)) (now («right_weight» .entry)) (now (from .entry)) (now (to .entry)) (now («gap_weight» .entry)) (now (live .entry)) (now («min_freq» .entry)) (now («out_from» .entry)) (now («out_to» .entry)) (now («out_value» .entry)) (now («out_gap» .entry))) (workColumns (now («prev_lower_freq» .exit)) (now («next_lower_freq» .exit)) (now (inst .exit)) (now (weight .exit)) (now («left_weight» .exit)) (now («right_weight» .exit)) (now (from .exit)) (now (to .exit)) (now («gap_weight» .exit)) (now (live .exit)) (now («min_freq» .exit)) (now («out_from» .exit)) (now («out_to» .exit)) (now («out_value» .exit)) (now («out_gap» .exit))) (now (answer .exit)) ⌝ }
+    ensures { λ _. ⌜
+        (let job = jobOf
+        (record {
+          k = k;
+          «cheaper_than_move» = «cheaper_than_move»;
+          «cheaper_than_load» = «cheaper_than_load»;
+          indirect = indirect;
+          units = units;
+        })
+        (jobColumns (now (freq .entry)) (now (first .entry)) (now (end .entry)) (now (code .entry))
+        (now («s_start» .entry)) (now («s_end» .entry)) (now («s_value» .entry))
+        (now («s_first_use» .entry)) (now («s_end_use» .entry)) (now («s_flags» .entry))
+        (now (position .entry)) (now («u_kind» .entry)) (now (cost .entry)) (now («spill_weight» .entry))
+        (now («r_unit» .entry)) (now («r_start» .entry)) (now («r_end» .entry))
+        (now («r_kind» .entry)) (now («r_index» .entry)) (now («r_fixed» .entry))
+        (now («f_unit» .entry)) (now («f_point» .entry)) (now («f_value» .entry))) in
+        let lent = workColumns
+        (now («prev_lower_freq» .entry)) (now («next_lower_freq» .entry))
+        (now (inst .entry)) (now (weight .entry)) (now («left_weight» .entry)) (now («right_weight» .entry))
+        (now (from .entry)) (now (to .entry)) (now («gap_weight» .entry)) (now (live .entry)) (now («min_freq» .entry))
+        (now («out_from» .entry)) (now («out_to» .entry)) (now («out_value» .entry)) (now («out_gap» .entry)) in
+        let after = workColumns
+        (now («prev_lower_freq» .exit)) (now («next_lower_freq» .exit))
+        (now (inst .exit)) (now (weight .exit)) (now («left_weight» .exit)) (now («right_weight» .exit))
+        (now (from .exit)) (now (to .exit)) (now («gap_weight» .exit)) (now (live .exit)) (now («min_freq» .exit))
+        (now («out_from» .exit)) (now («out_to» .exit)) (now («out_value» .exit)) (now («out_gap» .exit)) in
+        IsExported job lent after (now (answer .exit))) ⌝ }
 {
     let proposed = propose_split(
         freq,
@@ -131,7 +155,9 @@ pub extern "C" fn gelduvra_find_optimal_split_point(
     prefer_early: bool,
     answer: &mut [u64; 3],
 )
-    ensures { λ _. ⌜ now (answer .exit) ≡ splitPointWords (answerOf (blocksOf (now (freq .entry)) (now (first .entry)) (now (end .entry))) after before «prefer_early») ⌝ }
+    ensures { λ _. ⌜
+        (let blocks = blocksOf (now (freq .entry)) (now (first .entry)) (now (end .entry)) in
+        now (answer .exit) ≡ splitPointWords (splitAnswer blocks after before «prefer_early»)) ⌝ }
 {
     let point = find_optimal_split_point(freq, first, end, Inst(after), Inst(before), prefer_early);
     put_split_point(point, answer);

@@ -14,19 +14,19 @@ use lib.Ieee.Bits.{is-true, is-false}
 use Rattle.numbers.specs.Weight.{finite, unitsOf, zeroWeight, frequencyLimit, valueOf}
 use Rattle.numbers.proofs.Units.{units-order}
 use Rattle.numbers.proofs.Bits.{value-finite}
-use Rattle.numbers.proofs.Tests.{cond-true, cond-false, cond-both}
+use Rattle.columns.proofs.Tests.{cond-true, cond-false, cond-both}
 use Rattle.links.specs.Blocks.{BlockRow, noBlock, blockAt, blockOf, startOf, itemLimit, SoundBlocks}
-use Rattle.links.specs.Links.{absent, beside, isLower, lowerLink, Beyond, onSide}
+use Rattle.links.specs.Links.{absent, beside, isLower, lowerLink, LiesBeyond, onSide}
 use Rattle.links.specs.Split.{follow, edge, preferred, home, reaches}
 use Rattle.links.specs.declared.lower.Side.{Side}
 use Rattle.links.specs.declared.lower.Side.the-variants.{Previous, Next}
-use Rattle.links.proofs.Firsts.{split}
+use Rattle.columns.proofs.Firsts.{split}
 use Rattle.links.proofs.Linking.{IsLink, link-nearest}
 use Rattle.links.proofs.Following.{fuel-left}
 use Rattle.links.proofs.Rows.{row-good, ends-rise, firsts-rise}
 use Rattle.links.proofs.Columns.{last-end}
-use Rattle.walks.specs.Uses.{frequencyAt}
-use Rattle.walks.specs.declared.uses.SplitUse.{SplitUse}
+use Rattle.use_rows.specs.Uses.{frequencyAt}
+use Rattle.use_rows.specs.declared.row.SplitUse.{SplitUse}
 use Rattle.gaps.specs.Gaps.{Gap, near, far, nearWeight, farWeights, farEnd, spanned, inOrder, cutGaps, frequencyOf, cuts, gapsBetween, ownGap}
 use Rattle.gaps.proofs.Cuts.{and-parts, all-enough}
 use Rattle.gaps.proofs.Spaces.{cut-gaps-length}
@@ -43,7 +43,7 @@ module _ (side : Side) (f : List ℕ) (few : length f ≤ absent) (last : ℕ) w
   unfolding follow
   follow-chained zero b h e = λ l. absurd (none side (length f) b (lowerLink side f b) h l e (link-nearest side f b few h .found l .0))
     where
-      none : (side : Side) (n b c : ℕ) → b < n → c < n → beside side n b ≤ 0 → Beyond side b c → ⊥
+      none : (side : Side) (n b c : ℕ) → b < n → c < n → beside side n b ≤ 0 → LiesBeyond side b c → ⊥
       none Previous n b c h l e p = omega (arith, e, p)
       none Next n b c h l e p = omega (arith, e, p, l)
   follow-chained (suc n) b h e =
@@ -120,13 +120,13 @@ module _ (blocks : List BlockRow) (sound : SoundBlocks blocks) where
       units-order w w ∙ le-ltb (unitsOf (valueOf frequencyLimit (getD freqs b 0))) (unitsOf (valueOf frequencyLimit (getD freqs b 0))) (le-refl (unitsOf (valueOf frequencyLimit (getD freqs b 0))))
 
   -- a gap that begins in block b and ends before the block that b's link names
-  module _ (side : Side) (e m b : ℕ) (ws : List Float) (h : b < length blocks) (a : At blocks sound side e b) (onward : Beyond side e m) (low : onSide side e m ≤ startOf blocks (length blocks))
-      (stop : (i k : ℕ) → onSide side m e ≤ i → i < onSide side e m → Home blocks sound i k → lowerLink side freqs b < length freqs → Beyond side k (lowerLink side freqs b)) where
+  module _ (side : Side) (e m b : ℕ) (ws : List Float) (h : b < length blocks) (a : At blocks sound side e b) (onward : LiesBeyond side e m) (low : onSide side e m ≤ startOf blocks (length blocks))
+      (stop : (i k : ℕ) → onSide side m e ≤ i → i < onSide side e m → Home blocks sound i k → lowerLink side freqs b < length freqs → LiesBeyond side k (lowerLink side freqs b)) where
     -- its instructions lie in block b or beyond
-    where-at : (i k : ℕ) → onSide side m e ≤ i → i < onSide side e m → Home blocks sound i k → (k ≡ b) ⊎ Beyond side b k
+    where-at : (i k : ℕ) → onSide side m e ≤ i → i < onSide side e m → Home blocks sound i k → (k ≡ b) ⊎ LiesBeyond side b k
     where-at i k p q x = by side (at-home blocks sound side e b h a) p q
       where
-        by : (side : Side) → Home blocks sound (onSide side (e - 1) e) b → onSide side m e ≤ i → i < onSide side e m → (k ≡ b) ⊎ Beyond side b k
+        by : (side : Side) → Home blocks sound (onSide side (e - 1) e) b → onSide side m e ≤ i → i < onSide side e m → (k ≡ b) ⊎ LiesBeyond side b k
         by Previous y p q = let l = homes-rise blocks sound i (e - 1) k b (omega (arith, q)) x y in ⊎-elim (λ g. inr g) (λ g. inl (omega (arith, l, g))) (split k b)
         by Next y p q = let l = homes-rise blocks sound e i b k p y x in ⊎-elim (λ g. inr g) (λ g. inl (omega (arith, l, g))) (split b k)
 
@@ -145,7 +145,7 @@ module _ (blocks : List BlockRow) (sound : SoundBlocks blocks) where
           is = same (home-only blocks sound (onSide side (e - 1) e) b (at-home blocks sound side e b h a));
         }
       where
-        within : (side : Side) → Beyond side e m → (onSide side m e ≤ onSide side (e - 1) e) × (onSide side (e - 1) e < onSide side e m)
+        within : (side : Side) → LiesBeyond side e m → (onSide side m e ≤ onSide side (e - 1) e) × (onSide side (e - 1) e < onSide side e m)
         within Previous o = (omega (arith, o), omega (arith, o))
         within Next o = (le-refl e, o)
 
@@ -171,7 +171,7 @@ module _ (blocks : List BlockRow) (sound : SoundBlocks blocks) where
     record From (e b : ℕ) : Type 0 where
       block : b < length blocks
       at : At blocks sound side e b
-      onward : Beyond side e end
+      onward : LiesBeyond side e end
       low : onSide side e 0 ≤ startOf blocks (length blocks)
 
     from-start : From (preferred side p q) (blockOf blocks (home side p q))
@@ -203,25 +203,25 @@ module _ (blocks : List BlockRow) (sound : SoundBlocks blocks) where
     cut-run e b w (c ∷ cs) f k =
         let h = inside-blocks (k .1) in
         let link = link-nearest side freqs b few (inside-freqs (f .block)) in
-        let on : Beyond side b c = subst (Beyond side b) (sym (k .0)) (link .found (subst (λ (x : ℕ). x < length freqs) (k .0) (k .1)) .0) in
+        let on : LiesBeyond side b c = subst (LiesBeyond side b) (sym (k .0)) (link .found (subst (λ (x : ℕ). x < length freqs) (k .0) (k .1)) .0) in
         run-in-order side e (edgeAt c) end (w ∷ []) (frequencyOf blocks b) (cutGaps side (λ b. frequencyOf blocks b) edgeAt end ws (edgeAt c) zeroWeight c cs)
         (at-beyond blocks sound side e b c (f .block) h (f .at) on)
         (cut-run (edgeAt c) c zeroWeight cs (from-edge c h (k .2)) (k .3))
 
     -- where the instructions of the farthest gap lie
-    end-stop : (e b : ℕ) → From e b → (i k : ℕ) → onSide side end e ≤ i → i < onSide side e end → Home blocks sound i k → (reaches side last (lowerLink side freqs b) ≡ false) → Beyond side k (lowerLink side freqs b)
+    end-stop : (e b : ℕ) → From e b → (i k : ℕ) → onSide side end e ≤ i → i < onSide side e end → Home blocks sound i k → (reaches side last (lowerLink side freqs b) ≡ false) → LiesBeyond side k (lowerLink side freqs b)
     end-stop e b f i k x y z r = by side (target-block blocks sound p q order inside side) x y r
       where
         by : (side : Side) → Home blocks sound (onSide side p q) (blockOf blocks (onSide side p q)) → onSide side (farEnd side p q) e ≤ i → i < onSide side e (farEnd side p q)
-            → reaches side (blockOf blocks (onSide side p q)) (lowerLink side freqs b) ≡ false → Beyond side k (lowerLink side freqs b)
+            → reaches side (blockOf blocks (onSide side p q)) (lowerLink side freqs b) ≡ false → LiesBeyond side k (lowerLink side freqs b)
         by Previous t x y r = let l = homes-rise blocks sound p i (blockOf blocks p) k x t z in let g = leb-false (blockOf blocks p) (lowerLink Previous freqs b) r in omega (arith, l, g)
         by Next t x y r = let l = homes-rise blocks sound i q k (blockOf blocks q) (omega (arith, y)) z t in let g = leb-false (lowerLink Next freqs b) (blockOf blocks q) r in omega (arith, l, g)
 
     -- and those of a gap up to a cut
-    cut-stop : (e c i k : ℕ) → c < length blocks → onSide side (edgeAt c) e ≤ i → i < onSide side e (edgeAt c) → Home blocks sound i k → Beyond side k c
+    cut-stop : (e c i k : ℕ) → c < length blocks → onSide side (edgeAt c) e ≤ i → i < onSide side e (edgeAt c) → Home blocks sound i k → LiesBeyond side k c
     cut-stop e c i k h x y z = by side x y
       where
-        by : (side : Side) → onSide side (edge side (blockAt blocks c)) e ≤ i → i < onSide side e (edge side (blockAt blocks c)) → Beyond side k c
+        by : (side : Side) → onSide side (edge side (blockAt blocks c)) e ≤ i → i < onSide side e (edge side (blockAt blocks c)) → LiesBeyond side k c
         by Previous x y = ⊎-elim (λ g. g) (λ g. let l = ends-rise blocks sound k c g h in let m = z .before in absurd (omega (arith, l, m, x))) (split c k)
         by Next x y = ⊎-elim (λ g. g) (λ g. let l = firsts-rise blocks sound c k g (z .inside) in let m = z .from in absurd (omega (arith, l, m, y))) (split k c)
 
@@ -251,10 +251,10 @@ module _ (blocks : List BlockRow) (sound : SoundBlocks blocks) where
     cut-least e b w (c ∷ cs) f k =
         let h = inside-blocks (k .1) in
         let link = link-nearest side freqs b few (inside-freqs (f .block)) in
-        let on : Beyond side b c = subst (Beyond side b) (sym (k .0)) (link .found (subst (λ (x : ℕ). x < length freqs) (k .0) (k .1)) .0) in
+        let on : LiesBeyond side b c = subst (LiesBeyond side b) (sym (k .0)) (link .found (subst (λ (x : ℕ). x < length freqs) (k .0) (k .1)) .0) in
         each-in-order (Least blocks) side (spanned side e (edgeAt c) (w ∷ []) (frequencyOf blocks b)) (cutGaps side (λ b. frequencyOf blocks b) edgeAt end ws (edgeAt c) zeroWeight c cs)
         (gap-least side e (edgeAt c) b (w ∷ []) (f .block) (f .at) (at-beyond blocks sound side e b c (f .block) h (f .at) on) (low-end side e (edgeAt c) (f .low) (edge-low side c h))
-        (λ i j x y z _. subst (Beyond side j) (k .0) (cut-stop e c i j h x y z)))
+        (λ i j x y z _. subst (LiesBeyond side j) (k .0) (cut-stop e c i j h x y z)))
         (cut-least (edgeAt c) c zeroWeight cs (from-edge c h (k .2)) (k .3))
 
     -- there are no more cuts than blocks from the first to the farther use's
@@ -270,10 +270,10 @@ module _ (blocks : List BlockRow) (sound : SoundBlocks blocks) where
         by Next l b r = let x = leb-true b l r in omega (arith, x)
     cut-few b (c ∷ cs) h r k =
         let link = link-nearest side freqs b few (inside-freqs h) in
-        let on : Beyond side b c = subst (Beyond side b) (sym (k .0)) (link .found (subst (λ (x : ℕ). x < length freqs) (k .0) (k .1)) .0) in
+        let on : LiesBeyond side b c = subst (LiesBeyond side b) (sym (k .0)) (link .found (subst (λ (x : ℕ). x < length freqs) (k .0) (k .1)) .0) in
         by side last b c (length cs) on (cut-few c cs (inside-blocks (k .1)) (k .2) (k .3))
       where
-        by : (side : Side) (l b c n : ℕ) → Beyond side b c → Between side l c n → Between side l b (suc n)
+        by : (side : Side) (l b c n : ℕ) → LiesBeyond side b c → Between side l c n → Between side l b (suc n)
         by Previous l b c n o m = omega (arith, o, m)
         by Next l b c n o m = omega (arith, o, m)
 

@@ -6,10 +6,10 @@ use native.Mathlib.Omega.{arith}
 use lib.ListN.{length, length-append}
 use Rattle.links.specs.Blocks.{blocksOf}
 use Rattle.links.specs.declared.lower.Side.the-variants.{Previous, Next}
-use Rattle.links.proofs.Tables.{table-length}
-use Rattle.walks.specs.UseColumns.{UseColumns, useIn}
-use Rattle.gaps.specs.Gaps.{Gap, weightOf, gapsOn, gapsOf, initialGap, usesIn, Cuttable}
-use Rattle.gaps.specs.GapColumns.{GapColumns, withGap, stored, Rows}
+use Rattle.columns.proofs.Tables.{table-length}
+use Rattle.use_rows.specs.UseColumns.{UseColumns, useIn}
+use Rattle.gaps.specs.Gaps.{Gap, gapWeight, gapsOn, gapsOf, initialGap, usesIn, Cuttable}
+use Rattle.gaps.specs.GapColumns.{GapColumns, withGap, storedGaps, Rows}
 use Rattle.gaps.specs.Cutting.{sideGaps, ownIn}
 use Rattle.gaps.proofs.StoredGaps.{rows-with, rows-stored, rows-fewer, stored-three}
 use Rattle.gaps.proofs.InColumns.{side-is, own-gap}
@@ -55,7 +55,7 @@ module _ (freqs firsts ends prevs nexts : List ℕ) (uses : UseColumns) (best : 
     pub left-rows : Rows (0 + length left) lent
     left-rows = let l = all-length in rows-fewer (0 + length left) (length all) lent (omega (arith, l)) r
 
-    module _ {n₁ : ℕ} {c₁ : GapColumns} (l : (n₁ ≡ 0 + length left) × (c₁ ≡ stored 0 left lent)) where
+    module _ {n₁ : ℕ} {c₁ : GapColumns} (l : (n₁ ≡ 0 + length left) × (c₁ ≡ storedGaps 0 left lent)) where
       rows₁ : Rows (length all) c₁
       rows₁ = subst (Rows (length all)) (sym (l .1)) (rows-stored (length all) 0 left lent r)
 
@@ -67,20 +67,20 @@ module _ (freqs firsts ends prevs nexts : List ℕ) (uses : UseColumns) (best : 
 
       module _ {g : Gap} {c₂ : GapColumns} (is : g ≡ own) (o : c₂ ≡ withGap c₁ n₁ g) where
         rows₂ : Rows (length all) c₂
-        rows₂ = subst (Rows (length all)) (sym o) (rows-with (length all) n₁ (g .from) (g .to) (weightOf g) (g .freq) c₁ rows₁)
+        rows₂ = subst (Rows (length all)) (sym o) (rows-with (length all) n₁ (g .from) (g .to) (gapWeight g) (g .freq) c₁ rows₁)
 
         pub right-rows : Rows (n₁ + 1 + length right) c₂
         right-rows = let e = all-length in let n = l .0 in rows-fewer (n₁ + 1 + length right) (length all) c₂ (omega (arith, e, n)) rows₂
 
         -- all are stored
-        pub all-stored : {n₃ : ℕ} {c₃ : GapColumns} → (n₃ ≡ n₁ + 1 + length right) × (c₃ ≡ stored (n₁ + 1) right c₂) → (n₃ ≡ length all) × (c₃ ≡ stored 0 all lent)
+        pub all-stored : {n₃ : ℕ} {c₃ : GapColumns} → (n₃ ≡ n₁ + 1 + length right) × (c₃ ≡ storedGaps (n₁ + 1) right c₂) → (n₃ ≡ length all) × (c₃ ≡ storedGaps 0 all lent)
         all-stored s =
             let e = all-length in
             let n = l .0 in
             let m = s .0 in
             let z : n₁ ≡ length left = omega (arith, n) in (
               omega (arith, e, n, m),
-              s .1 ∙ ap (stored (n₁ + 1) right) (o ∙ ap (withGap c₁ n₁) is ∙ ap (λ (x : GapColumns). withGap x n₁ own) (l .1))
-                  ∙ ap (λ (x : ℕ). stored (x + 1) right (withGap (stored 0 left lent) x own)) z
-                  ∙ stored-three left right own lent ∙ ap (λ (gs : List Gap). stored 0 gs lent) parts,
+              s .1 ∙ ap (storedGaps (n₁ + 1) right) (o ∙ ap (withGap c₁ n₁) is ∙ ap (λ (x : GapColumns). withGap x n₁ own) (l .1))
+                  ∙ ap (λ (x : ℕ). storedGaps (x + 1) right (withGap (storedGaps 0 left lent) x own)) z
+                  ∙ stored-three left right own lent ∙ ap (λ (gs : List Gap). storedGaps 0 gs lent) parts,
             )

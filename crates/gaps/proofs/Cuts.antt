@@ -11,9 +11,9 @@ use lib.ListN.{length, getD}
 use borrow.Author.Tests.{lt-ltb, le-ltb, ltb-true, eq-eqb, ne-eqb, eqb-true, eqb-false}
 use Rattle.numbers.specs.declared.MaybeBlock.{MaybeBlock}
 use Rattle.numbers.specs.declared.MaybeBlock.the-variants.{At, Absent}
-use Rattle.numbers.proofs.Tests.{cond-true, cond-false, cond-both}
+use Rattle.columns.proofs.Tests.{cond-true, cond-false, cond-both}
 use Rattle.links.specs.Blocks.{itemLimit}
-use Rattle.links.specs.Links.{absent, linkAnswer, beside, Beyond}
+use Rattle.links.specs.Links.{absent, linkAnswer, beside, LiesBeyond}
 use Rattle.links.specs.Split.{reaches}
 use Rattle.links.specs.declared.lower.Side.{Side}
 use Rattle.links.specs.declared.lower.Side.the-variants.{Previous, Next}
@@ -129,7 +129,7 @@ pub one-more : (side : Side) (links : List ℕ) → Leads side links → (last b
     → nextCut side links last b ≡ At (record { 0 = c }) → OneMore side links last b c fuel
 one-more side links leads last b c fuel h enough e =
     let n = next-at side links last b c e in
-    let onward : Beyond side b c = ⊎-elim (λ q. absurd (gone q n)) (λ q. subst (Beyond side b) (sym (n .is)) (q .1)) (leads .each b h) in
+    let onward : LiesBeyond side b c = ⊎-elim (λ q. absurd (gone q n)) (λ q. subst (LiesBeyond side b) (sym (n .is)) (q .1)) (leads .each b h) in
     let f = fuel-left side (length links) b c fuel h (n .inside) onward enough in
     record {
       inside = n .inside;
@@ -142,7 +142,7 @@ one-more side links leads last b c fuel h enough e =
     gone : getD links b 0 ≡ absent → NextCut side links last b c → ⊥
     gone q n = let f = leads .few in let z = n .is in let i = n .inside in omega (arith, q, f, z, i)
 
-    less : (side : Side) (n b c : ℕ) → b < n → c < n → Beyond side b c → beside side n c < beside side n b
+    less : (side : Side) (n b c : ℕ) → b < n → c < n → LiesBeyond side b c → beside side n c < beside side n b
     less Previous n b c p q r = omega arith
     less Next n b c p q r = omega arith
 

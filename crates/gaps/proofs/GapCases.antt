@@ -4,14 +4,15 @@ use Prim.Native.Nat.{ℕ}
 use mathlib.Core.List.{List, [], _∷_, map}
 use lib.Ieee.{binary32, toBits, ofBits, add, round, lt}
 use Rattle.numbers.specs.Weight.{valueOf, weightLimit}
-use Rattle.links.specs.First.{firstBelow}
+use Rattle.columns.specs.First.{firstBelow}
 use Rattle.links.specs.Blocks.{BlockRow, blockOf}
 use Rattle.links.specs.Links.{isLower, lowerLink}
 use Rattle.links.specs.Split.{follow}
-use Rattle.walks.specs.Uses.{frequencyAt}
-use Rattle.walks.specs.GapSegments.{joined}
-use Rattle.walks.specs.declared.uses.SplitUse.{SplitUse}
-use Rattle.gaps.specs.Gaps.{Gap, plus, weightOf, cutGaps, cuts, gapsBetween, gapsOf}
+use Rattle.use_rows.specs.Uses.{frequencyAt}
+use Rattle.columns.specs.Below.{joined}
+use Rattle.use_rows.specs.declared.row.SplitUse.{SplitUse}
+use Rattle.gaps.specs.Gaps.{Gap, gapWeight, cutGaps, cuts, gapsBetween, gapsOf}
+use Rattle.numbers.specs.Sum.{plus}
 
 -- a row of the use table from its numbers, weights by their bits
 row : ℕ → ℕ → ℕ → ℕ → SplitUse
@@ -21,7 +22,7 @@ row inst main left right = record { inst = record { 0 = inst }; weight = valueOf
 -- a gap as numbers: from, to, the bits of its weight and of its frequency
 shown : Gap → List ℕ
 unfolding toBits plus add round
-shown g = g .from ∷ g .to ∷ toBits binary32 (weightOf g) ∷ toBits binary32 (g .freq) ∷ []
+shown g = g .from ∷ g .to ∷ toBits binary32 (gapWeight g) ∷ toBits binary32 (g .freq) ∷ []
 
 tableOf : List BlockRow → List SplitUse → ℕ → List (List ℕ)
 unfolding gapsOf gapsBetween cuts cutGaps joined follow lowerLink isLower firstBelow blockOf frequencyAt valueOf ofBits lt

@@ -9,12 +9,12 @@ use lib.ListN.{length, length-append}
 use Rattle.links.specs.Blocks.{BlockRow, blockOf, startOf, endLimit, SoundBlocks}
 use Rattle.links.proofs.Rows.{row-good}
 use Rattle.links.proofs.Columns.{last-end}
-use Rattle.walks.specs.Live.{Gaps}
+use Rattle.overlaps.specs.Live.{Gaps}
 use Rattle.links.specs.declared.lower.Side.{Side}
 use Rattle.links.specs.declared.lower.Side.the-variants.{Previous, Next}
-use Rattle.walks.specs.Uses.{frequencyAt}
-use Rattle.walks.specs.GapSegments.{joined}
-use Rattle.walks.specs.declared.uses.SplitUse.{SplitUse}
+use Rattle.use_rows.specs.Uses.{frequencyAt}
+use Rattle.columns.specs.Below.{joined}
+use Rattle.use_rows.specs.declared.row.SplitUse.{SplitUse}
 use Rattle.gaps.specs.Gaps.{Gap, gapsBetween, ownGap, useOf, gapsOn, gapsOf}
 use Rattle.gaps.proofs.Homes.{home-of, blocks-rise}
 use Rattle.gaps.proofs.Runs.{Run, run-append, run-joined, fromsOf, tosOf, run-gaps}

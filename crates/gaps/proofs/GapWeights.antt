@@ -14,16 +14,17 @@ use Rattle.links.specs.Blocks.{BlockRow, blockAt, blockOf}
 use Rattle.links.specs.Split.{edge, preferred, home}
 use Rattle.links.specs.declared.lower.Side.{Side}
 use Rattle.links.specs.declared.lower.Side.the-variants.{Previous, Next}
-use Rattle.walks.specs.Uses.{frequencyAt}
-use Rattle.walks.specs.declared.uses.SplitUse.{SplitUse}
+use Rattle.use_rows.specs.Uses.{frequencyAt}
+use Rattle.use_rows.specs.declared.row.SplitUse.{SplitUse}
 use Rattle.links.specs.Links.{onSide}
-use Rattle.gaps.specs.Gaps.{Gap, plus, weightOf, near, far, nearWeight, farWeights, farEnd, spanned, cutGaps, frequencyOf, cuts, gapsBetween, ownGap, useOf, gapsOn, gapsOf}
+use Rattle.gaps.specs.Gaps.{Gap, gapWeight, near, far, nearWeight, farWeights, farEnd, spanned, cutGaps, frequencyOf, cuts, gapsBetween, ownGap, useOf, gapsOn, gapsOf}
+use Rattle.numbers.specs.Sum.{plus}
 use Rattle.gaps.proofs.Chains.{Each, each-append, each-in-order}
 use Rattle.gaps.proofs.GapTable.{each-joined}
 
 -- a gap whose weight is a weight and whose frequency is finite
 pub record Weighed (g : Gap) : Type 0 where
-  pub weight : Weight (weightOf g)
+  pub weight : Weight (gapWeight g)
   pub freq : Finite (g .freq)
 
 -- a use whose three weights are weights

@@ -10,11 +10,11 @@ use lib.Dec.{leb, ltb}
 use lib.ListN.{length}
 use borrow.Author.Tests.{ltb-true, leb-true, lt-ltb, le-leb, le-ltb}
 use Rattle.links.specs.Blocks.{BlockRow, blockAt, blockOf, startOf, holds, SoundBlocks}
-use Rattle.links.specs.Links.{Beyond, onSide}
+use Rattle.links.specs.Links.{LiesBeyond, onSide}
 use Rattle.links.specs.Split.{edge, preferred, home, reaches}
 use Rattle.links.specs.declared.lower.Side.{Side}
 use Rattle.links.specs.declared.lower.Side.the-variants.{Previous, Next}
-use Rattle.links.proofs.Firsts.{split, first-in, first-at-most, first-found}
+use Rattle.columns.proofs.Firsts.{split, first-in, first-at-most, first-found}
 use Rattle.links.proofs.Columns.{last-end}
 use Rattle.links.proofs.Rows.{row-good, ends-rise, firsts-rise, block-of-holds}
 use Rattle.gaps.specs.Gaps.{farEnd}
@@ -79,7 +79,7 @@ module _ (blocks : List BlockRow) (sound : SoundBlocks blocks) where
   at-edge Next c h = (le-refl (blockAt blocks c .first), row-good blocks sound c h .nonempty)
 
   -- the edges of blocks beyond lie beyond
-  pub at-beyond : (side : Side) (e b c : ℕ) → b < length blocks → c < length blocks → At side e b → Beyond side b c → Beyond side e (edge side (blockAt blocks c))
+  pub at-beyond : (side : Side) (e b c : ℕ) → b < length blocks → c < length blocks → At side e b → LiesBeyond side b c → LiesBeyond side e (edge side (blockAt blocks c))
   at-beyond Previous e b c h l a p = let x = a .0 in let y = ends-by c b p h in omega (arith, x, y)
   at-beyond Next e b c h l a p = let x = a .1 in let y = ends-by b c p l in omega (arith, x, y)
 
@@ -98,12 +98,12 @@ module _ (blocks : List BlockRow) (sound : SoundBlocks blocks) where
     at-start Previous = let h = home-block Previous in let x = h .from in let y = h .before in (omega (arith, x, order), omega (arith, y, order))
     at-start Next = let h = home-block Next in (h .from, h .before)
 
-    pub start-beyond : (side : Side) → Beyond side (preferred side p q) (farEnd side p q)
+    pub start-beyond : (side : Side) → LiesBeyond side (preferred side p q) (farEnd side p q)
     start-beyond Previous = order
     start-beyond Next = omega (arith, order)
 
     -- the edge of a block up to the farther use's lies before the end
-    pub edge-beyond : (side : Side) (c : ℕ) → c < length blocks → reaches side (blockOf blocks (onSide side p q)) c ≡ true → Beyond side (edge side (blockAt blocks c)) (farEnd side p q)
+    pub edge-beyond : (side : Side) (c : ℕ) → c < length blocks → reaches side (blockOf blocks (onSide side p q)) c ≡ true → LiesBeyond side (edge side (blockAt blocks c)) (farEnd side p q)
     edge-beyond Previous c h e =
         let t = target-block Previous in
         let l = leb-true (blockOf blocks p) c e in

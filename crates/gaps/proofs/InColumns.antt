@@ -11,20 +11,20 @@ use lib.Ieee.{Float}
 use lib.ListN.{length, getD}
 use borrow.Author.Tests.{ltb-true}
 use Rattle.numbers.specs.Weight.{frequencyLimit, valueOf}
-use Rattle.links.specs.Table.{table}
+use Rattle.columns.specs.Table.{table}
 use Rattle.links.specs.Blocks.{BlockRow, blocksOf, blockAt, blockOf, startOf, itemLimit, Ends, SoundColumns}
-use Rattle.links.specs.Links.{absent, lowerLink, linkColumn, Beyond, onSide}
+use Rattle.links.specs.Links.{absent, lowerLink, linkColumn, LiesBeyond, onSide}
 use Rattle.links.specs.Split.{follow, edge, preferred, home, reaches}
 use Rattle.links.specs.declared.lower.Side.{Side}
 use Rattle.links.specs.declared.lower.Side.the-variants.{Previous, Next}
-use Rattle.links.proofs.Firsts.{split}
-use Rattle.links.proofs.Tables.{table-length, table-at}
+use Rattle.columns.proofs.Firsts.{split}
+use Rattle.columns.proofs.Tables.{table-length, table-at}
 use Rattle.links.proofs.Linking.{IsLink, link-nearest}
 use Rattle.links.proofs.Columns.{list-long, row-at, frequency-column, last-of-sound, ends-of-sound, block-of-sound, edges-of-sound, edgesOf}
-use Rattle.walks.specs.Uses.{noWeights, frequencyAt}
-use Rattle.walks.specs.UseColumns.{UseColumns, Inside, useIn}
-use Rattle.walks.specs.GapSegments.{joined}
-use Rattle.walks.specs.declared.uses.SplitUse.{SplitUse}
+use Rattle.use_rows.specs.Uses.{noWeights, frequencyAt}
+use Rattle.use_rows.specs.UseColumns.{UseColumns, Inside, useIn}
+use Rattle.columns.specs.Below.{joined}
+use Rattle.use_rows.specs.declared.row.SplitUse.{SplitUse}
 use Rattle.gaps.specs.Gaps.{Gap, near, far, nearWeight, farWeights, farEnd, cutGaps, frequencyOf, cuts, gapsBetween, ownGap, useOf, gapsOn, usesIn, Cuttable}
 use Rattle.gaps.proofs.Cuts.{and-parts}
 use Rattle.gaps.proofs.Sides.{space-inside}

@@ -8,21 +8,21 @@ use lib.Ieee.{Float}
 use lib.ListN.{length, getD, length-map}
 use Rattle.numbers.specs.Weight.{zeroWeight}
 use Rattle.numbers.specs.Point.{instOf, roundUp}
-use Rattle.links.specs.Table.{table}
+use Rattle.columns.specs.Table.{table, rowBefore}
 use Rattle.links.specs.Blocks.{BlockRow, blocksOf, startOf, SoundBlocks, SoundColumns}
 use Rattle.links.specs.Links.{linkColumn}
 use Rattle.links.specs.declared.lower.Side.the-variants.{Previous, Next}
-use Rattle.links.proofs.Tables.{table-of, table-same}
+use Rattle.columns.proofs.Tables.{table-of, table-same}
 use Rattle.jobs.specs.Rows.{noSegment}
-use Rattle.jobs.specs.Lines.{rowBefore}
-use Rattle.walks.specs.Uses.{Source, noWeights, firstInst, lastInst, useTableOf}
-use Rattle.walks.specs.UseColumns.{UseColumns, columns, useIn}
-use Rattle.walks.specs.CheckedUses.{CheckedUses}
-use Rattle.walks.specs.Live.{sumBelow, liveFrom, liveTo, liveInGap, liveInsts, Gaps, Reach}
-use Rattle.walks.specs.declared.uses.SplitUse.{SplitUse}
-use Rattle.walks.proofs.UseTable.{instsOf, use-table-some, use-table-first, use-table-last, use-table-rises, use-table-inside, use-table-few}
-use Rattle.walks.proofs.CheckedJob.{first-covers, last-covers, last-in-blocks}
-use Rattle.walks.proofs.LiveTotal.{live-total}
+use Rattle.use_rows.specs.Uses.{Source, noWeights, firstInst, lastInst, useTableOf}
+use Rattle.use_rows.specs.UseColumns.{UseColumns, useColumns, useIn}
+use Rattle.uses.specs.CheckedUses.{CheckedUses}
+use Rattle.columns.specs.Below.{sumBelow}
+use Rattle.overlaps.specs.Live.{liveFrom, liveTo, liveInGap, liveInsts, Gaps, Reach}
+use Rattle.use_rows.specs.declared.row.SplitUse.{SplitUse}
+use Rattle.uses.proofs.UseTable.{instsOf, use-table-some, use-table-first, use-table-last, use-table-rises, use-table-inside, use-table-few}
+use Rattle.uses.proofs.CheckedJob.{first-covers, last-covers, last-in-blocks}
+use Rattle.overlaps.proofs.LiveTotal.{live-total}
 use Rattle.gaps.specs.Gaps.{Gap, useOf, gapsOf, usesIn, Cuttable}
 use Rattle.gaps.proofs.Runs.{fromsOf, tosOf, run-first, run-last}
 use Rattle.gaps.proofs.GapTable.{Rising, gaps-run, gaps-few, gaps-some, gaps-tile}
@@ -30,7 +30,7 @@ use Rattle.gaps.proofs.GapTable.{Rising, gaps-run, gaps-few, gaps-some,
 -- ---- the columns of a use table
 -- its rows in columns
 abbrev pub tableColumns : List SplitUse → UseColumns
-tableColumns rows = columns (map (λ (u : SplitUse). u .inst .0) rows) (map (λ (u : SplitUse). u .weight) rows) (map (λ (u : SplitUse). u .«left_weight») rows) (map (λ (u : SplitUse). u .«right_weight») rows)
+tableColumns rows = useColumns (map (λ (u : SplitUse). u .inst .0) rows) (map (λ (u : SplitUse). u .weight) rows) (map (λ (u : SplitUse). u .«left_weight») rows) (map (λ (u : SplitUse). u .«right_weight») rows)
 
 row-of : (rows : List SplitUse) (k : ℕ) → useIn (tableColumns rows) k ≡ useOf rows k
 row-of [] k = refl

@@ -10,9 +10,8 @@ use Rattle.links.specs.Blocks.{BlockRow, blockAt, blockOf}
 use Rattle.links.specs.Split.{edge, preferred, home}
 use Rattle.links.specs.declared.lower.Side.{Side}
 use Rattle.links.specs.declared.lower.Side.the-variants.{Previous, Next}
-use Rattle.walks.specs.Live.{sumBelow}
-use Rattle.walks.specs.GapSegments.{joined}
-use Rattle.walks.specs.declared.uses.SplitUse.{SplitUse}
+use Rattle.columns.specs.Below.{sumBelow, joined}
+use Rattle.use_rows.specs.declared.row.SplitUse.{SplitUse}
 use Rattle.links.specs.Links.{onSide}
 use Rattle.gaps.specs.Gaps.{Gap, near, far, nearWeight, farWeights, farEnd, spanned, inOrder, cutGaps, frequencyOf, cuts, gapsBetween, ownGap, useOf, gapsOn, gapsOf}
 

@@ -7,11 +7,11 @@ use native.Mathlib.Omega.{arith}
 use lib.Ieee.{Float}
 use lib.ListN.{length, getD, length-map}
 use Rattle.links.specs.Blocks.{endLimit}
-use Rattle.links.specs.Links.{Beyond, onSide}
+use Rattle.links.specs.Links.{LiesBeyond, onSide}
 use Rattle.links.specs.declared.lower.Side.{Side}
 use Rattle.links.specs.declared.lower.Side.the-variants.{Previous, Next}
-use Rattle.walks.specs.GapSegments.{joined}
-use Rattle.walks.specs.Live.{Gaps}
+use Rattle.columns.specs.Below.{joined}
+use Rattle.overlaps.specs.Live.{Gaps}
 use Rattle.gaps.specs.Gaps.{Gap, spanned, inOrder}
 
 -- the first begins at lo, each begins where the one before ends, the last ends at hi; none is empty
@@ -24,12 +24,12 @@ run-append lo mid hi [] hs r s = subst (λ (x : ℕ). Run x hi hs) (sym r) s
 run-append lo mid hi (g ∷ gs) hs r s = (r .0, r .1, run-append (g .to) mid hi gs hs (r .2) s)
 
 -- a gap and those farther from the best use
-pub run-in-order : (side : Side) (e m end : ℕ) (ws : List Float) (f : Float) (gs : List Gap) → Beyond side e m
+pub run-in-order : (side : Side) (e m end : ℕ) (ws : List Float) (f : Float) (gs : List Gap) → LiesBeyond side e m
     → Run (onSide side end m) (onSide side m end) gs → Run (onSide side end e) (onSide side e end) (inOrder side (spanned side e m ws f) gs)
 run-in-order Previous e m end ws f gs h r = run-append end m e gs (spanned Previous e m ws f ∷ []) r (refl, h, refl)
 run-in-order Next e m end ws f gs h r = (refl, h, r)
 
-pub run-one : (side : Side) (e end : ℕ) (ws : List Float) (f : Float) → Beyond side e end → Run (onSide side end e) (onSide side e end) (spanned side e end ws f ∷ [])
+pub run-one : (side : Side) (e end : ℕ) (ws : List Float) (f : Float) → LiesBeyond side e end → Run (onSide side end e) (onSide side e end) (spanned side e end ws f ∷ [])
 run-one Previous e end ws f h = (refl, h, refl)
 run-one Next e end ws f h = (refl, h, refl)
 

@@ -4,17 +4,18 @@ use mathlib.Core.List.{List, [], _++_}
 use Prim.Native.Nat.{ℕ, _+_, _-_, _≤_, _<_}
 use native.Mathlib.Omega.{arith}
 use lib.ListN.{length, length-append}
+use Rattle.columns.specs.Table.{storedIn}
 use Rattle.links.specs.Blocks.{Ends}
 use Rattle.links.specs.Split.{home}
 use Rattle.links.specs.declared.lower.Side.{Side}
 use Rattle.links.specs.declared.lower.Side.the-variants.{Previous, Next}
-use Rattle.walks.specs.GapSegments.{joined}
-use Rattle.walks.specs.declared.uses.SplitUse.{SplitUse}
-use Rattle.walks.proofs.Storing.{ends-inside}
-use Rattle.walks.proofs.GapRows.{joined-next, fromOn, fromOn-end}
+use Rattle.columns.specs.Below.{joined}
+use Rattle.use_rows.specs.declared.row.SplitUse.{SplitUse}
+use Rattle.uses.proofs.Storing.{ends-inside}
+use Rattle.columns.proofs.Joining.{joined-next, fromOn, fromOn-end}
 use Rattle.gaps.specs.Gaps.{Gap}
 use Rattle.gaps.specs.Cutting.{spaceOf, Ordered}
-use Rattle.gaps.specs.GapColumns.{GapColumns, stored, Rows}
+use Rattle.gaps.specs.GapColumns.{GapColumns, storedGaps, Rows}
 use Rattle.gaps.proofs.StoredGaps.{stored-append, rows-stored, rows-fewer}
 use Rattle.gaps.proofs.Spaces.{Same}
 
@@ -28,7 +29,7 @@ module _ (lists : ℕ → List Gap) (first last n₀ : ℕ) (lent : GapColumns) 
     pub used : n + length (fromOn lists last i) ≡ n₀ + length all
     pub rows : Rows (n₀ + length all) cols
     pub same : Same lent cols
-    pub gives : stored n (fromOn lists last i) cols ≡ stored n₀ all lent
+    pub gives : storedGaps n (fromOn lists last i) cols ≡ storedGaps n₀ all lent
 
   pub siding-starts : Rows (n₀ + length all) lent → Siding lent first n₀
   siding-starts r = record { from = omega arith; used = refl; rows = r; same = record { from = refl; to = refl; weight = refl; freq = refl }; gives = refl }
@@ -42,7 +43,7 @@ module _ (lists : ℕ → List Gap) (first last n₀ : ℕ) (lent : GapColumns) 
     siding-room h = let e = next-length h in let u = k .used in rows-fewer (n + length (lists i)) (n₀ + length all) cols (omega (arith, e, u)) (k .rows)
 
     -- and is stored
-    pub siding-next : i < last → {cols' : GapColumns} {n' : ℕ} → (n' ≡ n + length (lists i)) × (cols' ≡ stored n (lists i) cols) → Same cols cols' → Siding cols' (i + 1) n'
+    pub siding-next : i < last → {cols' : GapColumns} {n' : ℕ} → (n' ≡ n + length (lists i)) × (cols' ≡ storedGaps n (lists i) cols) → Same cols cols' → Siding cols' (i + 1) n'
     siding-next h {cols'} {n'} e t =
         let l = next-length h in
         let u = k .used in
@@ -53,19 +54,19 @@ module _ (lists : ℕ → List Gap) (first last n₀ : ℕ) (lent : GapColumns) 
           used = omega (arith, l, u, q);
           rows = subst (Rows (n₀ + length all)) (sym (e .1)) (rows-stored (n₀ + length all) n (lists i) cols (k .rows));
           same = record { from = t .from ∙ s .from; to = t .to ∙ s .to; weight = t .weight ∙ s .weight; freq = t .freq ∙ s .freq };
-          gives = ap (λ (x : ℕ). stored x (fromOn lists last (i + 1)) cols') q ∙ ap (stored (n + length (lists i)) (fromOn lists last (i + 1))) (e .1)
-              ∙ sym (stored-append n (lists i) (fromOn lists last (i + 1)) cols) ∙ ap (λ (gs : List Gap). stored n gs cols) (sym (joined-next lists i last h)) ∙ k .gives;
+          gives = ap (λ (x : ℕ). storedGaps x (fromOn lists last (i + 1)) cols') q ∙ ap (storedGaps (n + length (lists i)) (fromOn lists last (i + 1))) (e .1)
+              ∙ sym (stored-append n (lists i) (fromOn lists last (i + 1)) cols) ∙ ap (λ (gs : List Gap). storedGaps n gs cols) (sym (joined-next lists i last h)) ∙ k .gives;
         }
 
     -- none is left
-    pub siding-ends : last ≤ i → (n ≡ n₀ + length all) × (cols ≡ stored n₀ all lent)
-    unfolding stored
+    pub siding-ends : last ≤ i → (n ≡ n₀ + length all) × (cols ≡ storedGaps n₀ all lent)
+    unfolding storedIn
     siding-ends h =
         let z = fromOn-end lists last i h in
         let u = k .used in
         let l : length (fromOn lists last i) ≡ 0 = ap length z in (
           omega (arith, l, u),
-          ap (λ (gs : List Gap). stored n gs cols) (sym z) ∙ k .gives,
+          ap (λ (gs : List Gap). storedGaps n gs cols) (sym z) ∙ k .gives,
         )
 
 -- ---- the space between two uses in order: its blocks are blocks

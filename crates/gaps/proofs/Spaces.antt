@@ -5,13 +5,15 @@ use Prim.Native.Nat.{ℕ, zero, suc, _+_, _-_, _≤_, _<_, max}
 use native.Mathlib.Omega.{arith}
 use lib.Ieee.{Float, binary32, add}
 use lib.ListN.{length, getD, length-set, length-append}
+use Rattle.columns.specs.Table.{storedIn}
 use Rattle.numbers.specs.Weight.{zeroWeight}
 use Rattle.numbers.specs.declared.MaybeBlock.the-variants.{At, Absent}
 use Rattle.links.specs.Links.{beside, onSide}
 use Rattle.links.specs.declared.lower.Side.{Side}
 use Rattle.links.specs.declared.lower.Side.the-variants.{Previous, Next}
-use Rattle.gaps.specs.Gaps.{Gap, plus, weightOf, spanned, inOrder, cutGaps}
-use Rattle.gaps.specs.GapColumns.{GapColumns, withRow, withGap, stored, Rows}
+use Rattle.gaps.specs.Gaps.{Gap, gapWeight, spanned, inOrder, cutGaps}
+use Rattle.numbers.specs.Sum.{plus}
+use Rattle.gaps.specs.GapColumns.{GapColumns, withRow, withGap, storedGaps, Rows}
 use Rattle.gaps.specs.Cutting.{Leads, nextCut, followed, cutsIn, freqIn, spaceGaps, Alike}
 use Rattle.gaps.specs.declared.gaps.Space.{Space}
 use Rattle.gaps.proofs.Cuts.{one-more, followed-end, all-enough}
@@ -57,19 +59,19 @@ module _ (n : ℕ) where
 
   -- the next gap and those left, stored
   place-stored : (side : Side) (at : ℕ) (g : Gap) (gs : List Gap) (all : ℕ) (cols : GapColumns) → Place side n at (length gs) all
-      → stored (onSide side n at) (inOrder side g gs) cols ≡ stored (onSide side n (onSide side (at - 1) (at + 1))) gs (withGap cols at g)
-  unfolding stored Place
-  place-stored Previous at g gs all cols p = stored-last n gs g cols ∙ ap (λ (x : ℕ). stored n gs (withGap cols x g)) (sym (p .0))
-  place-stored Next at g gs all cols p = let z : suc at ≡ at + 1 = omega arith in ap (λ (x : ℕ). stored x gs (withGap cols at g)) z
+      → storedGaps (onSide side n at) (inOrder side g gs) cols ≡ storedGaps (onSide side n (onSide side (at - 1) (at + 1))) gs (withGap cols at g)
+  unfolding storedIn Place
+  place-stored Previous at g gs all cols p = stored-last n gs g cols ∙ ap (λ (x : ℕ). storedGaps n gs (withGap cols x g)) (sym (p .0))
+  place-stored Next at g gs all cols p = let z : suc at ≡ at + 1 = omega arith in ap (λ (x : ℕ). storedGaps x gs (withGap cols at g)) z
 
-  place-one : (side : Side) (at : ℕ) (g : Gap) (all : ℕ) (cols : GapColumns) → Place side n at 0 all → stored (onSide side n at) (g ∷ []) cols ≡ withGap cols at g
-  unfolding stored Place
+  place-one : (side : Side) (at : ℕ) (g : Gap) (all : ℕ) (cols : GapColumns) → Place side n at 0 all → storedGaps (onSide side n at) (g ∷ []) cols ≡ withGap cols at g
+  unfolding storedIn Place
   place-one Previous at g all cols p = let z : n ≡ at = omega (arith, p .0) in ap (λ (x : ℕ). withGap cols x g) z
   place-one Next at g all cols p = refl
 
-  start-same : (side : Side) (k : ℕ) (gs : List Gap) (cols : GapColumns) → stored (onSide side n (n + onSide side k 0)) gs cols ≡ stored n gs cols
+  start-same : (side : Side) (k : ℕ) (gs : List Gap) (cols : GapColumns) → storedGaps (onSide side n (n + onSide side k 0)) gs cols ≡ storedGaps n gs cols
   start-same Previous k gs cols = refl
-  start-same Next k gs cols = let z : n + 0 ≡ n = omega arith in ap (λ (x : ℕ). stored x gs cols) z
+  start-same Next k gs cols = let z : n + 0 ≡ n = omega arith in ap (λ (x : ℕ). storedGaps x gs cols) z
 
 -- ---- the columns are as long as they were
 pub record Same (lent cols : GapColumns) : Type 0 where
@@ -106,7 +108,7 @@ module _ (side : Side) (freqs edges links : List ℕ) (s : Space) (n : ℕ) (len
     pub rows : Rows (n + length all) cols
     pub same : Same lent cols
     pub place : Place side n at (length (followed side links (s .last .0) fuel b)) (length all)
-    pub gives : stored (onSide side n at) (rest fuel e w b) cols ≡ stored n all lent
+    pub gives : storedGaps (onSide side n at) (rest fuel e w b) cols ≡ storedGaps n all lent
 
   abbrev cutsLong : ℕ
   cutsLong = length (cutsIn side links (s .last .0) (s .block .0))
@@ -126,7 +128,7 @@ module _ (side : Side) (freqs edges links : List ℕ) (s : Space) (n : ℕ) (len
         rows = rows;
         same = record { from = refl; to = refl; weight = refl; freq = refl };
         place = subst (λ (x : ℕ). Place side n x cutsLong (length all)) (sym q) (subst (λ (x : ℕ). Place side n (n + onSide side cutsLong 0) cutsLong x) (sym all-length) (place-first n side cutsLong));
-        gives = ap (λ (x : ℕ). stored (onSide side n x) all lent) q ∙ start-same n side cutsLong all lent;
+        gives = ap (λ (x : ℕ). storedGaps (onSide side n x) all lent) q ∙ start-same n side cutsLong all lent;
       }
 
   pub first-inside : n + onSide side cutsLong 0 < n + length all
@@ -163,7 +165,7 @@ module _ (side : Side) (freqs edges links : List ℕ) (s : Space) (n : ℕ) (len
             same = same-with lent cols at (onSide side (edgeIn c) e) (onSide side e (edgeIn c)) w (freqIn freqs b) (k .same);
             place = t .0;
             gives = sym (place-stored n side at g left (length all) cols (subst (λ (x : ℕ). Place side n at x (length all)) (sym long) p))
-                ∙ ap (λ (cs : List ℕ). stored (onSide side n at) (cutGaps side (freqIn freqs) edgeIn (s .end) (s .far ∷ s .main ∷ []) e w b cs) cols) (sym (m .more))
+                ∙ ap (λ (cs : List ℕ). storedGaps (onSide side n at) (cutGaps side (freqIn freqs) edgeIn (s .end) (s .far ∷ s .main ∷ []) e w b cs) cols) (sym (m .more))
                 ∙ k .gives;
           },
           m .fewer,
@@ -173,7 +175,7 @@ module _ (side : Side) (freqs edges links : List ℕ) (s : Space) (n : ℕ) (len
 
     -- no cut any more: with the gap up to the farther use all are stored
     pub storing-ends : nextCut side links (s .last .0) b ≡ Absent
-        → (withRow cols at (onSide side (s .end) e) (onSide side e (s .end)) (add binary32 (add binary32 w (s .far)) (s .main)) (freqIn freqs b) ≡ stored n all lent)
+        → (withRow cols at (onSide side (s .end) e) (onSide side e (s .end)) (add binary32 (add binary32 w (s .far)) (s .main)) (freqIn freqs b) ≡ storedGaps n all lent)
         × (max (n + onSide side cutsLong 0) at + 1 ≡ n + length all)
     unfolding cutGaps plus
     storing-ends q =
@@ -181,7 +183,7 @@ module _ (side : Side) (freqs edges links : List ℕ) (s : Space) (n : ℕ) (len
         let p : Place side n at 0 (length all) = subst (λ (cs : List ℕ). Place side n at (length cs) (length all)) f (k .place) in
         let g = spanned side e (s .end) (w ∷ s .far ∷ s .main ∷ []) (freqIn freqs b) in (
           sym (place-one n side at g (length all) cols p)
-              ∙ ap (λ (cs : List ℕ). stored (onSide side n at) (cutGaps side (freqIn freqs) edgeIn (s .end) (s .far ∷ s .main ∷ []) e w b cs) cols) (sym f)
+              ∙ ap (λ (cs : List ℕ). storedGaps (onSide side n at) (cutGaps side (freqIn freqs) edgeIn (s .end) (s .far ∷ s .main ∷ []) e w b cs) cols) (sym f)
               ∙ k .gives,
           place-used n side at cutsLong (length all) all-length p,
         )
@@ -196,7 +198,7 @@ module _ (side : Side) (freqs edges links : List ℕ) (s : Space) (n : ℕ) (len
 
     pub storing-done : nextCut side links (s .last .0) b ≡ Absent → {cols' : GapColumns} {f : Float} {first r : ℕ} → f ≡ freqIn freqs b
         → cols' ≡ withRow cols at (onSide side (s .end) e) (onSide side e (s .end)) (add binary32 (add binary32 w (s .far)) (s .main)) f
-        → first ≡ n + onSide side cutsLong 0 → r ≡ max first at → (r + 1 ≡ n + length all) × (cols' ≡ stored n all lent)
+        → first ≡ n + onSide side cutsLong 0 → r ≡ max first at → (r + 1 ≡ n + length all) × (cols' ≡ storedGaps n all lent)
     storing-done q ef ec e1 er = (
       ap (λ (x : ℕ). x + 1) (er ∙ ap (λ (x : ℕ). max x at) e1) ∙ storing-ends q .1,
       ec ∙ ap (withRow cols at (onSide side (s .end) e) (onSide side e (s .end)) (add binary32 (add binary32 w (s .far)) (s .main))) ef ∙ storing-ends q .0,

@@ -5,10 +5,11 @@ use Prim.Native.Nat.{ℕ, zero, suc, _+_, _-_, _≤_, _<_}
 use native.Mathlib.Omega.{arith}
 use lib.Ieee.{Float}
 use lib.ListN.{length, set, drop, length-set, length-append, length-map}
-use lib.Seq.{sets, sets-eq, set-comm}
-use Rattle.links.specs.Table.{table, filled}
-use Rattle.gaps.specs.Gaps.{Gap, weightOf}
-use Rattle.gaps.specs.GapColumns.{GapColumns, columns, withRow, withGap, stored, Rows, GapsHeld}
+use lib.Seq.{set-comm}
+use Rattle.columns.specs.Table.{table, filled, storedIn}
+use Rattle.columns.proofs.Fillings.{stored-filled}
+use Rattle.gaps.specs.Gaps.{Gap, gapWeight}
+use Rattle.gaps.specs.GapColumns.{GapColumns, gapColumns, withRow, withGap, withNext, storedGaps, Rows, GapsHeld}
 
 -- ---- how long the columns are
 pub rows-with : (n at from to : ℕ) (weight freq : Float) (cols : GapColumns) → Rows n cols → Rows n (withRow cols at from to weight freq)
@@ -22,18 +23,18 @@ rows-with n at from to weight freq cols r =
 pub rows-fewer : (m n : ℕ) (cols : GapColumns) → m ≤ n → Rows n cols → Rows m cols
 rows-fewer m n cols h r = let a = r .from in let b = r .to in let c = r .weight in let d = r .freq in record { from = omega arith; to = omega arith; weight = omega arith; freq = omega arith }
 
-pub rows-stored : (n at : ℕ) (gs : List Gap) (cols : GapColumns) → Rows n cols → Rows n (stored at gs cols)
-unfolding stored
+pub rows-stored : (n at : ℕ) (gs : List Gap) (cols : GapColumns) → Rows n cols → Rows n (storedGaps at gs cols)
+unfolding storedIn
 rows-stored n at [] cols r = r
-rows-stored n at (g ∷ gs) cols r = rows-stored n (suc at) gs (withGap cols at g) (rows-with n at (g .from) (g .to) (weightOf g) (g .freq) cols r)
+rows-stored n at (g ∷ gs) cols r = rows-stored n (suc at) gs (withGap cols at g) (rows-with n at (g .from) (g .to) (gapWeight g) (g .freq) cols r)
 
 -- ---- stored in parts
-pub stored-append : (at : ℕ) (gs hs : List Gap) (cols : GapColumns) → stored at (gs ++ hs) cols ≡ stored (at + length gs) hs (stored at gs cols)
-unfolding stored
-stored-append at [] hs cols = let z : at ≡ at + 0 = omega arith in ap (λ (n : ℕ). stored n hs cols) z
+pub stored-append : (at : ℕ) (gs hs : List Gap) (cols : GapColumns) → storedGaps at (gs ++ hs) cols ≡ storedGaps (at + length gs) hs (storedGaps at gs cols)
+unfolding storedIn
+stored-append at [] hs cols = let z : at ≡ at + 0 = omega arith in ap (λ (n : ℕ). storedGaps n hs cols) z
 stored-append at (g ∷ gs) hs cols =
     let z : suc at + length gs ≡ at + suc (length gs) = omega arith in
-    stored-append (suc at) gs hs (withGap cols at g) ∙ ap (λ (n : ℕ). stored n hs (stored (suc at) gs (withGap cols at g))) z
+    stored-append (suc at) gs hs (withGap cols at g) ∙ ap (λ (n : ℕ). storedGaps n hs (storedGaps (suc at) gs (withGap cols at g))) z
 
 -- two rows stored, in either order
 with-either : (i j : ℕ) (g h : Gap) (cols : GapColumns) → (i ≡ j → ⊥) → withGap (withGap cols i g) j h ≡ withGap (withGap cols j h) i g
@@ -41,31 +42,24 @@ with-either i j g h cols apart =
     λ k. record {
       froms = set-comm (cols .froms) i j (g .from) (h .from) apart k;
       tos = set-comm (cols .tos) i j (g .to) (h .to) apart k;
-      weights = set-comm (cols .weights) i j (weightOf g) (weightOf h) apart k;
+      weights = set-comm (cols .weights) i j (gapWeight g) (gapWeight h) apart k;
       freqs = set-comm (cols .freqs) i j (g .freq) (h .freq) apart k;
     }
 
 -- the last one first
-pub stored-last : (at : ℕ) (gs : List Gap) (g : Gap) (cols : GapColumns) → stored at (gs ++ (g ∷ [])) cols ≡ stored at gs (withGap cols (at + length gs) g)
-unfolding stored
+pub stored-last : (at : ℕ) (gs : List Gap) (g : Gap) (cols : GapColumns) → storedGaps at (gs ++ (g ∷ [])) cols ≡ storedGaps at gs (withGap cols (at + length gs) g)
+unfolding storedIn
 stored-last at [] g cols = let z : at ≡ at + 0 = omega arith in ap (λ (n : ℕ). withGap cols n g) z
 stored-last at (x ∷ gs) g cols =
     let z : suc at + length gs ≡ at + suc (length gs) = omega arith in
     let e = with-either at (suc at + length gs) x g cols (λ q. absurd (omega (arith, q))) in
-    stored-last (suc at) gs g (withGap cols at x) ∙ ap (stored (suc at) gs) (e ∙ ap (λ (n : ℕ). withGap (withGap cols n g) at x) z)
+    stored-last (suc at) gs g (withGap cols at x) ∙ ap (storedGaps (suc at) gs) (e ∙ ap (λ (n : ℕ). withGap (withGap cols n g) at x) z)
 
 -- ---- a column of stored gaps: filled with a field of the gaps
-module _ {B : Type 0} (column : GapColumns → List B) (field : Gap → B) (one : (at : ℕ) (g : Gap) (c : GapColumns) → column (withGap c at g) ≡ set (column c) at (field g)) where
-  stored-column : (gs : List Gap) (at : ℕ) (c : GapColumns) → column (stored at gs c) ≡ sets (column c) at (map field gs)
-  unfolding stored
-  stored-column [] at c = refl
-  stored-column (g ∷ gs) at c = stored-column gs (suc at) (withGap c at g) ∙ ap (λ (l : List B). sets l (suc at) (map field gs)) (one at g c)
-
-  stored-filled : (gs : List Gap) (c : GapColumns) → length gs ≤ length (column c) → column (stored 0 gs c) ≡ filled (map field gs) (column c)
-  stored-filled gs c h =
-      let e = length-map gs field in
-      let a : 0 + length (map field gs) ≡ length (map field gs) = omega arith in
-      stored-column gs 0 c ∙ sets-eq (map field gs) (column c) 0 (omega (arith, e, h)) ∙ ap (λ (n : ℕ). map field gs ++ drop n (column c)) a
+field-filled : {B : Type 0} (column : GapColumns → List B) (field : Gap → B) → ((at : ℕ) (g : Gap) (c : GapColumns) → column (withGap c at g) ≡ set (column c) at (field g))
+    → (gs : List Gap) (c : GapColumns) → length gs ≤ length (column c) → column (storedGaps 0 gs c) ≡ filled (map field gs) (column c)
+field-filled column field one gs c h =
+    stored-filled withNext (λ s. s .at) (λ r s. refl) (λ s. column (s .cols)) field (λ r s. one (s .at) r (s .cols)) gs (record { at = 0; cols = c }) refl h
 
 -- no row counts anything
 none-counted : (gs : List Gap) → table {A = ℕ} (λ (k : ℕ). 0) (length gs) ≡ map (λ (g : Gap). 0) gs
@@ -73,24 +67,24 @@ unfolding table
 none-counted [] = refl
 none-counted (g ∷ gs) = ap (λ (l : List ℕ). 0 ∷ l) (none-counted gs)
 
-pub stored-held : (gs : List Gap) (lent now : GapColumns) (lentLive nowLive : List ℕ) (used : ℕ) → Rows (length gs) lent → used ≡ length gs → now ≡ stored 0 gs lent
+pub stored-held : (gs : List Gap) (lent now : GapColumns) (lentLive nowLive : List ℕ) (used : ℕ) → Rows (length gs) lent → used ≡ length gs → now ≡ storedGaps 0 gs lent
     → nowLive ≡ filled (table (λ (k : ℕ). 0) used) lentLive → GapsHeld gs lent now lentLive nowLive used
 stored-held gs lent now lentLive nowLive used r u e l =
     record {
       count = u;
-      from = ap (λ (c : GapColumns). c .froms) e ∙ stored-filled (λ c. c .froms) (λ g. g .from) (λ at g c. refl) gs lent (r .from);
-      to = ap (λ (c : GapColumns). c .tos) e ∙ stored-filled (λ c. c .tos) (λ g. g .to) (λ at g c. refl) gs lent (r .to);
-      weight = ap (λ (c : GapColumns). c .weights) e ∙ stored-filled (λ c. c .weights) weightOf (λ at g c. refl) gs lent (r .weight);
-      freq = ap (λ (c : GapColumns). c .freqs) e ∙ stored-filled (λ c. c .freqs) (λ g. g .freq) (λ at g c. refl) gs lent (r .freq);
+      from = ap (λ (c : GapColumns). c .froms) e ∙ field-filled (λ c. c .froms) (λ g. g .from) (λ at g c. refl) gs lent (r .from);
+      to = ap (λ (c : GapColumns). c .tos) e ∙ field-filled (λ c. c .tos) (λ g. g .to) (λ at g c. refl) gs lent (r .to);
+      weight = ap (λ (c : GapColumns). c .weights) e ∙ field-filled (λ c. c .weights) gapWeight (λ at g c. refl) gs lent (r .weight);
+      freq = ap (λ (c : GapColumns). c .freqs) e ∙ field-filled (λ c. c .freqs) (λ g. g .freq) (λ at g c. refl) gs lent (r .freq);
       live = l ∙ ap (λ (n : ℕ). filled (table (λ (k : ℕ). 0) n) lentLive) u ∙ ap (λ (rows : List ℕ). filled rows lentLive) (none-counted gs);
     }
 
 -- the gaps on the left, the own one and those on the right, stored one after the other
-pub stored-three : (ls rs : List Gap) (own : Gap) (lent : GapColumns) → stored (length ls + 1) rs (withGap (stored 0 ls lent) (length ls) own) ≡ stored 0 (ls ++ (own ∷ rs)) lent
-unfolding stored
+pub stored-three : (ls rs : List Gap) (own : Gap) (lent : GapColumns) → storedGaps (length ls + 1) rs (withGap (storedGaps 0 ls lent) (length ls) own) ≡ storedGaps 0 (ls ++ (own ∷ rs)) lent
+unfolding storedIn
 stored-three ls rs own lent =
     let a : 0 + length ls ≡ length ls = omega arith in
     let b : length ls + 1 ≡ suc (length ls) = omega arith in
-    ap (λ (n : ℕ). stored n rs (withGap (stored 0 ls lent) (length ls) own)) b
-    ∙ ap (λ (n : ℕ). stored (suc n) rs (withGap (stored 0 ls lent) n own)) (sym a)
+    ap (λ (n : ℕ). storedGaps n rs (withGap (storedGaps 0 ls lent) (length ls) own)) b
+    ∙ ap (λ (n : ℕ). storedGaps (suc n) rs (withGap (storedGaps 0 ls lent) n own)) (sym a)
     ∙ sym (stored-append 0 ls (own ∷ rs) lent)

@@ -10,14 +10,14 @@ use lib.ListN.{length, getD}
 use Rattle.numbers.specs.Weight.{frequencyLimit, valueOf}
 use Rattle.numbers.specs.declared.MaybeBlock.{MaybeBlock}
 use Rattle.numbers.specs.declared.MaybeBlock.the-variants.{At, Absent}
-use Rattle.links.specs.First.{firstBelow}
+use Rattle.columns.specs.First.{firstBelow}
 use Rattle.links.specs.Blocks.{itemLimit, Ends}
-use Rattle.links.specs.Links.{absent, Beyond, onSide}
+use Rattle.links.specs.Links.{absent, LiesBeyond, onSide}
 use Rattle.links.specs.Split.{preferred, home, reaches}
 use Rattle.links.specs.declared.lower.Side.{Side}
-use Rattle.walks.specs.UseColumns.{UseColumns, Inside, useIn}
-use Rattle.walks.specs.GapSegments.{joined}
-use Rattle.walks.specs.declared.uses.SplitUse.{SplitUse}
+use Rattle.use_rows.specs.UseColumns.{UseColumns, Inside, useIn}
+use Rattle.columns.specs.Below.{joined}
+use Rattle.use_rows.specs.declared.row.SplitUse.{SplitUse}
 use Rattle.gaps.specs.Gaps.{Gap, near, far, nearWeight, farEnd, cutGaps}
 use Rattle.gaps.specs.declared.gaps.Space.{Space}
 
@@ -41,7 +41,7 @@ spaceOf side ends n u v =
 -- stored links lead to blocks farther on their side, or are absent
 pub record Leads (side : Side) (links : List ℕ) : Type 0 where
   pub few : length links ≤ itemLimit
-  pub each : (b : ℕ) → b < length links → (getD links b 0 ≡ absent) ⊎ ((getD links b 0 < length links) × Beyond side b (getD links b 0))
+  pub each : (b : ℕ) → b < length links → (getD links b 0 ≡ absent) ⊎ ((getD links b 0 < length links) × LiesBeyond side b (getD links b 0))
 
 -- the block at whose edge the next cut stands
 unfoldable pub nextCut : Side → List ℕ → ℕ → ℕ → MaybeBlock

@@ -4,8 +4,8 @@ use Prim.Native.Nat.{ℕ, zero, suc, _+_, _≤_}
 use mathlib.Core.List.{List, [], _∷_, map}
 use lib.Ieee.{Float}
 use lib.ListN.{length, set}
-use Rattle.links.specs.Table.{filled}
-use Rattle.gaps.specs.Gaps.{Gap, weightOf}
+use Rattle.columns.specs.Table.{filled, storedIn}
+use Rattle.gaps.specs.Gaps.{Gap, gapWeight}
 
 -- instructions from and to, weights, frequencies
 pub record GapColumns : Type 0 where
@@ -15,21 +15,28 @@ pub record GapColumns : Type 0 where
   pub freqs : List Float
 
 -- the four as one
-abbrev pub columns : List ℕ → List ℕ → List Float → List Float → GapColumns
-columns froms tos weights freqs = record { froms = froms; tos = tos; weights = weights; freqs = freqs }
+abbrev pub gapColumns : List ℕ → List ℕ → List Float → List Float → GapColumns
+gapColumns froms tos weights freqs = record { froms = froms; tos = tos; weights = weights; freqs = freqs }
 
 -- the columns with a row stored
 abbrev pub withRow : GapColumns → ℕ → ℕ → ℕ → Float → Float → GapColumns
-withRow cols at from to weight freq = columns (set (cols .froms) at from) (set (cols .tos) at to) (set (cols .weights) at weight) (set (cols .freqs) at freq)
+withRow cols at from to weight freq = gapColumns (set (cols .froms) at from) (set (cols .tos) at to) (set (cols .weights) at weight) (set (cols .freqs) at freq)
 
 -- the columns with a gap stored
 abbrev pub withGap : GapColumns → ℕ → Gap → GapColumns
-withGap cols at g = withRow cols at (g .from) (g .to) (weightOf g) (g .freq)
+withGap cols at g = withRow cols at (g .from) (g .to) (gapWeight g) (g .freq)
+
+-- the columns, and the row at which the next gap is stored
+pub record AtRow : Type 0 where
+  pub at : ℕ
+  pub cols : GapColumns
+
+abbrev pub withNext : Gap → AtRow → AtRow
+withNext g c = record { at = suc (c .at); cols = withGap (c .cols) (c .at) g }
 
 -- gaps stored from a row on
-unfoldable pub stored : ℕ → List Gap → GapColumns → GapColumns
-stored at [] cols = cols
-stored at (g ∷ gs) cols = stored (suc at) gs (withGap cols at g)
+abbrev pub storedGaps : ℕ → List Gap → GapColumns → GapColumns
+storedGaps at gaps cols = storedIn withNext gaps (record { at = at; cols = cols }) .cols
 
 -- the columns have n rows
 pub record Rows (n : ℕ) (cols : GapColumns) : Type 0 where
@@ -43,6 +50,6 @@ pub record GapsHeld (gaps : List Gap) (lent now : GapColumns) (lentLive nowLive 
   pub count : used ≡ length gaps
   pub from : now .froms ≡ filled (map (λ (g : Gap). g .from) gaps) (lent .froms)
   pub to : now .tos ≡ filled (map (λ (g : Gap). g .to) gaps) (lent .tos)
-  pub weight : now .weights ≡ filled (map weightOf gaps) (lent .weights)
+  pub weight : now .weights ≡ filled (map gapWeight gaps) (lent .weights)
   pub freq : now .freqs ≡ filled (map (λ (g : Gap). g .freq) gaps) (lent .freqs)
   pub live : nowLive ≡ filled (map (λ (g : Gap). 0) gaps) lentLive

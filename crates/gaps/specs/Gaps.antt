@@ -2,19 +2,20 @@
 use mathlib.Core.Path.{_≡_}
 use Prim.Native.Nat.{ℕ, zero, suc, _+_, _-_, _<_}
 use mathlib.Core.List.{List, [], _∷_, _++_, map}
-use lib.Ieee.{Float, binary32, add}
+use lib.Ieee.{Float}
 use lib.ListN.{length, getD}
+use Rattle.numbers.specs.Sum.{total}
 use Rattle.numbers.specs.Weight.{zeroWeight, frequencyLimit, valueOf}
-use Rattle.links.specs.Table.{table}
+use Rattle.columns.specs.Table.{table}
 use Rattle.links.specs.Blocks.{BlockRow, blocksOf, blockAt, blockOf, startOf, SoundColumns}
 use Rattle.links.specs.Links.{linkColumn, onSide}
 use Rattle.links.specs.Split.{follow, edge, preferred, home, reaches}
 use Rattle.links.specs.declared.lower.Side.{Side}
 use Rattle.links.specs.declared.lower.Side.the-variants.{Previous, Next}
-use Rattle.walks.specs.Uses.{noWeights, frequencyAt}
-use Rattle.walks.specs.UseColumns.{UseColumns, useIn}
-use Rattle.walks.specs.GapSegments.{joined}
-use Rattle.walks.specs.declared.uses.SplitUse.{SplitUse}
+use Rattle.use_rows.specs.Uses.{noWeights, frequencyAt}
+use Rattle.use_rows.specs.UseColumns.{UseColumns, useIn}
+use Rattle.columns.specs.Below.{joined}
+use Rattle.use_rows.specs.declared.row.SplitUse.{SplitUse}
 
 -- a gap: the instructions from one to before another, the weights placed in it in the order of their addition, and its frequency
 pub record Gap : Type 0 where
@@ -23,19 +24,9 @@ pub record Gap : Type 0 where
   pub weights : List Float
   pub freq : Float
 
--- weights added to a weight, one after the other
-unfoldable pub plus : Float → List Float → Float
-plus w [] = w
-plus w (v ∷ vs) = plus (add binary32 w v) vs
-
--- weights added in their order
-abbrev pub total : List Float → Float
-total [] = zeroWeight
-total (w ∷ ws) = plus w ws
-
 -- a gap's weight
-abbrev pub weightOf : Gap → Float
-weightOf g = total (g .weights)
+abbrev pub gapWeight : Gap → Float
+gapWeight g = total (g .weights)
 
 -- of two neighbouring uses the one nearer to the best use, and the one farther from it; left of the best use is its side Previous
 abbrev pub near : Side → SplitUse → SplitUse → SplitUse

@@ -8,18 +8,18 @@ use numbers::Block;
 use numbers::Inst;
 use numbers::MaybeBlock;
 use numbers::weights::frequency_of;
-use walks::uses::SplitUse;
-use walks::uses::use_at;
+use use_rows::row::SplitUse;
+use use_rows::row::use_at;
 ghost use mathlib.Core.Path.{_≡_};
 ghost use mathlib.Core.List.{_∷_, []};
 ghost use Prim.Native.Nat.{ℕ, _+_, _-_, _≤_, _<_, max};
 ghost use lib.ListN.{length, getD};
-ghost use Rattle.walks.specs.UseColumns.{columns as useColumns, useIn};
+ghost use Rattle.use_rows.specs.UseColumns.{useColumns, useIn};
 ghost use Rattle.links.specs.Blocks.{blocksOf, Ends};
-ghost use Rattle.links.specs.Table.{table, filled};
+ghost use Rattle.columns.specs.Table.{table, filled};
 ghost use Rattle.links.specs.Links.{onSide};
 ghost use Rattle.gaps.specs.Gaps.{gapsOf, initialGap, Cuttable, usesIn};
-ghost use Rattle.gaps.specs.GapColumns.{columns, withRow, withGap, stored, Rows, GapsHeld};
+ghost use Rattle.gaps.specs.GapColumns.{gapColumns, withRow, withGap, storedGaps, Rows, GapsHeld};
 ghost use Rattle.gaps.specs.Cutting.{Ordered, spaceOf, Leads, nextCut, cutsIn, freqIn, Alike, spaceGaps, sideGaps, ownIn, InOrder};
 
 // What stands left of the best use, or right of it.
@@ -34,7 +34,7 @@ fn on_side(side: Side, left: u32, right: u32) -> u32
 
 // Two neighbouring uses and the space between them, from the use nearer to the best one to the farther one: where it begins and
 // ends, the weights placed in it, the block in which cutting begins, and the farther use's block.
-pub struct Space {
+struct Space {
     pub edge: u32,
     pub end: u32,
     pub near: f32,
@@ -158,8 +158,11 @@ fn put_gap(
     w: f32,
     f: f32,
 )
-    requires { ⌜ Rows (at + 1) (columns (now from) (now to) (now weight) (now freq)) ⌝ }
-    ensures { λ _. ⌜ columns (now (from .exit)) (now (to .exit)) (now (weight .exit)) (now (freq .exit)) ≡ withRow (columns (now (from .entry)) (now (to .entry)) (now (weight .entry)) (now (freq .entry))) at (onSide side farther edge) (onSide side edge farther) w f ⌝ }
+    requires { ⌜ Rows (at + 1) (gapColumns (now from) (now to) (now weight) (now freq)) ⌝ }
+    ensures { λ _. ⌜
+        (let lent = gapColumns (now (from .entry)) (now (to .entry)) (now (weight .entry)) (now (freq .entry)) in
+        let after = gapColumns (now (from .exit)) (now (to .exit)) (now (weight .exit)) (now (freq .exit)) in
+        after ≡ withRow lent at (onSide side farther edge) (onSide side edge farther) w f) ⌝ }
 {
     from[at] = on_side(side, farther, edge);
     to[at] = on_side(side, edge, farther);
@@ -190,8 +193,15 @@ fn cut_space(
     s: Space,
 ) -> usize
     requires { ⌜ Leads side (now links) × Alike (now freq) (now edges) (now links) × (s .block .0 < length (now links)) ⌝ }
-    requires { ⌜ Rows (n + length (spaceGaps side (now freq) (now edges) (now links) s)) (columns (now from) (now to) (now weight) (now «min_freq»)) ⌝ }
-    ensures { λ r. ⌜ (r ≡ n + length (spaceGaps side (now (freq .entry)) (now (edges .entry)) (now (links .entry)) s)) × (columns (now (from .exit)) (now (to .exit)) (now (weight .exit)) (now («min_freq» .exit)) ≡ stored n (spaceGaps side (now (freq .entry)) (now (edges .entry)) (now (links .entry)) s) (columns (now (from .entry)) (now (to .entry)) (now (weight .entry)) (now («min_freq» .entry)))) ⌝ }
+    requires { ⌜
+        (let gaps = spaceGaps side (now freq) (now edges) (now links) s in
+        let lent = gapColumns (now from) (now to) (now weight) (now «min_freq») in
+        Rows (n + length gaps) lent) ⌝ }
+    ensures { λ r. ⌜
+        (let gaps = spaceGaps side (now (freq .entry)) (now (edges .entry)) (now (links .entry)) s in
+        let lent = gapColumns (now (from .entry)) (now (to .entry)) (now (weight .entry)) (now («min_freq» .entry)) in
+        let after = gapColumns (now (from .exit)) (now (to .exit)) (now (weight .exit)) (now («min_freq» .exit)) in
+        (r ≡ n + length gaps) × (after ≡ storedGaps n gaps lent)) ⌝ }
 {
     let last = s.last;
     let mut b = s.block;
@@ -248,9 +258,20 @@ fn cut_side(
     n: usize,
 ) -> usize
     requires { ⌜ Leads side (now links) × Alike (now freq) (now edges) (now links) ⌝ }
-    requires { ⌜ InOrder (now end) (length (now freq)) (useColumns (now inst) (now weight) (now «left_weight») (now «right_weight»)) i last ⌝ }
-    requires { ⌜ Rows (n + length (sideGaps side (now freq) (now end) (now edges) (now links) (useColumns (now inst) (now weight) (now «left_weight») (now «right_weight»)) i (last - i))) (columns (now from) (now to) (now «out_weight») (now «min_freq»)) ⌝ }
-    ensures { λ r. ⌜ (r ≡ n + length (sideGaps side (now (freq .entry)) (now (end .entry)) (now (edges .entry)) (now (links .entry)) (useColumns (now (inst .entry)) (now (weight .entry)) (now («left_weight» .entry)) (now («right_weight» .entry))) i (last - i))) × (columns (now (from .exit)) (now (to .exit)) (now («out_weight» .exit)) (now («min_freq» .exit)) ≡ stored n (sideGaps side (now (freq .entry)) (now (end .entry)) (now (edges .entry)) (now (links .entry)) (useColumns (now (inst .entry)) (now (weight .entry)) (now («left_weight» .entry)) (now («right_weight» .entry))) i (last - i)) (columns (now (from .entry)) (now (to .entry)) (now («out_weight» .entry)) (now («min_freq» .entry)))) ⌝ }
+    requires { ⌜
+        (let uses = useColumns (now inst) (now weight) (now «left_weight») (now «right_weight») in
+        InOrder (now end) (length (now freq)) uses i last) ⌝ }
+    requires { ⌜
+        (let uses = useColumns (now inst) (now weight) (now «left_weight») (now «right_weight») in
+        let gaps = sideGaps side (now freq) (now end) (now edges) (now links) uses i (last - i) in
+        let lent = gapColumns (now from) (now to) (now «out_weight») (now «min_freq») in
+        Rows (n + length gaps) lent) ⌝ }
+    ensures { λ r. ⌜
+        (let uses = useColumns (now (inst .entry)) (now (weight .entry)) (now («left_weight» .entry)) (now («right_weight» .entry)) in
+        let gaps = sideGaps side (now (freq .entry)) (now (end .entry)) (now (edges .entry)) (now (links .entry)) uses i (last - i) in
+        let lent = gapColumns (now (from .entry)) (now (to .entry)) (now («out_weight» .entry)) (now («min_freq» .entry)) in
+        let after = gapColumns (now (from .exit)) (now (to .exit)) (now («out_weight» .exit)) (now («min_freq» .exit)) in
+        (r ≡ n + length gaps) × (after ≡ storedGaps n gaps lent)) ⌝ }
 {
     let mut i = i;
     let mut n = n;
@@ -288,8 +309,13 @@ fn put_own(
     n: usize,
     u: SplitUse,
 )
-    requires { ⌜ Ends (now end) (length (now freq)) (u .inst .0) × Rows (n + 1) (columns (now from) (now to) (now weight) (now «min_freq»)) ⌝ }
-    ensures { λ _. ⌜ columns (now (from .exit)) (now (to .exit)) (now (weight .exit)) (now («min_freq» .exit)) ≡ withGap (columns (now (from .entry)) (now (to .entry)) (now (weight .entry)) (now («min_freq» .entry))) n (ownIn (now (freq .entry)) (now (end .entry)) u) ⌝ }
+    requires { ⌜
+        (let lent = gapColumns (now from) (now to) (now weight) (now «min_freq») in
+        Ends (now end) (length (now freq)) (u .inst .0) × Rows (n + 1) lent) ⌝ }
+    ensures { λ _. ⌜
+        (let lent = gapColumns (now (from .entry)) (now (to .entry)) (now (weight .entry)) (now («min_freq» .entry)) in
+        let after = gapColumns (now (from .exit)) (now (to .exit)) (now (weight .exit)) (now («min_freq» .exit)) in
+        after ≡ withGap lent n (ownIn (now (freq .entry)) (now (end .entry)) u)) ⌝ }
 {
     let p = u.inst.0;
     let b = block_of(end, freq.len(), Inst(p));
@@ -311,7 +337,7 @@ fn clear_live(live: &mut [u32], n: usize)
 }
 
 // How many gaps there are, and which is the best use's own.
-pub struct Gaps {
+pub struct GapsFound {
     pub rows: usize,
     pub initial: usize,
 }
@@ -333,10 +359,24 @@ pub fn collect_gaps(
     out_weight: &mut [f32],
     live: &mut [u32],
     min_freq: &mut [f32],
-) -> Gaps
-    requires { ⌜ Cuttable (now freq) (now first) (now end) (now «prev_lower_freq») (now «next_lower_freq») (useColumns (now inst) (now weight) (now «left_weight») (now «right_weight»)) best ⌝ }
-    requires { ⌜ Rows (length (gapsOf (blocksOf (now freq) (now first) (now end)) (usesIn (useColumns (now inst) (now weight) (now «left_weight») (now «right_weight»))) best)) (columns (now from) (now to) (now «out_weight») (now «min_freq»)) × (length (gapsOf (blocksOf (now freq) (now first) (now end)) (usesIn (useColumns (now inst) (now weight) (now «left_weight») (now «right_weight»))) best) ≤ length (now live)) ⌝ }
-    ensures { λ r. ⌜ GapsHeld (gapsOf (blocksOf (now (freq .entry)) (now (first .entry)) (now (end .entry))) (usesIn (useColumns (now (inst .entry)) (now (weight .entry)) (now («left_weight» .entry)) (now («right_weight» .entry)))) best) (columns (now (from .entry)) (now (to .entry)) (now («out_weight» .entry)) (now («min_freq» .entry))) (columns (now (from .exit)) (now (to .exit)) (now («out_weight» .exit)) (now («min_freq» .exit))) (now (live .entry)) (now (live .exit)) (r .rows) × (r .initial ≡ initialGap (blocksOf (now (freq .entry)) (now (first .entry)) (now (end .entry))) (usesIn (useColumns (now (inst .entry)) (now (weight .entry)) (now («left_weight» .entry)) (now («right_weight» .entry)))) best) ⌝ }
+) -> GapsFound
+    requires { ⌜
+        (let uses = useColumns (now inst) (now weight) (now «left_weight») (now «right_weight») in
+        Cuttable (now freq) (now first) (now end) (now «prev_lower_freq») (now «next_lower_freq») uses best) ⌝ }
+    requires { ⌜
+        (let blocks = blocksOf (now freq) (now first) (now end) in
+        let uses = useColumns (now inst) (now weight) (now «left_weight») (now «right_weight») in
+        let gaps = gapsOf blocks (usesIn uses) best in
+        let lent = gapColumns (now from) (now to) (now «out_weight») (now «min_freq») in
+        Rows (length gaps) lent × (length gaps ≤ length (now live))) ⌝ }
+    ensures { λ r. ⌜
+        (let blocks = blocksOf (now (freq .entry)) (now (first .entry)) (now (end .entry)) in
+        let uses = useColumns (now (inst .entry)) (now (weight .entry)) (now («left_weight» .entry)) (now («right_weight» .entry)) in
+        let gaps = gapsOf blocks (usesIn uses) best in
+        let lent = gapColumns (now (from .entry)) (now (to .entry)) (now («out_weight» .entry)) (now («min_freq» .entry)) in
+        let after = gapColumns (now (from .exit)) (now (to .exit)) (now («out_weight» .exit)) (now («min_freq» .exit)) in
+        GapsHeld gaps lent after (now (live .entry)) (now (live .exit)) (r .rows) ×
+        (r .initial ≡ initialGap blocks (usesIn uses) best)) ⌝ }
 {
     // Cuts stand at the ends of blocks on the left, at their starts on the right.
     let left_edges = end;
@@ -380,5 +420,5 @@ pub fn collect_gaps(
         initial + 1,
     );
     clear_live(live, rows);
-    Gaps { rows, initial }
+    GapsFound { rows, initial }
 }

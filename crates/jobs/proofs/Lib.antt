@@ -1,8 +1,6 @@
 -- What the checks share
 pub mod Walk
 pub mod Reading
-pub mod Counting
 pub mod UseLists
 pub mod Sound
 pub mod SoundUses
-pub mod AllUses

@@ -4,12 +4,11 @@ use mathlib.Core.List.{List, [], _∷_}
 use Prim.Native.Nat.{ℕ, zero, suc, _+_, _-_, _≤_, _<_}
 use native.Mathlib.Omega.{arith}
 use lib.ListN.{length, getD}
-use Rattle.links.specs.Table.{shortest}
+use Rattle.columns.specs.Table.{shortest, rowBefore}
 use Rattle.jobs.specs.declared.rows.Segment.{Segment}
 use Rattle.jobs.specs.declared.rows.Use.{Use}
 use Rattle.jobs.specs.declared.rows.FixedUse.{FixedUse}
 use Rattle.jobs.specs.Rows.{segmentRow, segmentsOf, noSegment, useRow, usesOf, noUse, fixedUseRow, fixedUsesOf, noFixedUse}
-use Rattle.jobs.specs.Lines.{rowBefore}
 use Rattle.jobs.proofs.Walk.{own-row, before-next}
 
 pub own-segment : (a b c d e f : List ℕ) (i : ℕ) (s : Segment) → s ≡ segmentRow a b c d e f i → i < length (segmentsOf a b c d e f) → s ≡ getD (segmentsOf a b c d e f) i noSegment

@@ -12,7 +12,8 @@ use borrow.Author.Tests.{ltb-false, leb-false, eqb-true, eqb-false, not-false, e
 use Rattle.jobs.specs.declared.rows.Segment.{Segment}
 use Rattle.jobs.specs.declared.rows.Limits.{Limits}
 use Rattle.jobs.specs.Rows.{noSegment}
-use Rattle.jobs.specs.Lines.{rowBefore, badBounds, badList, badSegment, Lists}
+use Rattle.columns.specs.Table.{rowBefore}
+use Rattle.jobs.specs.Lines.{badBounds, badList, badSegment, Lists}
 
 -- both parts of an "or" that fails
 pub or-parts : (a b : Bool) → (a || b) ≡ false → (a ≡ false) × (b ≡ false)

@@ -7,12 +7,12 @@ use lib.Dec.{leb, ltb, eqb}
 use lib.ListN.{getD}
 use borrow.Author.Tests.{ltb-false, leb-false, eqb-true, eqb-false, not-false, lt-leb}
 use Rattle.numbers.specs.Point.{roundUp}
-use Rattle.numbers.proofs.Tests.{cond-true, cond-false}
+use Rattle.columns.proofs.Tests.{cond-true, cond-false}
 use Rattle.jobs.specs.declared.rows.Segment.{Segment}
 use Rattle.jobs.specs.declared.rows.Use.{Use}
 use Rattle.jobs.specs.declared.rows.Limits.{Limits}
 use Rattle.jobs.specs.Rows.{noUse, liveOut, fixedDef}
-use Rattle.jobs.specs.Lines.{badDef, badUse, badEnd, costMost, outside}
+use Rattle.jobs.specs.Lines.{badDef, badUse, badEnd, costMost, liesOutside}
 use Rattle.jobs.proofs.Sound.{or-parts}
 
 -- an "and" that fails, one part of which holds
@@ -55,7 +55,7 @@ pub record Fitting (limits : Limits) (s : Segment) (isFirst : Bool) (last u : Us
 pub fitting : (limits : Limits) (s : Segment) (isFirst : Bool) (last u : Use) → badUse limits s isFirst last u ≡ false → Fitting limits s isFirst last u
 unfolding badUse
 fitting limits s isFirst last u e =
-    let p4 = or-parts _ (not (isFirst && fixedDef (s .flags)) && outside s u) e in
+    let p4 = or-parts _ (not (isFirst && fixedDef (s .flags)) && liesOutside s u) e in
     let p3 = or-parts _ (not isFirst && ltb (u .position) (last .position)) (p4 .0) in
     let p2 = or-parts _ (leb (limits .end) (4 * u .position)) (p3 .0) in
     let p1 = or-parts (ltb 9 (u .kind)) (ltb (costMost (u .kind)) (u .cost)) (p2 .0) in

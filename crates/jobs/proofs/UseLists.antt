@@ -9,13 +9,14 @@ use native.Mathlib.Omega.{arith}
 use lib.Dec.{ltb}
 use lib.ListN.{length, getD}
 use borrow.Author.Tests.{lt-ltb, le-ltb}
-use Rattle.links.specs.First.{FirstIn, firstBelow}
-use Rattle.links.proofs.Firsts.{split, first-found}
+use Rattle.columns.specs.First.{FirstIn, firstBelow}
+use Rattle.columns.proofs.Firsts.{split, first-found}
 use Rattle.jobs.specs.declared.rows.Segment.{Segment}
 use Rattle.jobs.specs.declared.rows.Use.{Use}
 use Rattle.jobs.specs.declared.rows.Limits.{Limits}
 use Rattle.jobs.specs.Rows.{noSegment}
-use Rattle.jobs.specs.Lines.{rowBefore, listOf, badUseOf, badUseAt, Lists}
+use Rattle.columns.specs.Table.{rowBefore}
+use Rattle.jobs.specs.Lines.{listOf, badUseOf, badUseAt, Lists}
 use Rattle.jobs.proofs.Walk.{before-next}
 
 module _ (uses : ℕ) (segments : List Segment) (lists : Lists uses segments) where

@@ -6,9 +6,8 @@ use Prim.Native.Nat.{ℕ, _+_, _<_, min}
 use native.Mathlib.Nat.{lt-of-lt-of-le, le-of-eq}
 use native.Mathlib.Numerals.{add-one}
 use lib.ListN.{length, getD}
-use Rattle.links.specs.Table.{table}
-use Rattle.links.proofs.Tables.{table-length, table-at}
-use Rattle.jobs.specs.Lines.{rowBefore}
+use Rattle.columns.specs.Table.{table, rowBefore}
+use Rattle.columns.proofs.Tables.{table-length, table-at}
 
 -- before the next row stands this one
 pub before-next : {A : Type 0} (rows : List A) (none : A) (i : ℕ) → getD rows i none ≡ rowBefore rows none (i + 1)

@@ -5,9 +5,11 @@ use mathlib.Core.Bool.{Bool, true, false, not, _&&_, _||_, cond}
 use mathlib.Core.List.{List, [], _∷_}
 use lib.Dec.{leb, ltb, eqb}
 use lib.ListN.{length, getD}
+use Rattle.columns.specs.Table.{rowBefore}
+use Rattle.columns.specs.Below.{countBelow}
 use Rattle.numbers.specs.Weight.{weightLimit, costLimit}
 use Rattle.numbers.specs.Point.{roundUp}
-use Rattle.links.specs.First.{firstBelow}
+use Rattle.columns.specs.First.{firstBelow}
 use Rattle.jobs.specs.Rows.{noSegment, noUse, noReservation, noFixedUse, liveOut, fixedDef}
 use Rattle.jobs.specs.declared.rows.Segment.{Segment}
 use Rattle.jobs.specs.declared.rows.Use.{Use}
@@ -22,11 +24,6 @@ above limit col i = ltb limit (getD col i 0)
 -- line 4: a rematerialisation code above 3
 abbrev pub badValue : List ℕ → ℕ → Bool
 badValue codes = above 3 codes
-
--- the row before row i, or no row
-abbrev pub rowBefore : {A : Type 0} → List A → A → ℕ → A
-rowBefore rows none zero = none
-rowBefore rows none (suc i) = getD rows i none
 
 -- line 5, of a segment after another: its bounds, value and flags
 unfoldable pub badBounds : Limits → Segment → Segment → Bool
@@ -79,11 +76,6 @@ badFixedUse limits last f =
 abbrev pub badFixedUseAt : Limits → List FixedUse → ℕ → Bool
 badFixedUseAt limits fixedUses i = badFixedUse limits (rowBefore fixedUses noFixedUse i) (getD fixedUses i noFixedUse)
 
--- how many numbers below n pass a test
-unfoldable pub countBelow : (ℕ → Bool) → ℕ → ℕ
-countBelow test zero = 0
-countBelow test (suc n) = countBelow test n + cond (test n) 1 0
-
 -- how many fixed uses a unit has, wherever they stand
 abbrev pub fixedOf : List FixedUse → ℕ → ℕ
 fixedOf fixedUses unit = countBelow (λ (i : ℕ). eqb (getD fixedUses i noFixedUse .unit) unit) (length fixedUses)
@@ -115,14 +107,14 @@ abbrev pub costMost : ℕ → ℕ
 costMost kind = cond (ltb kind 2) 1 (cond (ltb kind 4) 0 (cond (ltb kind 8) costLimit 0))
 
 -- a use at an instruction needs 4 × (instruction + 1) above the start and 4 × instruction at most the end
-abbrev pub outside : Segment → Use → Bool
-outside s u = leb (4 * (u .position + 1)) (s .start) || ltb (s .end) (4 * u .position)
+abbrev pub liesOutside : Segment → Use → Bool
+liesOutside s u = leb (4 * (u .position + 1)) (s .start) || ltb (s .end) (4 * u .position)
 
 -- line 7, of a use of a segment after another use: kind above 9, bad cost field, position falling within the segment, at or past the last block's end, or outside the segment, from which the first use of a fixed def is free
 unfoldable pub badUse : Limits → Segment → Bool → Use → Use → Bool
 badUse limits s isFirst last u =
     ltb 9 (u .kind) || ltb (costMost (u .kind)) (u .cost) || leb (limits .end) (4 * u .position) || (not isFirst && ltb (u .position) (last .position))
-    || (not (isFirst && fixedDef (s .flags)) && outside s u)
+    || (not (isFirst && fixedDef (s .flags)) && liesOutside s u)
 
 -- the segment that lists a use
 abbrev pub listOf : List Segment → ℕ → ℕ

@@ -2,11 +2,11 @@
 ghost use mathlib.Core.Path.{_≡_};
 ghost use mathlib.Core.Bool.{_||_};
 ghost use lib.ListN.{length};
-ghost use Rattle.links.specs.First.{firstBelow, FirstIn};
+ghost use Rattle.columns.specs.First.{firstBelow, FirstIn};
 ghost use Prim.Native.Nat.{_≤_};
 ghost use Rattle.jobs.specs.Rows.{segmentsOf, usesOf, reservationsOf, fixedUsesOf};
-ghost use Rattle.jobs.specs.Lines.{above, badValue, badBounds, badList, badSegment, badDef, badDefAt, badEnd, badEndAt, badWeight, fixedOf, badSpan, badKind, badReservation, badFixedUse, badFixedUseAt, costMost, outside, badUse, badUseOf, badUseAt, Lists};
-use crate::all_uses::uses_fit;
+ghost use Rattle.jobs.specs.Lines.{above, badValue, badBounds, badList, badSegment, badDef, badDefAt, badEnd, badEndAt, badWeight};
+ghost use Rattle.jobs.specs.Lines.{fixedOf, badSpan, badKind, badReservation, badFixedUse, badFixedUseAt};
 use crate::rows;
 use crate::rows::FixedUse;
 use crate::rows::Limits;
@@ -100,7 +100,10 @@ pub fn first_bad_segment(
     flags: &[u32],
     limits: Limits,
 ) -> usize
-    ensures { λ r. ⌜ r ≡ firstBelow (badSegment limits (segmentsOf (now (start .entry)) (now (end .entry)) (now (value .entry)) (now («first_use» .entry)) (now («end_use» .entry)) (now (flags .entry)))) (length (segmentsOf (now (start .entry)) (now (end .entry)) (now (value .entry)) (now («first_use» .entry)) (now («end_use» .entry)) (now (flags .entry)))) ⌝ }
+    ensures { λ r. ⌜
+        (let segments = segmentsOf
+        (now (start .entry)) (now (end .entry)) (now (value .entry)) (now («first_use» .entry)) (now («end_use» .entry)) (now (flags .entry)) in
+        r ≡ firstBelow (badSegment limits segments) (length segments)) ⌝ }
 {
     let n = rows::segment_count(start, end, value, first_use, end_use, flags);
     let mut last = rows::no_segment();
@@ -155,7 +158,11 @@ pub fn first_bad_def(
     kind: &[u32],
     cost: &[u32],
 ) -> usize
-    ensures { λ r. ⌜ r ≡ firstBelow (badDefAt (usesOf (now (position .entry)) (now (kind .entry)) (now (cost .entry))) (segmentsOf (now (start .entry)) (now (end .entry)) (now (value .entry)) (now («first_use» .entry)) (now («end_use» .entry)) (now (flags .entry)))) (length (segmentsOf (now (start .entry)) (now (end .entry)) (now (value .entry)) (now («first_use» .entry)) (now («end_use» .entry)) (now (flags .entry)))) ⌝ }
+    ensures { λ r. ⌜
+        (let uses = usesOf (now (position .entry)) (now (kind .entry)) (now (cost .entry)) in
+        let segments = segmentsOf
+        (now (start .entry)) (now (end .entry)) (now (value .entry)) (now («first_use» .entry)) (now («end_use» .entry)) (now (flags .entry)) in
+        r ≡ firstBelow (badDefAt uses segments) (length segments)) ⌝ }
 {
     let n = rows::segment_count(start, end, value, first_use, end_use, flags);
     let mut i = 0;
@@ -206,7 +213,11 @@ pub fn first_bad_end(
     kind: &[u32],
     cost: &[u32],
 ) -> usize
-    ensures { λ r. ⌜ r ≡ firstBelow (badEndAt (usesOf (now (position .entry)) (now (kind .entry)) (now (cost .entry))) (segmentsOf (now (start .entry)) (now (end .entry)) (now (value .entry)) (now («first_use» .entry)) (now («end_use» .entry)) (now (flags .entry)))) (length (segmentsOf (now (start .entry)) (now (end .entry)) (now (value .entry)) (now («first_use» .entry)) (now («end_use» .entry)) (now (flags .entry)))) ⌝ }
+    ensures { λ r. ⌜
+        (let uses = usesOf (now (position .entry)) (now (kind .entry)) (now (cost .entry)) in
+        let segments = segmentsOf
+        (now (start .entry)) (now (end .entry)) (now (value .entry)) (now («first_use» .entry)) (now («end_use» .entry)) (now (flags .entry)) in
+        r ≡ firstBelow (badEndAt uses segments) (length segments)) ⌝ }
 {
     let n = rows::segment_count(start, end, value, first_use, end_use, flags);
     let mut i = 0;
@@ -247,7 +258,9 @@ fn fixed_use_is_bad(limits: Limits, last: FixedUse, f: FixedUse) -> bool
 
 // Line 11: the first bad fixed use.
 pub fn first_bad_fixed_use(unit: &[u32], point: &[u32], value: &[u32], limits: Limits) -> usize
-    ensures { λ r. ⌜ r ≡ firstBelow (badFixedUseAt limits (fixedUsesOf (now (unit .entry)) (now (point .entry)) (now (value .entry)))) (length (fixedUsesOf (now (unit .entry)) (now (point .entry)) (now (value .entry)))) ⌝ }
+    ensures { λ r. ⌜
+        (let fixedUses = fixedUsesOf (now (unit .entry)) (now (point .entry)) (now (value .entry)) in
+        r ≡ firstBelow (badFixedUseAt limits fixedUses) (length fixedUses)) ⌝ }
 {
     let n = rows::fixed_use_count(unit, point, value);
     let mut last = rows::no_fixed_use();
@@ -338,7 +351,11 @@ pub fn first_bad_reservation(
     value: &[u32],
     limits: Limits,
 ) -> usize
-    ensures { λ r. ⌜ r ≡ firstBelow (badReservation limits (fixedUsesOf (now («f_unit» .entry)) (now (point .entry)) (now (value .entry))) (reservationsOf (now (unit .entry)) (now (start .entry)) (now (end .entry)) (now (kind .entry)) (now (index .entry)) (now (fixed .entry)))) (length (reservationsOf (now (unit .entry)) (now (start .entry)) (now (end .entry)) (now (kind .entry)) (now (index .entry)) (now (fixed .entry)))) ⌝ }
+    ensures { λ r. ⌜
+        (let fixedUses = fixedUsesOf (now («f_unit» .entry)) (now (point .entry)) (now (value .entry)) in
+        let reservations = reservationsOf
+        (now (unit .entry)) (now (start .entry)) (now (end .entry)) (now (kind .entry)) (now (index .entry)) (now (fixed .entry)) in
+        r ≡ firstBelow (badReservation limits fixedUses reservations) (length reservations)) ⌝ }
 {
     let n = rows::reservation_count(unit, start, end, kind, index, fixed);
     let mut have = fixed_count(f_unit, point, value, 0);
@@ -359,149 +376,4 @@ pub fn first_bad_reservation(
         i += 1;
     }
     n
-}
-
-// The largest cost field of a kind.
-pub(crate) fn cost_most(kind: u32) -> u32
-    ensures { λ r. ⌜ r ≡ costMost kind ⌝ }
-{
-    let first = picked(kind < 2, 1, 0);
-    let last = picked(kind < 8, weights::COST_LIMIT, 0);
-    picked(kind < 4, first, last)
-}
-
-// A use lies outside a segment. The products are made in 64 bits: a position may be any 32-bit number here.
-pub(crate) fn is_outside(s: Segment, u: Use) -> bool
-    ensures { λ r. ⌜ r ≡ outside s u ⌝ }
-{
-    let p = u.position as u64;
-    if 4 * (p + 1) <= (s.start as u64) {
-        return true;
-    }
-    (s.end as u64) < 4 * p
-}
-
-// Line 7: a use of segment s, after the use `last`.
-fn use_is_bad(limits: Limits, s: Segment, is_first: bool, last: Use, u: Use) -> bool
-    ensures { λ r. ⌜ r ≡ badUse limits s «is_first» last u ⌝ }
-{
-    if u.kind > 9 {
-        return true;
-    }
-    if u.cost > cost_most(u.kind) {
-        return true;
-    }
-    if (limits.end as u64) <= 4 * (u.position as u64) {
-        return true;
-    }
-    if is_first {
-        if s.has_fixeddef() {
-            return false;
-        }
-        return is_outside(s, u);
-    }
-    if u.position < last.position {
-        return true;
-    }
-    is_outside(s, u)
-}
-
-// Line 7: the first bad use of segment s, or the end of its list.
-fn first_bad_use_of(
-    position: &[u32],
-    kind: &[u32],
-    cost: &[u32],
-    s: Segment,
-    limits: Limits,
-) -> usize
-    requires { ⌜ (s .«first_use» ≤ s .«end_use») × (s .«end_use» ≤ length (usesOf (now position) (now kind) (now cost))) ⌝ }
-    ensures { λ r. ⌜ FirstIn (badUseOf limits (usesOf (now (position .entry)) (now (kind .entry)) (now (cost .entry))) s) (s .«first_use») (s .«end_use») r ⌝ }
-{
-    let first = s.first_use as usize;
-    let end = s.end_use as usize;
-    let mut i = first;
-    while i < end {
-        let u = rows::use_at(position, kind, cost, i);
-        let last = rows::use_before(position, kind, cost, i);
-        if use_is_bad(limits, s, i == first, last, u) {
-            return i;
-        }
-        i += 1;
-    }
-    i
-}
-
-// Line 7: the first bad use, looked for list by list. The use lists are those that line 5 has passed.
-fn search_bad_use(
-    start: &[u32],
-    end: &[u32],
-    value: &[u32],
-    first_use: &[u32],
-    end_use: &[u32],
-    flags: &[u32],
-    position: &[u32],
-    kind: &[u32],
-    cost: &[u32],
-    limits: Limits,
-) -> usize
-    requires { ⌜ Lists (length (usesOf (now position) (now kind) (now cost))) (segmentsOf (now start) (now end) (now value) (now «first_use») (now «end_use») (now flags)) ⌝ }
-    ensures { λ r. ⌜ r ≡ firstBelow (badUseAt limits (usesOf (now (position .entry)) (now (kind .entry)) (now (cost .entry))) (segmentsOf (now (start .entry)) (now (end .entry)) (now (value .entry)) (now («first_use» .entry)) (now («end_use» .entry)) (now (flags .entry)))) (length (usesOf (now (position .entry)) (now (kind .entry)) (now (cost .entry)))) ⌝ }
-{
-    let n = rows::segment_count(start, end, value, first_use, end_use, flags);
-    let mut i = 0;
-    while i < n {
-        let s = rows::segment_at(start, end, value, first_use, end_use, flags, i);
-        let bad = first_bad_use_of(position, kind, cost, s, limits);
-        if bad < s.end_use as usize {
-            return bad;
-        }
-        i += 1;
-    }
-    rows::use_count(position, kind, cost)
-}
-
-// Line 7: the first bad use. All uses are asked at once; only where one is bad it is looked for. The use lists are those that line 5 has
-// passed.
-pub fn first_bad_use(
-    start: &[u32],
-    end: &[u32],
-    value: &[u32],
-    first_use: &[u32],
-    end_use: &[u32],
-    flags: &[u32],
-    position: &[u32],
-    kind: &[u32],
-    cost: &[u32],
-    limits: Limits,
-) -> usize
-    requires { ⌜ Lists (length (usesOf (now position) (now kind) (now cost))) (segmentsOf (now start) (now end) (now value) (now «first_use») (now «end_use») (now flags)) ⌝ }
-    ensures { λ r. ⌜ r ≡ firstBelow (badUseAt limits (usesOf (now (position .entry)) (now (kind .entry)) (now (cost .entry))) (segmentsOf (now (start .entry)) (now (end .entry)) (now (value .entry)) (now («first_use» .entry)) (now («end_use» .entry)) (now (flags .entry)))) (length (usesOf (now (position .entry)) (now (kind .entry)) (now (cost .entry)))) ⌝ }
-{
-    let fit = uses_fit(
-        start,
-        end,
-        value,
-        first_use,
-        end_use,
-        flags,
-        position,
-        kind,
-        cost,
-        limits,
-    );
-    if fit {
-        return rows::use_count(position, kind, cost);
-    }
-    search_bad_use(
-        start,
-        end,
-        value,
-        first_use,
-        end_use,
-        flags,
-        position,
-        kind,
-        cost,
-        limits,
-    )
 }

@@ -1,10 +1,11 @@
 // The rows of a job's tables. A table is lent as one slice a column, and has as many rows as its shortest column.
-use links::blocks::shorter;
+use columns::rows::shorter;
 ghost use mathlib.Core.Path.{_≡_};
 ghost use Prim.Native.Nat.{_<_};
 ghost use lib.ListN.{length, getD};
-ghost use Rattle.jobs.specs.Lines.{rowBefore};
-ghost use Rattle.jobs.specs.Rows.{segmentsOf, segmentRow, usesOf, useRow, noSegment, noUse, noReservation, noFixedUse, reservationsOf, reservationRow, fixedUsesOf, fixedUseRow, liveOut, fixedDef};
+ghost use Rattle.columns.specs.Table.{rowBefore};
+ghost use Rattle.jobs.specs.Rows.{segmentsOf, segmentRow, noSegment, usesOf, useRow, noUse, liveOut};
+ghost use Rattle.jobs.specs.Rows.{fixedDef, reservationsOf, reservationRow, noReservation, fixedUsesOf, fixedUseRow, noFixedUse};
 
 // A segment of the virtual register: points from start to end, its value, its uses from first to before end, and flags: 1
 // live-in, 2 live-out, 4 fixed hint, 8 fixed def.
@@ -51,7 +52,7 @@ pub struct Limits {
 }
 
 // No segment, as it stands before the first.
-pub(crate) fn no_segment() -> Segment
+pub fn no_segment() -> Segment
     ensures { λ r. ⌜ r ≡ noSegment ⌝ }
 {
     Segment {
@@ -65,7 +66,7 @@ pub(crate) fn no_segment() -> Segment
 }
 
 // No fixed use, as it stands before the first.
-pub(crate) fn no_fixed_use() -> FixedUse
+pub fn no_fixed_use() -> FixedUse
     ensures { λ r. ⌜ r ≡ noFixedUse ⌝ }
 {
     FixedUse {
@@ -92,7 +93,8 @@ pub fn segment_count(
     end_use: &[u32],
     flags: &[u32],
 ) -> usize
-    ensures { λ r. ⌜ r ≡ length (segmentsOf (now (start .entry)) (now (end .entry)) (now (value .entry)) (now («first_use» .entry)) (now («end_use» .entry)) (now (flags .entry))) ⌝ }
+    ensures { λ r. ⌜ r ≡ length (segmentsOf
+        (now (start .entry)) (now (end .entry)) (now (value .entry)) (now («first_use» .entry)) (now («end_use» .entry)) (now (flags .entry))) ⌝ }
 {
     let e = shorter(end_use.len(), flags.len());
     let d = shorter(first_use.len(), e);
@@ -112,7 +114,8 @@ pub fn segment_at(
     i: usize,
 ) -> Segment
     requires { ⌜ i < length (segmentsOf (now start) (now end) (now value) (now «first_use») (now «end_use») (now flags)) ⌝ }
-    ensures { λ r. ⌜ r ≡ segmentRow (now (start .entry)) (now (end .entry)) (now (value .entry)) (now («first_use» .entry)) (now («end_use» .entry)) (now (flags .entry)) i ⌝ }
+    ensures { λ r. ⌜ r ≡ segmentRow
+        (now (start .entry)) (now (end .entry)) (now (value .entry)) (now («first_use» .entry)) (now («end_use» .entry)) (now (flags .entry)) i ⌝ }
 {
     Segment {
         start: cell(start, i),
@@ -145,7 +148,7 @@ pub fn use_at(position: &[u32], kind: &[u32], cost: &[u32], i: usize) -> Use
 }
 
 // Use i, or no use past the last.
-pub(crate) fn use_or_none(position: &[u32], kind: &[u32], cost: &[u32], i: usize) -> Use
+pub fn use_or_none(position: &[u32], kind: &[u32], cost: &[u32], i: usize) -> Use
     ensures { λ r. ⌜ r ≡ getD (usesOf (now (position .entry)) (now (kind .entry)) (now (cost .entry))) i noUse ⌝ }
 {
     let n = use_count(position, kind, cost);
@@ -156,7 +159,7 @@ pub(crate) fn use_or_none(position: &[u32], kind: &[u32], cost: &[u32], i: usize
 }
 
 // The use before use i, or no use before the first.
-pub(crate) fn use_before(position: &[u32], kind: &[u32], cost: &[u32], i: usize) -> Use
+pub fn use_before(position: &[u32], kind: &[u32], cost: &[u32], i: usize) -> Use
     ensures { λ r. ⌜ r ≡ rowBefore (usesOf (now (position .entry)) (now (kind .entry)) (now (cost .entry))) noUse i ⌝ }
 {
     if i == 0 {
@@ -186,7 +189,7 @@ pub fn fixed_use_at(unit: &[u32], point: &[u32], value: &[u32], i: usize) -> Fix
 }
 
 // No reservation, as it stands before the first.
-pub(crate) fn no_reservation() -> Reservation
+pub fn no_reservation() -> Reservation
     ensures { λ r. ⌜ r ≡ noReservation ⌝ }
 {
     Reservation {
@@ -208,7 +211,8 @@ pub fn reservation_count(
     index: &[u32],
     fixed: &[u32],
 ) -> usize
-    ensures { λ r. ⌜ r ≡ length (reservationsOf (now (unit .entry)) (now (start .entry)) (now (end .entry)) (now (kind .entry)) (now (index .entry)) (now (fixed .entry))) ⌝ }
+    ensures { λ r. ⌜ r ≡ length (reservationsOf
+        (now (unit .entry)) (now (start .entry)) (now (end .entry)) (now (kind .entry)) (now (index .entry)) (now (fixed .entry))) ⌝ }
 {
     let e = shorter(index.len(), fixed.len());
     let d = shorter(kind.len(), e);
@@ -228,7 +232,8 @@ pub fn reservation_at(
     i: usize,
 ) -> Reservation
     requires { ⌜ i < length (reservationsOf (now unit) (now start) (now end) (now kind) (now index) (now fixed)) ⌝ }
-    ensures { λ r. ⌜ r ≡ reservationRow (now (unit .entry)) (now (start .entry)) (now (end .entry)) (now (kind .entry)) (now (index .entry)) (now (fixed .entry)) i ⌝ }
+    ensures { λ r. ⌜ r ≡ reservationRow
+        (now (unit .entry)) (now (start .entry)) (now (end .entry)) (now (kind .entry)) (now (index .entry)) (now (fixed .entry)) i ⌝ }
 {
     Reservation {
         unit: cell(unit, i),
@@ -241,7 +246,7 @@ pub fn reservation_at(
 }
 
 // No use, as it stands before the first.
-pub(crate) fn no_use() -> Use
+pub fn no_use() -> Use
     ensures { λ r. ⌜ r ≡ noUse ⌝ }
 {
     Use {

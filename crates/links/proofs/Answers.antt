@@ -10,7 +10,7 @@ use lib.ListN.{length, getD, take}
 use lib.Seq.{length-take-le}
 use borrow.Author.Tests.{le-leb, lt-leb, lt-ltb, le-ltb}
 use Rattle.links.specs.Blocks.{BlockRow, blocksOf, blockAt, startOf, checkOf, SoundBlocks}
-use Rattle.links.specs.Split.{ifSound, sideOf, splitPoint, answerOf, Between}
+use Rattle.links.specs.Split.{ifSound, sideOf, splitPoint, splitAnswer, Between}
 use Rattle.links.specs.declared.blocks.Refusal.{Refusal}
 use Rattle.links.specs.declared.blocks.Checked.{Checked}
 use Rattle.links.specs.declared.blocks.Checked.the-variants as Checked·is
@@ -27,25 +27,25 @@ module _ (blocks : List BlockRow) (after before : ℕ) (early : Bool) where
       cond (leb before after || ltb (startOf blocks (length blocks)) before) (SplitPoint·is.Refused (record { number = 13; place = 0 }))
       (SplitPoint·is.At (record { 0 = splitPoint (sideOf early) blocks after before }))
 
-  pub answer-refused : (r : Refusal) → checkOf blocks ≡ Checked·is.Refused r → SplitPoint·is.Refused r ≡ answerOf blocks after before early
-  unfolding answerOf
+  pub answer-refused : (r : Refusal) → checkOf blocks ≡ Checked·is.Refused r → SplitPoint·is.Refused r ≡ splitAnswer blocks after before early
+  unfolding splitAnswer
   answer-refused r e = sym (ap (λ (x : Checked). ifSound x checked) e)
 
   module _ (sound : checkOf blocks ≡ Checked·is.Sound) where
     accepted : (t : Bool) → (leb before after || ltb (startOf blocks (length blocks)) before) ≡ t
-        → cond t (SplitPoint·is.Refused (record { number = 13; place = 0 })) (SplitPoint·is.At (record { 0 = splitPoint (sideOf early) blocks after before })) ≡ answerOf blocks after before early
-    unfolding answerOf
+        → cond t (SplitPoint·is.Refused (record { number = 13; place = 0 })) (SplitPoint·is.At (record { 0 = splitPoint (sideOf early) blocks after before })) ≡ splitAnswer blocks after before early
+    unfolding splitAnswer
     accepted t e =
         sym (ap (λ (x : Checked). ifSound x checked) sound
         ∙ ap (λ (s : Bool). cond s (SplitPoint·is.Refused (record { number = 13; place = 0 })) (SplitPoint·is.At (record { 0 = splitPoint (sideOf early) blocks after before }))) e)
 
-    pub answer-order : before ≤ after → SplitPoint·is.Refused (record { number = 13; place = 0 }) ≡ answerOf blocks after before early
+    pub answer-order : before ≤ after → SplitPoint·is.Refused (record { number = 13; place = 0 }) ≡ splitAnswer blocks after before early
     answer-order h = accepted true (ap (λ (s : Bool). s || ltb (startOf blocks (length blocks)) before) (le-leb before after h))
 
-    pub answer-outside : after < before → startOf blocks (length blocks) < before → SplitPoint·is.Refused (record { number = 13; place = 0 }) ≡ answerOf blocks after before early
+    pub answer-outside : after < before → startOf blocks (length blocks) < before → SplitPoint·is.Refused (record { number = 13; place = 0 }) ≡ splitAnswer blocks after before early
     answer-outside h l = accepted true (ap (λ (s : Bool). s || ltb (startOf blocks (length blocks)) before) (lt-leb before after h) ∙ lt-ltb (startOf blocks (length blocks)) before l)
 
-    pub answer-split : (x : ℕ) → after < before → before ≤ startOf blocks (length blocks) → x ≡ splitPoint (sideOf early) blocks after before → SplitPoint·is.At (record { 0 = x }) ≡ answerOf blocks after before early
+    pub answer-split : (x : ℕ) → after < before → before ≤ startOf blocks (length blocks) → x ≡ splitPoint (sideOf early) blocks after before → SplitPoint·is.At (record { 0 = x }) ≡ splitAnswer blocks after before early
     answer-split x h l e =
         ap (λ (y : ℕ). SplitPoint·is.At (record { 0 = y })) e
         ∙ accepted false (ap (λ (s : Bool). s || ltb (startOf blocks (length blocks)) before) (lt-leb before after h) ∙ le-ltb (startOf blocks (length blocks)) before l)

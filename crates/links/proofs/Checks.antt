@@ -9,12 +9,12 @@ use mathlib.Core.Bool.{Bool, true, false, _||_, cond, true≢false}
 use lib.Dec.{ltb, eqb}
 use lib.ListN.{length}
 use borrow.Author.Tests.{lt-ltb, le-ltb, ltb-true, ltb-false, eqb-true, eqb-false, ne-eqb}
-use Rattle.links.specs.First.{firstBelow, FirstIn}
+use Rattle.columns.specs.First.{firstBelow, FirstIn}
 use Rattle.links.specs.Blocks.{BlockRow, badBlock, itemLimit, refusal, checkOf, SoundBlocks}
 use Rattle.links.specs.declared.blocks.Refusal.{Refusal}
 use Rattle.links.specs.declared.blocks.Checked.{Checked}
 use Rattle.links.specs.declared.blocks.Checked.the-variants.{Sound, Refused}
-use Rattle.links.proofs.Firsts.{split, first-in, first-is}
+use Rattle.columns.proofs.Firsts.{split, first-in, first-is}
 
 -- line 2: no block, or more than 4,096
 abbrev pub Broken2 : List BlockRow → Type 0

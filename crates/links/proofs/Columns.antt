@@ -11,16 +11,16 @@ use lib.ListN.{length, getD, take, List·getD-eq-default}
 use lib.Seq.{getD-take, length-take-le}
 use borrow.Author.Tests.{lt-ltb, eq-eqb, ne-eqb}
 use Rattle.numbers.specs.Weight.{frequencyLimit}
-use Rattle.numbers.proofs.Tests.{cond-true, cond-false}
-use Rattle.links.specs.First.{firstBelow, Searchable}
-use Rattle.links.specs.Table.{table}
+use Rattle.columns.proofs.Tests.{cond-true, cond-false}
+use Rattle.columns.specs.First.{firstBelow, Searchable}
+use Rattle.columns.specs.Table.{table}
 use Rattle.links.specs.Blocks.{BlockRow, noBlock, blocksOf, blockAt, startOf, itemLimit, endLimit, SoundBlocks, SoundColumns, blockOf, Ends}
 use Rattle.links.specs.Links.{Frequencies}
 use Rattle.links.specs.Split.{follow, lastOr, edge, preferred, home, farthest, reaches, splitPoint, Swept, lastReached, Between}
 use Rattle.links.specs.declared.lower.Side.{Side}
 use Rattle.links.specs.declared.lower.Side.the-variants.{Previous, Next}
-use Rattle.links.proofs.Firsts.{split, first-at-most, first-same}
-use Rattle.links.proofs.Tables.{table-past, table-same, table-map, table-of}
+use Rattle.columns.proofs.Firsts.{split, first-at-most, first-same}
+use Rattle.columns.proofs.Tables.{table-past, table-same, table-map, table-of}
 use Rattle.links.proofs.Rows.{rowOf, blocks-length, blocks-at, blocks-inside, row-good, ends-rise, firsts-rise, block-of-holds}
 
 -- ---- columns of one length
@@ -73,6 +73,14 @@ last-end blocks h = go (length blocks) h
         less : (n : ℕ) → n ≡ suc n - 1
         less n = omega arith
 
+-- the end of the last block is limited
+pub last-limited : (blocks : List BlockRow) → SoundBlocks blocks → startOf blocks (length blocks) ≤ endLimit
+last-limited blocks sound =
+    subst (λ (x : ℕ). x ≤ endLimit) (sym (last-end blocks (sound .some))) (row-good blocks sound (length blocks - 1) (less (length blocks) (sound .some)) .limited)
+  where
+    less : (n : ℕ) → 0 < n → n - 1 < n
+    less n h = omega arith
+
 -- ---- a sound list's columns
 -- the edges that a side's search takes
 abbrev pub edgesOf : Side → List ℕ → List ℕ → List ℕ
@@ -113,8 +121,8 @@ module _ (fs ss es : List ℕ) (w : SoundColumns fs ss es) where
       less : (n : ℕ) → 0 < n → n - 1 < n
       less n h = omega arith
 
-  last-limited : getD es (length fs - 1) 0 ≤ endLimit
-  last-limited = le-trans (le-of-eq (sym (end-at (length fs - 1)))) (row-good listed (w .sound) (length fs - 1) (inside-list last-inside) .limited)
+  column-limited : getD es (length fs - 1) 0 ≤ endLimit
+  column-limited = le-trans (le-of-eq (sym (end-at (length fs - 1)))) (row-good listed (w .sound) (length fs - 1) (inside-list last-inside) .limited)
 
   -- its frequencies serve the links
   pub frequencies-of-sound : (room : ℕ) → length fs ≤ room → Frequencies fs room
@@ -133,7 +141,7 @@ module _ (fs ss es : List ℕ) (w : SoundColumns fs ss es) where
         few = le-trans (le-of-eq (sym n-is)) (w .sound .few);
         searchable = record { order = zero-le; inside = le-of-eq (sym (w .ends-long)); rising = λ i k _ l m. ends-order i k l m };
         before = h;
-        limited = lt-of-lt-of-le h last-limited;
+        limited = lt-of-lt-of-le h column-limited;
       }
 
   -- so its blocks are found, and the edges of a side are its column

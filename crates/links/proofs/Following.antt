@@ -9,11 +9,11 @@ use mathlib.Core.Bool.{Bool, true, false, _&&_, cond, true≢false}
 use lib.Dec.{ltb, leb}
 use lib.ListN.{length, getD}
 use borrow.Author.Tests.{lt-ltb, ltb-true, leb-false, lt-leb}
-use Rattle.links.specs.Links.{beside, beyond, absent, isLower, lowerLink, Beyond}
+use Rattle.links.specs.Links.{beside, beyond, absent, isLower, lowerLink, LiesBeyond}
 use Rattle.links.specs.Split.{follow, lastOr, reaches, lastReached}
 use Rattle.links.specs.declared.lower.Side.{Side}
 use Rattle.links.specs.declared.lower.Side.the-variants.{Previous, Next}
-use Rattle.links.proofs.Firsts.{split}
+use Rattle.columns.proofs.Firsts.{split}
 use Rattle.links.proofs.Linking.{apart, not-itself, beyond-further, beyond-inside, beyond-beyond, Distance, distance, nearer, lower-through, lower-less, IsLink, link-nearest, link-is}
 
 -- ---- one link
@@ -40,15 +40,15 @@ follow-goes-on side f within fuel b c e l h =
     ∙ ap (λ (x : ℕ). x ∷ follow side f within fuel x) (sym e)
 
 -- steps that suffice for all blocks on a side of one suffice, but for one, on that side of a block there
-pub fuel-left : (side : Side) (n a c fuel : ℕ) → a < n → c < n → Beyond side a c → beside side n a ≤ fuel → (k : ℕ) × (fuel ≡ suc k) × (beside side n c ≤ k)
+pub fuel-left : (side : Side) (n a c fuel : ℕ) → a < n → c < n → LiesBeyond side a c → beside side n a ≤ fuel → (k : ℕ) × (fuel ≡ suc k) × (beside side n c ≤ k)
 fuel-left side n a c zero an cn p q = absurd (none side an cn p q)
   where
-    none : (side : Side) → a < n → c < n → Beyond side a c → beside side n a ≤ 0 → ⊥
+    none : (side : Side) → a < n → c < n → LiesBeyond side a c → beside side n a ≤ 0 → ⊥
     none Previous an cn p q = omega arith
     none Next an cn p q = omega arith
 fuel-left side n a c (suc k) an cn p q = (k, refl, less side an cn p q)
   where
-    less : (side : Side) → a < n → c < n → Beyond side a c → beside side n a ≤ suc k → beside side n c ≤ k
+    less : (side : Side) → a < n → c < n → LiesBeyond side a c → beside side n a ≤ suc k → beside side n c ≤ k
     less Previous an cn p q = omega arith
     less Next an cn p q = omega arith
 
@@ -66,9 +66,9 @@ module _ (side : Side) (f edges : List ℕ) (limit start b : ℕ) where
     pub inside : last < length f
     pub lowest : least ≡ getD f last 0
     pub enough : beside side (length f) last ≤ fuel
-    pub behind : (last ≡ b) ⊎ Beyond side b last
-    pub ahead : (s : ℕ) → t ≤ s → s < beside side (length f) b → Beyond side last (beyond side b s)
-    pub passed : (s : ℕ) → s < t → s < beside side (length f) b → Beyond side last (beyond side b s) → isLower f last (beyond side b s) ≡ false
+    pub behind : (last ≡ b) ⊎ LiesBeyond side b last
+    pub ahead : (s : ℕ) → t ≤ s → s < beside side (length f) b → LiesBeyond side last (beyond side b s)
+    pub passed : (s : ℕ) → s < t → s < beside side (length f) b → LiesBeyond side last (beyond side b s) → isLower f last (beyond side b s) ≡ false
     pub result : lastOr place-now (map place (follow side f within fuel last)) ≡ lastReached side f edges limit start b
 
   pub sweep-starts : b < length f → Sweep 0 start (getD f b 0)
@@ -91,10 +91,10 @@ module _ (side : Side) (f edges : List ℕ) (limit start b : ℕ) where
 
   module _ (few : length f ≤ absent) (h : b < length f) (t p l : ℕ) (s : Sweep t p l) where
     -- a block beyond the last one reached is at some distance from b
-    at-distance : (k : ℕ) → k < length f → Beyond side (s .last) k → Distance side (length f) b k
+    at-distance : (k : ℕ) → k < length f → LiesBeyond side (s .last) k → Distance side (length f) b k
     at-distance k kn ck =
         distance side (length f) b k h kn
-        (⊎-elim (λ e. subst (λ (x : ℕ). Beyond side x k) e ck) (λ m. beyond-further side b (s .last) k m ck) (s .behind))
+        (⊎-elim (λ e. subst (λ (x : ℕ). LiesBeyond side x k) e ck) (λ m. beyond-further side b (s .last) k m ck) (s .behind))
 
     -- the next block is lower: it is the link of the last one reached
     module _ (inside : t < beside side (length f) b) where
@@ -110,8 +110,8 @@ module _ (side : Side) (f edges : List ℕ) (limit start b : ℕ) where
             passed = λ k kn ck ki.
                 let d = at-distance k kn ck in
                 let v = ki (beyond-inside side (length f) b t h inside) in
-                let m = nearer side (length f) b (d .between) t (d .inside) inside (subst (λ (x : ℕ). Beyond side x (beyond side b t)) (sym (d .is)) v) in
-                subst (λ (x : ℕ). isLower f (s .last) x ≡ false) (d .is) (s .passed (d .between) m (d .inside) (subst (λ (x : ℕ). Beyond side (s .last) x) (sym (d .is)) ck));
+                let m = nearer side (length f) b (d .between) t (d .inside) inside (subst (λ (x : ℕ). LiesBeyond side x (beyond side b t)) (sym (d .is)) v) in
+                subst (λ (x : ℕ). isLower f (s .last) x ≡ false) (d .is) (s .passed (d .between) m (d .inside) (subst (λ (x : ℕ). LiesBeyond side (s .last) x) (sym (d .is)) ck));
             found = λ _. (s .ahead t (le-refl t) inside, e);
             gone = λ g. absurd (not-le-of-lt (beyond-inside side (length f) b t h inside) g);
           }
@@ -134,11 +134,11 @@ module _ (side : Side) (f edges : List ℕ) (limit start b : ℕ) where
             result = sym (ap (λ (xs : List ℕ). lastOr p (map place xs)) g) ∙ s .result;
           }
         where
-          further : (side : Side) (n b t r : ℕ) → t + 1 ≤ r → t < beside side n b → r < beside side n b → Beyond side (beyond side b t) (beyond side b r)
+          further : (side : Side) (n b t r : ℕ) → t + 1 ≤ r → t < beside side n b → r < beside side n b → LiesBeyond side (beyond side b t) (beyond side b r)
           further Previous n b t r m l q = omega arith
           further Next n b t r m l q = omega arith
 
-          back : (side : Side) (n b t r : ℕ) → r < t + 1 → t < beside side n b → r < beside side n b → Beyond side (beyond side b t) (beyond side b r) → ⊥
+          back : (side : Side) (n b t r : ℕ) → r < t + 1 → t < beside side n b → r < beside side n b → LiesBeyond side (beyond side b t) (beyond side b r) → ⊥
           back Previous n b t r m l q w = omega arith
           back Next n b t r m l q w = omega arith
 
@@ -170,7 +170,7 @@ module _ (side : Side) (f edges : List ℕ) (limit start b : ℕ) where
         let d = at-distance v vn (w .0) in (
           d,
           ⊎-elim
-              (λ m. absurd (true≢false (sym (w .1) ∙ subst (λ (x : ℕ). isLower f (s .last) x ≡ false) (d .is) (s .passed (d .between) m (d .inside) (subst (λ (x : ℕ). Beyond side (s .last) x) (sym (d .is)) (w .0))))))
+              (λ m. absurd (true≢false (sym (w .1) ∙ subst (λ (x : ℕ). isLower f (s .last) x ≡ false) (d .is) (s .passed (d .between) m (d .inside) (subst (λ (x : ℕ). LiesBeyond side (s .last) x) (sym (d .is)) (w .0))))))
               (λ m. m)
               (split (d .between) t),
         )

@@ -1,6 +1,4 @@
 -- The laws of the links layer, lowest first
-pub mod Firsts
-pub mod Tables
 pub mod Rows
 pub mod Checks
 pub mod Linking

@@ -11,25 +11,25 @@ use lib.ListN.{length, getD}
 use lib.Ieee.{lt}
 use borrow.Author.Tests.{ltb-true, ltb-false, lt-ltb, le-ltb}
 use Rattle.numbers.specs.Weight.{finite, unitsOf, frequencyLimit, weightLimit, valueOf}
-use Rattle.numbers.proofs.Tests.{cond-both}
+use Rattle.columns.proofs.Tests.{cond-both}
 use Rattle.numbers.proofs.Units.{units-order}
 use Rattle.numbers.proofs.Bits.{value-finite, value-order}
-use Rattle.links.specs.First.{firstBelow, FirstIn}
-use Rattle.links.specs.Links.{beside, beyond, absent, isLower, lowerLink, Beyond, nth}
+use Rattle.columns.specs.First.{firstBelow, FirstIn}
+use Rattle.links.specs.Links.{beside, beyond, absent, isLower, lowerLink, LiesBeyond, nth}
 use Rattle.links.specs.declared.lower.Side.{Side}
 use Rattle.links.specs.declared.lower.Side.the-variants.{Previous, Next}
-use Rattle.links.proofs.Firsts.{split, first-in}
+use Rattle.columns.proofs.Firsts.{split, first-in}
 
 -- ---- sides
-pub apart : (side : Side) (a b : ℕ) → Beyond side a b ⊎ ((a ≡ b) ⊎ Beyond side b a)
+pub apart : (side : Side) (a b : ℕ) → LiesBeyond side a b ⊎ ((a ≡ b) ⊎ LiesBeyond side b a)
 apart Previous a b = ⊎-elim (λ p. inl p) (λ q. inr (⊎-elim (λ r. inr r) (λ s. inl (omega arith)) (split a b))) (split b a)
 apart Next a b = ⊎-elim (λ p. inl p) (λ q. inr (⊎-elim (λ r. inr r) (λ s. inl (omega arith)) (split b a))) (split a b)
 
-pub not-itself : (side : Side) (a : ℕ) → Beyond side a a → ⊥
+pub not-itself : (side : Side) (a : ℕ) → LiesBeyond side a a → ⊥
 not-itself Previous a h = lt-irrefl a h
 not-itself Next a h = lt-irrefl a h
 
-pub beyond-further : (side : Side) (a b c : ℕ) → Beyond side a b → Beyond side b c → Beyond side a c
+pub beyond-further : (side : Side) (a b c : ℕ) → LiesBeyond side a b → LiesBeyond side b c → LiesBeyond side a c
 beyond-further Previous a b c p q = omega arith
 beyond-further Next a b c p q = omega arith
 
@@ -37,7 +37,7 @@ pub beyond-inside : (side : Side) (n b t : ℕ) → b < n → t < beside side n 
 beyond-inside Previous n b t h l = omega arith
 beyond-inside Next n b t h l = omega arith
 
-pub beyond-beyond : (side : Side) (n b t : ℕ) → t < beside side n b → Beyond side b (beyond side b t)
+pub beyond-beyond : (side : Side) (n b t : ℕ) → t < beside side n b → LiesBeyond side b (beyond side b t)
 beyond-beyond Previous n b t l = omega arith
 beyond-beyond Next n b t l = omega arith
 
@@ -47,11 +47,11 @@ pub record Distance (side : Side) (n b k : ℕ) : Type 0 where
   pub inside : between < beside side n b
   pub is : beyond side b between ≡ k
 
-pub distance : (side : Side) (n b k : ℕ) → b < n → k < n → Beyond side b k → Distance side n b k
+pub distance : (side : Side) (n b k : ℕ) → b < n → k < n → LiesBeyond side b k → Distance side n b k
 distance Previous n b k h l p = record { between = b - (k + 1); inside = omega arith; is = omega arith }
 distance Next n b k h l p = record { between = k - (b + 1); inside = omega arith; is = omega arith }
 
-pub nearer : (side : Side) (n b t s : ℕ) → t < beside side n b → s < beside side n b → Beyond side (beyond side b t) (beyond side b s) → t < s
+pub nearer : (side : Side) (n b t s : ℕ) → t < beside side n b → s < beside side n b → LiesBeyond side (beyond side b t) (beyond side b s) → t < s
 nearer Previous n b t s h l p = omega arith
 nearer Next n b t s h l p = omega arith
 
@@ -87,8 +87,8 @@ lower-bits f b k p q = value-order frequencyLimit (getD f k 0) (getD f b 0) (lit
 
 -- ---- what a link is
 pub record IsLink (side : Side) (f : List ℕ) (b v : ℕ) : Type 0 where
-  pub passed : (k : ℕ) → k < length f → Beyond side b k → (v < length f → Beyond side k v) → isLower f b k ≡ false
-  pub found : v < length f → (Beyond side b v) × (isLower f b v ≡ true)
+  pub passed : (k : ℕ) → k < length f → LiesBeyond side b k → (v < length f → LiesBeyond side k v) → isLower f b k ≡ false
+  pub found : v < length f → (LiesBeyond side b v) × (isLower f b v ≡ true)
   pub gone : length f ≤ v → v ≡ absent
 
 -- the definition's link is one
@@ -107,7 +107,7 @@ link-nearest side f b few h =
           passed = λ k kn bk kv.
               let d = distance side (length f) b k h kn bk in
               let v = kv (beyond-inside side (length f) b t h l) in
-              let m = nearer side (length f) b (d .between) t (d .inside) l (subst (λ (x : ℕ). Beyond side x (beyond side b t)) (sym (d .is)) v) in
+              let m = nearer side (length f) b (d .between) t (d .inside) l (subst (λ (x : ℕ). LiesBeyond side x (beyond side b t)) (sym (d .is)) v) in
               subst (λ (x : ℕ). isLower f b x ≡ false) (d .is) (i .passed (d .between) zero-le m);
           found = λ _. (beyond-beyond side (length f) b t l, i .found l);
           gone = λ g. absurd (not-le-of-lt (beyond-inside side (length f) b t h l) g);
@@ -124,7 +124,7 @@ link-nearest side f b few h =
         }
 
 -- and there is only one
-no-other : (side : Side) (f : List ℕ) (b v w : ℕ) → IsLink side f b v → IsLink side f b w → v < length f → (w < length f → Beyond side v w) → ⊥
+no-other : (side : Side) (f : List ℕ) (b v w : ℕ) → IsLink side f b v → IsLink side f b w → v < length f → (w < length f → LiesBeyond side v w) → ⊥
 no-other side f b v w p q vn vw = true≢false (sym (p .found vn .1) ∙ q .passed v vn (p .found vn .0) vw)
 
 pub link-only : (side : Side) (f : List ℕ) (b v w : ℕ) → IsLink side f b v → IsLink side f b w → v ≡ w
@@ -145,8 +145,8 @@ link-is side f b v few h p = link-only side f b v (lowerLink side f b) p (link-n
 
 -- ---- following: where everything up to block j is passed, and block j is not lower, everything up to j's own link is
 pub link-jump : (side : Side) (f : List ℕ) (b j v : ℕ) → isLower f b j ≡ false
-    → ((k : ℕ) → k < length f → Beyond side b k → Beyond side k j → isLower f b k ≡ false) → IsLink side f j v
-    → (k : ℕ) → k < length f → Beyond side b k → (v < length f → Beyond side k v) → isLower f b k ≡ false
+    → ((k : ℕ) → k < length f → LiesBeyond side b k → LiesBeyond side k j → isLower f b k ≡ false) → IsLink side f j v
+    → (k : ℕ) → k < length f → LiesBeyond side b k → (v < length f → LiesBeyond side k v) → isLower f b k ≡ false
 link-jump side f b j v h p q k kn bk kv =
     ⊎-elim
     (λ kj. p k kn bk kj)
@@ -157,13 +157,13 @@ link-jump side f b j v h p q k kn bk kv =
 unfoldable pub remaining : Side → ℕ → ℕ → ℕ
 remaining side n j = cond (ltb j n) (suc (beside side n j)) 0
 
-pub fewer : (side : Side) (n j v : ℕ) → j < n → (v < n → Beyond side j v) → remaining side n v < remaining side n j
+pub fewer : (side : Side) (n j v : ℕ) → j < n → (v < n → LiesBeyond side j v) → remaining side n v < remaining side n j
 unfolding remaining
 fewer side n j v h p =
     subst (λ (x : Bool). cond (ltb v n) (suc (beside side n v)) 0 < cond x (suc (beside side n j)) 0) (sym (lt-ltb j n h))
     (cond-both (λ (x : ℕ). x < suc (beside side n j)) (ltb v n) (suc (beside side n v)) 0 (λ t. step side (ltb→lt v n t) (p (ltb→lt v n t))) (λ _. omega arith))
   where
-    step : (side : Side) → v < n → Beyond side j v → suc (beside side n v) < suc (beside side n j)
+    step : (side : Side) → v < n → LiesBeyond side j v → suc (beside side n v) < suc (beside side n j)
     step Previous l q = omega arith
     step Next l q = omega arith
 
@@ -176,12 +176,12 @@ pub nth-inside : (side : Side) (n t : ℕ) → t < n → nth side n t < n
 nth-inside Previous n t h = h
 nth-inside Next n t h = omega arith
 
-pub done-beyond : (side : Side) (n t k : ℕ) → t < n → Beyond side (nth side n t) k → Done side n t k
+pub done-beyond : (side : Side) (n t k : ℕ) → t < n → LiesBeyond side (nth side n t) k → Done side n t k
 unfolding Done
 done-beyond Previous n t k h p = p
 done-beyond Next n t k h p = omega arith
 
-pub beyond-done : (side : Side) (n t k : ℕ) → t < n → Done side n t k → Beyond side (nth side n t) k
+pub beyond-done : (side : Side) (n t k : ℕ) → t < n → Done side n t k → LiesBeyond side (nth side n t) k
 unfolding Done
 beyond-done Previous n t k h p = p
 beyond-done Next n t k h p = omega arith

@@ -11,10 +11,10 @@ use lib.Dec.{T, leb, ltb, eqb}
 use lib.ListN.{length, getD, take}
 use borrow.Author.Tests.{ltb-false, leb-false, eqb-true, not-false, lt-ltb, le-ltb, le-leb, lt-leb}
 use Rattle.numbers.specs.Weight.{frequencyLimit}
-use Rattle.links.specs.First.{firstBelow, FirstIn, Searchable}
+use Rattle.columns.specs.First.{firstBelow, FirstIn, Searchable}
 use Rattle.links.specs.Blocks.{BlockRow, noBlock, blocksOf, blockAt, startOf, endLimit, isBad, badBlock, SoundBlocks, holds, blockOf}
-use Rattle.links.proofs.Firsts.{split, first-in, first-is}
-use Rattle.links.proofs.Tables.{table-length, table-at}
+use Rattle.columns.proofs.Firsts.{split, first-in, first-is}
+use Rattle.columns.proofs.Tables.{table-length, table-at}
 
 -- ---- rows from columns
 -- a row of the columns

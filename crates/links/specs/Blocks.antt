@@ -6,8 +6,8 @@ use mathlib.Core.List.{List, [], _∷_}
 use lib.Dec.{T, leb, ltb, eqb}
 use lib.ListN.{length, getD}
 use Rattle.numbers.specs.Weight.{frequencyLimit}
-use Rattle.links.specs.First.{firstBelow, Searchable}
-use Rattle.links.specs.Table.{table, shortest}
+use Rattle.columns.specs.First.{firstBelow, Searchable}
+use Rattle.columns.specs.Table.{table, shortest}
 use Rattle.links.specs.declared.blocks.Refusal.{Refusal}
 use Rattle.links.specs.declared.blocks.Checked.{Checked}
 use Rattle.links.specs.declared.blocks.Checked.the-variants.{Sound, Refused}

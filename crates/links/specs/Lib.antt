@@ -1,6 +1,4 @@
 -- What the links layer computes: the block list and its checks, the block of an instruction, lower links, the lower-cost split point.
-pub mod First
-pub mod Table
 pub mod Blocks
 pub mod Links
 pub mod Split

@@ -10,8 +10,8 @@ use Rattle.numbers.specs.Weight.{frequencyLimit, valueOf}
 use Rattle.numbers.specs.declared.MaybeBlock.{MaybeBlock}
 use Rattle.numbers.specs.declared.MaybeBlock.the-variants.{At, Absent}
 use Rattle.links.specs.Blocks.{itemLimit}
-use Rattle.links.specs.First.{firstBelow}
-use Rattle.links.specs.Table.{table}
+use Rattle.columns.specs.First.{firstBelow}
+use Rattle.columns.specs.Table.{table}
 use Rattle.links.specs.declared.lower.Side.{Side}
 use Rattle.links.specs.declared.lower.Side.the-variants.{Previous, Next}
 
@@ -61,9 +61,9 @@ onSide Next left right = right
 
 -- ---- for contracts of private functions
 -- block k lies on a side of block b
-abbrev pub Beyond : Side → ℕ → ℕ → Type 0
-Beyond Previous b k = k < b
-Beyond Next b k = b < k
+abbrev pub LiesBeyond : Side → ℕ → ℕ → Type 0
+LiesBeyond Previous b k = k < b
+LiesBeyond Next b k = b < k
 
 -- the block that is linked after t others: those farthest on the side come first
 abbrev pub nth : Side → ℕ → ℕ → ℕ
@@ -74,4 +74,4 @@ nth Next n t = n - (t + 1)
 pub record LinkedBeyond (side : Side) (freqs links : List ℕ) (b : ℕ) : Type 0 where
   pub inside : b < length freqs
   pub given : Frequencies freqs (length links)
-  pub done : (k : ℕ) → k < length freqs → Beyond side b k → getD links k 0 ≡ lowerLink side freqs k
+  pub done : (k : ℕ) → k < length freqs → LiesBeyond side b k → getD links k 0 ≡ lowerLink side freqs k

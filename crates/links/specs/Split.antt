@@ -77,8 +77,8 @@ sideOf true = Next
 sideOf false = Previous
 
 -- the answer to the call: refusals 2 and 3, then 13, then the split point
-unfoldable pub answerOf : List BlockRow → ℕ → ℕ → Bool → SplitPoint
-answerOf blocks after before early =
+unfoldable pub splitAnswer : List BlockRow → ℕ → ℕ → Bool → SplitPoint
+splitAnswer blocks after before early =
     ifSound (checkOf blocks)
     (cond (leb before after || ltb (startOf blocks (length blocks)) before) (SplitPoint·is.Refused (record { number = 13; place = 0 }))
     (SplitPoint·is.At (record { 0 = splitPoint (sideOf early) blocks after before })))

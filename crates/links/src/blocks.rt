@@ -1,12 +1,13 @@
 // The block list: its part of refusal 2, refusal 3, and the block of an instruction.
 ghost use mathlib.Core.Path.{_≡_};
 ghost use mathlib.Core.Bool.{false, cond};
-ghost use Prim.Native.Nat.{ℕ, _-_, min, _≤_, _<_};
+ghost use Prim.Native.Nat.{ℕ, _-_, _≤_, _<_};
 ghost use lib.Dec.{eqb, ltb};
 ghost use lib.ListN.{length, getD};
-ghost use Rattle.links.specs.First.{firstBelow};
+ghost use Rattle.columns.specs.First.{firstBelow};
 ghost use Rattle.links.specs.Blocks.{blocksOf, isBad, badBlock, checkOf, Ends};
-use crate::search;
+use columns::rows::shorter;
+use columns::search;
 use numbers::Block;
 use numbers::Inst;
 use numbers::weights;
@@ -15,7 +16,7 @@ use numbers::weights;
 pub const ITEM_LIMIT: usize = 4096;
 
 // No block ends later.
-pub const END_LIMIT: u32 = 262144;
+const END_LIMIT: u32 = 262144;
 
 // A line of document 01's table, and its first offending place.
 pub struct Refusal {
@@ -27,13 +28,6 @@ pub struct Refusal {
 pub enum Checked {
     Sound,
     Refused(Refusal),
-}
-
-// The shorter of two lengths.
-pub fn shorter(a: usize, b: usize) -> usize
-    ensures { λ r. ⌜ r ≡ min a b ⌝ }
-{
-    if a < b { a } else { b }
 }
 
 // How many blocks the columns hold: as many as the shortest.

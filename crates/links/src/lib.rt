@@ -8,5 +8,4 @@
 // the layers above and rely on a block list that `check_blocks` has passed, or on a column that does not fall.
 pub mod blocks;
 pub mod lower;
-pub mod search;
 pub mod split;

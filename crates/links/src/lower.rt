@@ -2,7 +2,7 @@
 ghost use mathlib.Core.Path.{_≡_};
 ghost use Prim.Native.Nat.{_<_};
 ghost use lib.ListN.{length, getD};
-ghost use Rattle.links.specs.Table.{filled};
+ghost use Rattle.columns.specs.Table.{filled};
 ghost use Rattle.links.specs.Links.{beside, beyond, nth, lowerLink, linkColumn, linkAnswer, Frequencies, LinkedBeyond};
 use numbers::Block;
 use numbers::MaybeBlock;
@@ -14,7 +14,7 @@ pub enum Side {
 }
 
 // The link of a block that has none.
-pub const ABSENT: u32 = 4294967295;
+const ABSENT: u32 = 4294967295;
 
 // How many of n blocks lie on a side of block b.
 pub(crate) fn beside(side: Side, n: usize, b: usize) -> usize

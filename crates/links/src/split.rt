@@ -1,7 +1,7 @@
 // The lower-cost split point.
 ghost use mathlib.Core.Path.{_≡_};
 ghost use Rattle.links.specs.Blocks.{blocksOf};
-ghost use Rattle.links.specs.Split.{reaches, Swept, lastReached, Between, sideOf, splitPoint, answerOf};
+ghost use Rattle.links.specs.Split.{reaches, Swept, lastReached, Between, sideOf, splitPoint, splitAnswer};
 use crate::blocks;
 use crate::blocks::Checked;
 use crate::blocks::Refusal;
@@ -88,7 +88,7 @@ pub fn find_optimal_split_point(
     before: Inst,
     prefer_early: bool,
 ) -> SplitPoint
-    ensures { λ r. ⌜ r ≡ answerOf (blocksOf (now (freq .entry)) (now (first .entry)) (now (end .entry))) (after .0) (before .0) «prefer_early» ⌝ }
+    ensures { λ r. ⌜ r ≡ splitAnswer (blocksOf (now (freq .entry)) (now (first .entry)) (now (end .entry))) (after .0) (before .0) «prefer_early» ⌝ }
 {
     let checked = blocks::check_blocks(freq, first, end);
     if let Checked::Refused(r) = checked {

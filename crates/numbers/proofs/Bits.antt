@@ -14,10 +14,10 @@ use lib.Ieee.Exact.{odd-sign}
 use lib.Ieee.Fits.{kept-lt}
 use lib.Ieee.Bits.{is-true, is-false, ofBits-fits, ofBits-toBits, toBits-ofBits, nanBits-is}
 use borrow.Author.Tests.{lt-leb, le-leb, eq-eqb}
-use Rattle.numbers.specs.Weight.{Finite, number, Weight, infinite, finite, infiniteUnits, unitsOf, zeroWeight, weightLimit, frequencyLimit, valueFrom, valueOf, bitsFrom}
+use Rattle.numbers.specs.Weight.{Finite, number, Weight, infinite, finite, infiniteUnits, unitsOf, zeroWeight, weightLimit, frequencyLimit, valueFrom, valueOf, bitsFrom, bitsShown}
 use Rattle.numbers.specs.declared.weights.MaybeBits.the-variants.{At, Absent}
 use Rattle.numbers.specs.declared.weights.MaybeWeight.the-variants as MaybeWeight·is
-use Rattle.numbers.proofs.Tests.{cond-both, cond-true, cond-false, ltb-same}
+use Rattle.columns.proofs.Tests.{cond-both, cond-true, cond-false, ltb-same}
 use Rattle.numbers.proofs.Units.{bitsOfUnits, bits-from-units, weight-fits, units-order, units-infinite, units-below, finite-of-units, zero-finite}
 use Rattle.numbers.proofs.Rounding.{plain, weight-of, odd-plain, value-units}
 
@@ -246,3 +246,14 @@ value-absent limit bits e = go (leb bits limit) e
     go : (t : Bool) → cond t (MaybeWeight·is.At (ofBits binary32 bits)) MaybeWeight·is.Absent ≡ MaybeWeight·is.Absent → zeroWeight ≡ cond t (ofBits binary32 bits) zeroWeight
     go true e = cc
     go false e = refl
+
+-- ---- a weight as bits, as an answer shows it
+-- a weight's bits
+pub bits-shown : {w : Float} → Weight w → bitsShown w ≡ toBits binary32 w
+unfolding bitsFrom
+bits-shown infinite = refl
+bits-shown (finite (number f)) = refl
+
+-- their value is the weight again
+pub shown-back : {w : Float} → Weight w → valueOf weightLimit (bitsShown w) ≡ w
+shown-back {w} p = ap (valueOf weightLimit) (bits-shown p) ∙ value-is weightLimit (toBits binary32 w) (weight-bits p) ∙ weight-back p

@@ -9,7 +9,7 @@ use mathlib.Core.Bool.{Bool, true, false, not, cond}
 use lib.Dec.{T, ltb, ltb→lt, nltb→le}
 use lib.Ieee.{Float, lt}
 use Rattle.numbers.specs.Weight.{Weight, finite, unitsOf, zeroWeight, heavier, heaviest, Weights, Among}
-use Rattle.numbers.proofs.Tests.{cond-both}
+use Rattle.columns.proofs.Tests.{cond-both}
 use Rattle.numbers.proofs.Units.{units-order, units-inj, zero-finite, zero-units}
 
 -- ---- two weights

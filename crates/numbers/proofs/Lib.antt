@@ -1,5 +1,4 @@
 -- The laws of weights, lowest first
-pub mod Tests
 pub mod Units
 pub mod Rounding
 pub mod Operations

@@ -12,7 +12,7 @@ use lib.Ieee.Exact.{round-exact}
 use lib.Ieee.Scale.{round-same}
 use Rattle.numbers.specs.Weight.{Finite, number, Weight, finite, infiniteUnits, unitsOf}
 use Rattle.numbers.specs.Normal.{largest, normalised, fraction, exceeds}
-use Rattle.numbers.proofs.Tests.{cond-both}
+use Rattle.columns.proofs.Tests.{cond-both}
 use Rattle.numbers.proofs.Units.{units-below, units-order, units-lt, finite-of-units}
 use Rattle.numbers.proofs.Rounding.{rounded, round-weight, below-round, value-units}
 use Rattle.numbers.proofs.Operations.{product-round, product-weight, quotient-weight, whole-number, whole-finite}

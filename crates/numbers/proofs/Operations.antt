@@ -16,7 +16,7 @@ use lib.Ieee.Exact.{HasValue, round-exact}
 use lib.Ieee.Positive.{first-pos}
 use lib.Ieee.Scale.{round-same}
 use Rattle.numbers.specs.Weight.{Finite, number, Weight, infinite, finite, infiniteUnits, unitsOf}
-use Rattle.numbers.proofs.Tests.{cond-false}
+use Rattle.columns.proofs.Tests.{cond-false}
 use Rattle.numbers.proofs.Units.{units-exact, units-below, units-most, units-infinite, units-inj, finite-of-units}
 use Rattle.numbers.proofs.Rounding.{rounded, round-weight, round-at-most, round-at-least, value-units}
 

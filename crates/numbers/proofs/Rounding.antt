@@ -12,7 +12,7 @@ use lib.Ieee.Fits.{and-l, down-pos, round-fits, round-is}
 use lib.Ieee.Exact.{HasValue, round-exact}
 use lib.Ieee.Order.{round-mono}
 use Rattle.numbers.specs.Weight.{Finite, number, Weight, infinite, finite, infiniteUnits, unitsOf}
-use Rattle.numbers.proofs.Tests.{cond-both}
+use Rattle.columns.proofs.Tests.{cond-both}
 use Rattle.numbers.proofs.Units.{fits-holds, units-whole, units-below, units-order, units-lt}
 
 -- ---- a rounded fraction is a weight

@@ -13,7 +13,7 @@ use lib.Ieee.{Float, nan, inf, fin, binary32, up, down, size, fits, lt, toBits, 
 use lib.Ieee.Fits.{up-pos, down-pos}
 use lib.Ieee.Bits.{is-true, is-false, ofBits-toBits}
 use Rattle.numbers.specs.Weight.{Finite, number, Weight, infinite, finite, infiniteUnits, unitsOf, zeroWeight}
-use Rattle.numbers.proofs.Tests.{ltb-same, and-four}
+use Rattle.columns.proofs.Tests.{ltb-same, and-four}
 
 -- ---- what binary32 asks of m * 2 ^ e
 pub record Holds (m : ℕ) (e : ℤ) : Type 0 where

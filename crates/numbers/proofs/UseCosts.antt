@@ -9,7 +9,7 @@ use lib.Ieee.{Float, fin, binary32, fits, sub, mul, ofBits}
 use Rattle.numbers.specs.declared.costs.RematScales.{RematScales}
 use Rattle.numbers.specs.Weight.{Finite, number, Weight, finite, infiniteUnits, unitsOf, zeroWeight, costLimit, valueOf}
 use Rattle.numbers.specs.Cost.{reloadCost, moveCost, spillCost, scaled, costBits}
-use Rattle.numbers.proofs.Tests.{cond-both, halved, two-four}
+use Rattle.columns.proofs.Tests.{cond-both, halved, two-four}
 use Rattle.numbers.proofs.Units.{units-below, finite-of-units, zero-finite, zero-units}
 use Rattle.numbers.proofs.Rounding.{rounded, round-at-most}
 use Rattle.numbers.proofs.Operations.{product-round, product-weight, difference-finite}

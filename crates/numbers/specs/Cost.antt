@@ -30,6 +30,10 @@ scaled code scales cost =
     (cond (eqb code 2) (mul binary32 cost (scales .«cheaper_than_load»))
     (cond (eqb code 3) (mul binary32 cost (scales .indirect)) cost))
 
+-- the scales that three bits give
+abbrev pub scalesOf : ℕ → ℕ → ℕ → RematScales
+scalesOf move load indirect = record { «cheaper_than_move» = valueOf costLimit move; «cheaper_than_load» = valueOf costLimit load; indirect = valueOf costLimit indirect }
+
 -- ---- for contracts of private functions
 -- the bits of a use's cost, at the costs 1.0 and 0.5
 unfoldable pub costBits : ℕ → ℕ → ℕ

@@ -77,3 +77,12 @@ Weights (w ∷ ws) = Weight w × Weights ws
 abbrev pub Among : Float → List Float → Type 0
 Among w [] = ⊥
 Among w (v ∷ vs) = (w ≡ v) ⊎ Among w vs
+
+-- bits that are there; 0 where they are absent, which those of a weight are not
+abbrev pub bitsOr0 : MaybeBits → ℕ
+bitsOr0 (MaybeBits·is.At bits) = bits
+bitsOr0 MaybeBits·is.Absent = 0
+
+-- the bits of a weight
+abbrev pub bitsShown : Float → ℕ
+bitsShown w = bitsOr0 (bitsFrom w)

@@ -1,6 +1,6 @@
 // Weights, from their bits and back.
 ghost use mathlib.Core.Path.{_≡_};
-ghost use Rattle.numbers.specs.Weight.{weightLimit, frequencyLimit, costLimit, valueFrom, valueOf, bitsFrom, heavier};
+ghost use Rattle.numbers.specs.Weight.{weightLimit, frequencyLimit, costLimit, valueFrom, valueOf, bitsFrom, bitsShown, heavier};
 ghost use Prim.Native.Nat.{_≤_};
 
 // The bits of infinity: no weight has higher ones.
@@ -105,4 +105,15 @@ pub fn heavier(a: f32, b: f32) -> f32
     ensures { λ r. ⌜ r ≡ heavier a b ⌝ }
 {
     if a < b { b } else { a }
+}
+
+// The bits of a weight, 0 for what is none.
+pub fn bits_shown(w: f32) -> u32
+    ensures { λ r. ⌜ r ≡ bitsShown w ⌝ }
+{
+    let b = weight_to_bits(w);
+    let MaybeBits::At(bits) = b else {
+        return 0;
+    };
+    bits
 }

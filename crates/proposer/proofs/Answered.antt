@@ -13,11 +13,11 @@ use Rattle.links.specs.declared.lower.Side.{Side}
 use Rattle.links.specs.declared.blocks.Checked.{Checked}
 use Rattle.links.specs.declared.blocks.Checked.the-variants as Checked·is
 use Rattle.links.specs.declared.blocks.Refusal.{Refusal}
-use Rattle.walks.specs.declared.uses.BestUse.{BestUse}
-use Rattle.walks.specs.declared.uses.BestUse.the-variants as BestUse·is
-use Rattle.walkers.specs.Meeting.{weightOf}
+use Rattle.use_rows.specs.declared.row.BestUse.{BestUse}
+use Rattle.use_rows.specs.declared.row.BestUse.the-variants as BestUse·is
+use Rattle.walks.specs.Meeting.{spillWeight}
 use Rattle.gaps.specs.Gaps.{initialGap}
-use Rattle.tables.specs.UseTables.{bestOf}
+use Rattle.filling.specs.UseTables.{bestOf}
 use Rattle.region.specs.Growth.{ownSpan, usedUp, weightTest, growth}
 use Rattle.region.specs.Proposal.{regionOf}
 use Rattle.region.specs.Demand.{Around, Ended, FailedBefore, Demand3, sumOver, addedTo, gapsBeside, gapsGrown}
@@ -25,14 +25,16 @@ use Rattle.region.specs.Evictions.{Each}
 use Rattle.region.specs.declared.proposal.SplitProposal.{SplitProposal}
 use Rattle.region.specs.declared.proposal.Region.{Region}
 use Rattle.region.specs.declared.proposal.Region.the-variants as Region·is
-use Rattle.verdict.specs.declared.job.Rooms.{Rooms}
-use Rattle.verdict.specs.Job.{Job, sourceOfJob}
-use Rattle.verdict.specs.Refusals.{refusalOf}
-use Rattle.verdict.proofs.Accepted.{job-accepted}
-use Rattle.proposer.specs.View.{usesOfJob, seenOfJob}
+use Rattle.filling.specs.declared.lent.Rooms.{Rooms}
+use Rattle.refusals.specs.Job.{Job, sourceOfJob}
+use Rattle.rooms.specs.Rooms.{refusalOf}
+use Rattle.rooms.proofs.Refused.{job-accepted}
+use Rattle.tables.specs.JobTables.{usesOfJob}
+use Rattle.views.specs.View.{seenOfJob}
 use Rattle.proposer.specs.Answer.{ofRegion, ofBest, ofChecked, answerOf}
-use Rattle.proposer.specs.Demand.{mainsOf, numberOf, bestNumber, FixedMet, AnswerDemand3}
-use Rattle.proposer.specs.Evictions.{Entry, Chain, ChainEnds, Answered, entryOf}
+use Rattle.proposer.specs.Demand.{mainsOf, numberOf, bestNumber, AnswerDemand3}
+use Rattle.views.specs.Met.{FixedMet}
+use Rattle.proposer.specs.Evictions.{Entry, Evictions, JobEvictionsEnd, AnsweredJob, entryOf}
 use Rattle.proposer.specs.declared.propose.Answer.{Answer}
 use Rattle.proposer.specs.declared.propose.Answer.the-variants as Answer·is
 use Rattle.proposer.proofs.JobTheorems.{ProposalOf, job-best, job-no-best-exactly, job-nothing-exactly, job-around, job-ended, job-side-ends, job-demand3, job-use-weight, job-live-insts, job-strict, region-no-fixed, region-none-heavier, region-heaviest-met, job-evictions-end}
@@ -153,9 +155,9 @@ module _ (job : Job) (rooms : Rooms) where
 -- of every list of jobs and the proposals they are answered, in which the region of each after the first meets a reservation
 -- that carries the normalised weight of the one before: there is no ring, and there are at most 10,000, or 9,495 if the first
 -- normalised weight is above zero
-pub evictions-end : (list : List Answered) → Chain (map entryOf list) → ChainEnds (map entryOf list)
+pub evictions-end : (list : List AnsweredJob) → Evictions (map entryOf list) → JobEvictionsEnd (map entryOf list)
 evictions-end list chain = job-evictions-end (map entryOf list) (each-answered list) chain
   where
-    each-answered : (list : List Answered) → Each (λ (e : Entry). ProposalOf (e .job) (e .best) (e .proposal)) (map entryOf list)
+    each-answered : (list : List AnsweredJob) → Each (λ (e : Entry). ProposalOf (e .job) (e .best) (e .proposal)) (map entryOf list)
     each-answered [] = tt
     each-answered (a ∷ rest) = (found-proposed (a .job) (a .rooms) (a .proposal) (a .answered), each-answered rest)

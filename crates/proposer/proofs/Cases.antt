@@ -9,8 +9,8 @@ use Rattle.numbers.specs.Normal.{normalised, fraction, exceeds}
 use Rattle.numbers.specs.Cost.{spillCost, scaled}
 use Rattle.numbers.specs.declared.MaybeInst.{MaybeInst}
 use Rattle.numbers.specs.declared.MaybeInst.the-variants as MaybeInst·is
-use Rattle.links.specs.First.{firstBelow}
-use Rattle.links.specs.Table.{table}
+use Rattle.columns.specs.First.{firstBelow}
+use Rattle.columns.specs.Table.{table, anyOf}
 use Rattle.links.specs.Blocks.{BlockRow, isBad, blockOf}
 use Rattle.links.specs.Links.{absent, isLower, lowerLink, linkColumn}
 use Rattle.links.specs.Split.{follow}
@@ -18,20 +18,20 @@ use Rattle.links.specs.declared.lower.Side.the-variants.{Previous, Next}
 use Rattle.jobs.specs.declared.rows.Segment.{Segment}
 use Rattle.jobs.specs.declared.rows.Use.{Use}
 use Rattle.jobs.specs.declared.rows.Reservation.{Reservation}
-use Rattle.jobs.specs.Lines.{badBounds, badList, badDef, badUse, badEnd, badSpan, badKind, badFixedUse, countBelow, noFixed}
-use Rattle.walks.specs.Uses.{useTable, rowsFrom, carries, splitUse, addedTo, partOf, costOf, frequencyAt, firstInst, lastInst, bestUse}
-use Rattle.walks.specs.Live.{sumBelow}
-use Rattle.walks.specs.GapSegments.{joined, overlapWith, overlapsOf}
-use Rattle.walkers.specs.Meeting.{anyOf, meets, countsAsFixed, weightOf, ofRegister, fixedAgainst, weighsAgainst, fixedMet, weightsWhere, weightsMet, fixedMetAny, weightsMetAll}
-use Rattle.walkers.specs.Gaps.{picked}
-use Rattle.gaps.specs.Gaps.{plus, cutGaps, cuts, gapsBetween, gapsOf}
-use Rattle.region.specs.Growth as Growth
-use Rattle.region.specs.Growth.{numbersFrom, weightTest, passes, sideOpen, leftFirst, sideTried, tryOn, try, growth, grown}
+use Rattle.jobs.specs.Lines.{badBounds, badList, badDef, badUse, badEnd, badSpan, badKind, badFixedUse, noFixed}
+use Rattle.columns.specs.Below.{countBelow, sumBelow, joined, picked}
+use Rattle.use_rows.specs.Uses.{useTable, rowsFrom, carries, splitUse, addedToRow, partOf, costOf, frequencyAt, firstInst, lastInst, bestUse}
+use Rattle.overlaps.specs.GapSegments.{overlapWith, overlapsOf}
+use Rattle.walks.specs.Meeting.{meets, countsAsFixed, spillWeight, ofRegister, fixedAgainst, weighsAgainst, fixedMet, weightsWhere, weightsMet, fixedMetAny, weightsMetAll}
+use Rattle.numbers.specs.Sum.{plus}
+use Rattle.gaps.specs.Gaps.{cutGaps, cuts, gapsBetween, gapsOf}
+use Rattle.region.specs.Growth.{numbersFrom, weightsIn, weightTest, passes, sideOpen, leftFirst, sideTried, tryOn, try, growth, grown}
 use Rattle.region.specs.Proposal.{splitCost, endOf, proposalWith, regionOf}
-use Rattle.verdict.specs.declared.job.Rooms.{Rooms}
-use Rattle.verdict.specs.Job.{Job}
-use Rattle.verdict.specs.Refusals.{firstBroken, badParameters, someLong, badSizes}
-use Rattle.proposer.specs.Answer.{answerOf, kindOf, freqsOf}
+use Rattle.filling.specs.declared.lent.Rooms.{Rooms}
+use Rattle.refusals.specs.Job.{Job, sourceOfJob}
+use Rattle.refusals.specs.Refusals.{firstBroken, badParameters, someLong, badSizes}
+use Rattle.proposer.specs.Answer.{answerOf, noneKind}
+use Rattle.filling.specs.SourceTables.{freqsOf}
 use Rattle.proposer.specs.declared.propose.Answer.{Answer}
 use Rattle.proposer.specs.declared.propose.Answer.the-variants as Answer·is
 
@@ -53,8 +53,8 @@ bits w = toBits binary32 w
 
 abbrev pub shown : Answer → Shown
 shown (Answer·is.Found p) = Q (instShown (p .left)) (instShown (p .right)) (bits (p .«use_weight»)) (p .«live_insts») (bits (p .«interference_weight»)) (bits (p .«split_cost»))
-shown Answer·is.NoBestUse = N (kindOf Answer·is.NoBestUse)
-shown Answer·is.NoRegion = N (kindOf Answer·is.NoRegion)
+shown Answer·is.NoBestUse = N (noneKind Answer·is.NoBestUse)
+shown Answer·is.NoRegion = N (noneKind Answer·is.NoRegion)
 shown (Answer·is.Refused r) = R (r .number) (r .place)
 
 -- the rows of a sheet: B, S, U and E
@@ -103,7 +103,7 @@ abbrev answered : Job → Shown
 answered job = shown (answerOf job (enough job))
 
 abbrev linked : Job → Shown
-linked job = Links (linkColumn Previous (freqsOf job)) (linkColumn Next (freqsOf job))
+linked job = Links (linkColumn Previous (freqsOf (sourceOfJob job))) (linkColumn Next (freqsOf (sourceOfJob job)))
 
 -- a case: what the definitions give, and what document 01 says
 pub record Case : Type 0 where
@@ -180,5 +180,5 @@ cases =
 
 -- every case holds
 pub cases-hold : map (λ (c : Case). c .given) cases ≡ map (λ (c : Case). c .said) cases
-unfolding toBits firstBroken badParameters someLong badSizes isBad badBounds badList badDef badUse badEnd badSpan badKind badFixedUse countBelow bestUse useTable rowsFrom carries splitUse addedTo partOf costOf frequencyAt firstInst lastInst valueOf ofBits spillCost scaled firstBelow blockOf add sub mul round eq lt table gapsOf gapsBetween cuts cutGaps plus joined follow lowerLink isLower sumBelow overlapWith overlapsOf anyOf meets countsAsFixed weightOf ofRegister fixedAgainst weighsAgainst fixedMet weightsWhere weightsMet fixedMetAny weightsMetAll picked numbersFrom weightTest passes sideOpen leftFirst sideTried tryOn try growth grown splitCost endOf proposalWith regionOf normalised fraction exceeds div ofInt Growth.weightsMet
+unfolding toBits firstBroken badParameters someLong badSizes isBad badBounds badList badDef badUse badEnd badSpan badKind badFixedUse countBelow bestUse useTable rowsFrom carries splitUse addedToRow partOf costOf frequencyAt firstInst lastInst valueOf ofBits spillCost scaled firstBelow blockOf add sub mul round eq lt table gapsOf gapsBetween cuts cutGaps plus joined follow lowerLink isLower sumBelow overlapWith overlapsOf anyOf meets countsAsFixed spillWeight ofRegister fixedAgainst weighsAgainst fixedMet weightsWhere weightsMet fixedMetAny weightsMetAll picked numbersFrom weightTest passes sideOpen leftFirst sideTried tryOn try growth grown splitCost endOf proposalWith regionOf normalised fraction exceeds div ofInt weightsIn
 cases-hold = refl

@@ -14,23 +14,23 @@ use Rattle.numbers.specs.Weight.{Weight, finite, unitsOf, zeroWeight, heaviest,
 use Rattle.numbers.specs.Point.{instOf}
 use Rattle.numbers.specs.Normal.{normalised, exceeds}
 use Rattle.numbers.specs.Chain.{longest}
-use Rattle.numbers.proofs.Tests.{cond-true, cond-false}
+use Rattle.columns.proofs.Tests.{cond-true, cond-false}
 use Rattle.numbers.proofs.Units.{units-order, units-lt, zero-finite, zero-units}
 use Rattle.numbers.proofs.Heaviest.{heaviest-weight, heaviest-among, heaviest-above}
-use Rattle.links.specs.First.{firstBelow, FirstIn}
+use Rattle.columns.specs.First.{firstBelow, FirstIn}
 use Rattle.links.specs.declared.lower.Side.{Side}
-use Rattle.links.proofs.Firsts.{split, first-in}
-use Rattle.walks.specs.Uses.{AllWeights, isLargest, bestUse}
-use Rattle.walks.specs.Live.{Gaps}
-use Rattle.walks.specs.declared.uses.SplitUse.{SplitUse}
-use Rattle.walks.specs.declared.uses.BestUse.{BestUse}
-use Rattle.walks.specs.declared.uses.BestUse.the-variants.{At, Nothing}
-use Rattle.walks.proofs.Largest.{weights-of, at-among}
-use Rattle.walks.proofs.UseTable.{use-table-weights}
-use Rattle.walkers.specs.Meeting.{weightOf}
+use Rattle.columns.proofs.Firsts.{split, first-in}
+use Rattle.use_rows.specs.Uses.{AllWeights, isLargest, bestUse, IsBest}
+use Rattle.overlaps.specs.Live.{Gaps}
+use Rattle.use_rows.specs.declared.row.SplitUse.{SplitUse}
+use Rattle.use_rows.specs.declared.row.BestUse.{BestUse}
+use Rattle.use_rows.specs.declared.row.BestUse.the-variants.{At, Nothing}
+use Rattle.uses.proofs.Best.{best-is, no-best-exactly, best-inside}
+use Rattle.uses.proofs.UseTable.{use-table-weights}
+use Rattle.walks.specs.Meeting.{spillWeight}
 use Rattle.gaps.specs.Gaps.{initialGap}
-use Rattle.tables.specs.GapTables.{fromsOf, tosOf}
-use Rattle.region.specs.Growth.{GapsSeen, Span, ownSpan, weightsMet, heaviestMet, weightTest, usedUp, growth}
+use Rattle.filling.specs.GapTables.{fromsOf, tosOf}
+use Rattle.region.specs.Growth.{GapsSeen, Span, ownSpan, weightsIn, heaviestIn, weightTest, usedUp, growth}
 use Rattle.region.specs.Proposal.{regionOf, covers, gapsCovered}
 use Rattle.region.specs.Demand.{Around, Ended, In, FailedBefore, MeetsFixed, SoundGaps, Demand3, sumOver, addedTo, gapsBeside, gapsGrown}
 use Rattle.region.specs.Evictions.{Promise, Each, EvictsAfter, Evicts, EvictionsEnd, MeetsCarrier, member, promiseOf, Given, IsFound, promised}
@@ -40,131 +40,15 @@ use Rattle.region.proofs.Meetings.{met-of-gap, gap-of-met}
 use Rattle.region.proofs.Ends.{covers-exactly}
 use Rattle.region.proofs.Proposals.{nothing-exactly, found-ended, found-side-ends, found-demand3, found-around, found-use-weight, found-live-insts, found-no-fixed, found-heaviest, found-strict}
 use Rattle.region.proofs.Evictions.{found-evictions-end, carried-bits}
-use Rattle.verdict.specs.Job.{Job, sourceOfJob}
-use Rattle.verdict.proofs.Accepted.{Accepted}
-use Rattle.proposer.specs.View.{usesOfJob, gapsOfJob, segmentsOfJob, seenOfJob}
-use Rattle.proposer.proofs.SegmentOrder.{InGap, fromColumn, toColumn}
-use Rattle.proposer.specs.Demand.{IsBest, mainsOf, segmentOfJob, gapOfSegment, reservationOf, Weighs, CountsAsFixed, FixedMet, InRegion, RegionMeets}
-use Rattle.proposer.specs.Evictions.{MeetsCarrying, Entry, weightIn, ChainAfter, Chain, Stands, ChainEnds}
-use Rattle.proposer.proofs.JobView.{gap-weighs, gap-weighed-by, gap-fixed, gap-fixed-exactly, job-tiles, job-sound, segment-in-gap}
-
--- ---- the best use stands in the table
--- a weight of a list stands in one of its rows
-among-row : (ws : List Float) (w : Float) → Among w ws → (k : ℕ) × (k < length ws) × (getD ws k zeroWeight ≡ w)
-among-row [] w a = absurd a
-among-row (v ∷ ws) w (inl e) = (0, some (length ws), sym e)
-  where
-    some : (n : ℕ) → 0 < suc n
-    some n = omega arith
-among-row (v ∷ ws) w (inr a) = let r = among-row ws w a in (suc (r .0), up (r .0) (length ws) (r .1), r .2)
-  where
-    up : (k n : ℕ) → k < n → suc k < suc n
-    up k n h = omega (arith, h)
-
-unnot : (b : Bool) → not b ≡ false → T b
-unnot true e = tt
-unnot false e = absurd (let z : _≡_ {A = ℕ} 0 1 = cc in omega arith)
-
--- no weight is below itself
-not-below : (x : Float) → Weight x → T (lt x x) → ⊥
-not-below x w t = lt-irrefl (unitsOf x) (units-lt w w t)
-
-module _ (ws : List Float) (given : AllWeights ws) where
-  -- if some weight is above zero, a row has the largest
-  largest-inside : T (lt zeroWeight (heaviest ws)) → firstBelow (isLargest ws) (length ws) < length ws
-  largest-inside t = by (heaviest-among ws)
-    where
-      f : FirstIn (isLargest ws) 0 (length ws) (firstBelow (isLargest ws) (length ws))
-      f = first-in (isLargest ws) (length ws)
-
-      here : (k : ℕ) → k < length ws → getD ws k zeroWeight ≡ heaviest ws → isLargest ws k ≡ false → ⊥
-      here k h e n =
-          not-below (getD ws k zeroWeight) (given k h)
-          (subst (λ (x : Float). T (lt (getD ws k zeroWeight) x)) (sym e) (unnot (lt (getD ws k zeroWeight) (heaviest ws)) n))
-
-      by : (heaviest ws ≡ zeroWeight) ⊎ Among (heaviest ws) ws → firstBelow (isLargest ws) (length ws) < length ws
-      by (inl e) = absurd (not-below zeroWeight (finite zero-finite) (subst (λ (x : Float). T (lt zeroWeight x)) e t))
-      by (inr a) =
-          let r = among-row ws (heaviest ws) a in
-          elim (eq-or-lt-of-le (f .to)) [
-            | inl e ↦ absurd (here (r .0) (r .1) (r .2) (f .passed (r .0) (omega arith) (subst (λ (n : ℕ). r .0 < n) (sym e) (r .1))))
-            | inr l ↦ l
-          ]
-
-  -- none is heavier than the largest
-  heaviest-is : Weight (heaviest ws)
-  heaviest-is = heaviest-weight ws (weights-of ws given)
-
-  at-most-heaviest : (k : ℕ) → k < length ws → unitsOf (getD ws k zeroWeight) ≤ unitsOf (heaviest ws)
-  at-most-heaviest k h = heaviest-above ws (weights-of ws given) (getD ws k zeroWeight) (at-among ws k h)
-
-  -- whether there is a best use, and which: by what the definition asks
-  best-is-found : T (not (leb (length ws) 1)) → T (lt zeroWeight (heaviest ws)) → IsBest ws (firstBelow (isLargest ws) (length ws))
-  best-is-found l t =
-      record {
-        several = nleb→lt (length ws) 1 l;
-        inside = inside;
-        above-zero = let z = units-lt (finite zero-finite) heaviest-is t in let h = top in omega (arith, z, h);
-        largest = λ k h. le-trans (at-most-heaviest k h) top;
-        earliest = λ k h. lt-of-lt-of-le (units-lt (given k (lt-trans h inside)) heaviest-is (unnot (lt (getD ws k zeroWeight) (heaviest ws)) (first-in (isLargest ws) (length ws) .passed k zero-le h))) top;
-      }
-    where
-      best : ℕ
-      best = firstBelow (isLargest ws) (length ws)
-
-      inside : best < length ws
-      inside = largest-inside t
-
-      top : unitsOf (heaviest ws) ≤ unitsOf (getD ws best zeroWeight)
-      top =
-          nltb→le (unitsOf (getD ws best zeroWeight)) (unitsOf (heaviest ws))
-          (subst (λ (b : Bool). T (not b)) (units-order (given best inside) heaviest-is) (subst T (sym (first-in (isLargest ws) (length ws) .found inside)) tt))
-
-  -- the best use: the largest main weight, above zero, earliest on ties
-  pub best-is : (best : ℕ) → bestUse ws ≡ At best → IsBest ws best
-  unfolding bestUse
-  best-is best e = by (leb (length ws) 1) (lt zeroWeight (heaviest ws)) refl refl e
-    where
-      by : (a b : Bool) → leb (length ws) 1 ≡ a → lt zeroWeight (heaviest ws) ≡ b → cond a Nothing (cond b (At (firstBelow (isLargest ws) (length ws))) Nothing) ≡ At best → IsBest ws best
-      by true b p q e = absurd (let z : _≡_ {A = ℕ} 0 1 = cc in omega arith)
-      by false false p q e = absurd (let z : _≡_ {A = ℕ} 0 1 = cc in omega arith)
-      by false true p q e =
-          let same : firstBelow (isLargest ws) (length ws) ≡ best = cc in
-          subst (IsBest ws) same (best-is-found (subst (λ (b : Bool). T (not b)) (sym p) tt) (subst T (sym q) tt))
-
-  -- there is none exactly in a table of one row, or if no weight is above zero
-  pub no-best-exactly : (bestUse ws ≡ Nothing) ↔ ((length ws ≤ 1) ⊎ ((k : ℕ) → k < length ws → unitsOf (getD ws k zeroWeight) ≡ 0))
-  unfolding bestUse
-  no-best-exactly = (none (leb (length ws) 1) (lt zeroWeight (heaviest ws)) refl refl, λ h. ⊎-elim short light h)
-    where
-      none : (a b : Bool) → leb (length ws) 1 ≡ a → lt zeroWeight (heaviest ws) ≡ b → cond a Nothing (cond b (At (firstBelow (isLargest ws) (length ws))) Nothing) ≡ Nothing
-          → (length ws ≤ 1) ⊎ ((k : ℕ) → k < length ws → unitsOf (getD ws k zeroWeight) ≡ 0)
-      none true b p q e = inl (leb→le (length ws) 1 (subst T (sym p) tt))
-      none false true p q e = absurd (let z : _≡_ {A = ℕ} 0 1 = cc in omega arith)
-      none false false p q e =
-          inr (λ k h.
-          let l = at-most-heaviest k h in
-          let z = nltb→le (unitsOf zeroWeight) (unitsOf (heaviest ws)) (subst (λ (b : Bool). T (not b)) (sym q ∙ units-order (finite zero-finite) heaviest-is) tt) in
-          let n = zero-units in
-          omega (arith, l, z, n))
-
-      short : length ws ≤ 1 → cond (leb (length ws) 1) Nothing (cond (lt zeroWeight (heaviest ws)) (At (firstBelow (isLargest ws) (length ws))) Nothing) ≡ Nothing
-      short h = cond-true Nothing (cond (lt zeroWeight (heaviest ws)) (At (firstBelow (isLargest ws) (length ws))) Nothing) (le-leb (length ws) 1 h)
-
-      either : (a : Bool) → cond a Nothing Nothing ≡ Nothing
-      either true = refl
-      either false = refl
-
-      light : ((k : ℕ) → k < length ws → unitsOf (getD ws k zeroWeight) ≡ 0) → cond (leb (length ws) 1) Nothing (cond (lt zeroWeight (heaviest ws)) (At (firstBelow (isLargest ws) (length ws))) Nothing) ≡ Nothing
-      light h =
-          ap (λ (x : BestUse). cond (leb (length ws) 1) Nothing x)
-          (cond-false (At (firstBelow (isLargest ws) (length ws))) Nothing
-          (units-order (finite zero-finite) heaviest-is ∙ le-ltb (unitsOf zeroWeight) (unitsOf (heaviest ws)) (le-trans (le-of-eq (by (heaviest-among ws))) zero-le)))
-          ∙ either (leb (length ws) 1)
-        where
-          by : (heaviest ws ≡ zeroWeight) ⊎ Among (heaviest ws) ws → unitsOf (heaviest ws) ≡ 0
-          by (inl e) = ap unitsOf e ∙ zero-units
-          by (inr a) = let r = among-row ws (heaviest ws) a in ap unitsOf (sym (r .2)) ∙ h (r .0) (r .1)
+use Rattle.refusals.specs.Job.{Job, sourceOfJob}
+use Rattle.refusals.proofs.Accepted.{Accepted}
+use Rattle.tables.specs.JobTables.{usesOfJob, gapsOfJob, segmentsOfJob}
+use Rattle.views.specs.View.{seenOfJob}
+use Rattle.views.proofs.SegmentOrder.{InGap, fromColumn, toColumn}
+use Rattle.proposer.specs.Demand.{mainsOf, InRegion, RegionMeets}
+use Rattle.views.specs.Met.{segmentOfJob, gapOfSegment, reservationOf, Weighs, CountsAsFixed, FixedMet}
+use Rattle.proposer.specs.Evictions.{MeetsCarrying, Entry, weightIn, EvictionsAfter, Evictions, Stands, JobEvictionsEnd}
+use Rattle.views.proofs.JobView.{gap-weighs, gap-weighed-by, gap-fixed, gap-fixed-exactly, job-tiles, job-sound, segment-in-gap}
 
 -- an accepted job, its best use and its proposal
 pub record ProposalOf (job : Job) (best : ℕ) (p : SplitProposal) : Type 0 where
@@ -177,10 +61,7 @@ pub job-best : (job : Job) → Accepted job → (best : ℕ) → bestUse (mainsO
 job-best job accepted best e = best-is (mainsOf job) (use-table-weights (sourceOfJob job) (accepted .scales)) best e
 
 pub job-best-inside : (job : Job) → Accepted job → (best : ℕ) → bestUse (mainsOf job) ≡ At best → best < length (usesOfJob job)
-job-best-inside job accepted best e =
-    let i = job-best job accepted best e .inside in
-    let l = length-map (usesOfJob job) (λ (u : SplitUse). u .weight) in
-    omega (arith, i, l)
+job-best-inside job accepted best e = best-inside (sourceOfJob job) (accepted .scales) best e
 
 -- none of kind 1: exactly if the use table has one row, or no main weight is above zero
 pub job-no-best-exactly : (job : Job) → Accepted job → (bestUse (mainsOf job) ≡ Nothing) ↔ ((length (mainsOf job) ≤ 1) ⊎ ((k : ℕ) → k < length (mainsOf job) → unitsOf (getD (mainsOf job) k zeroWeight) ≡ 0))
@@ -223,7 +104,7 @@ module _ (job : Job) (best : ℕ) (p : SplitProposal) (given : ProposalOf job be
   job-no-fixed = found-no-fixed (seenOfJob job best) p (given .found) proposed-sound
 
   -- its interference weight: the largest kind 0 weight counted in its region, zero if none
-  pub job-heaviest : p .«interference_weight» ≡ heaviestMet (seenOfJob job best) (growth (seenOfJob job best) (seenOfJob job best .count + 1) .region)
+  pub job-heaviest : p .«interference_weight» ≡ heaviestIn (seenOfJob job best) (growth (seenOfJob job best) (seenOfJob job best .count + 1) .region)
   job-heaviest = found-heaviest (seenOfJob job best) p (given .found) proposed-sound
 
   -- the weight test: the normalised weight times 2007/2048, rounded once, strictly exceeds the interference weight
@@ -243,8 +124,8 @@ job-nothing-exactly job best =
 
 -- ---- what a proposal's region meets, in the job's own rows
 -- the bits of a job's spill weights are those of the weights
-bits-of : (job : Job) → Accepted job → (i : ℕ) → toBits binary32 (weightOf (job .weights) (reservationOf job i)) ≡ getD (job .weights) (reservationOf job i .index) 0
-unfolding weightOf
+bits-of : (job : Job) → Accepted job → (i : ℕ) → toBits binary32 (spillWeight (job .weights) (reservationOf job i)) ≡ getD (job .weights) (reservationOf job i .index) 0
+unfolding spillWeight
 bits-of job accepted i = carried-bits (getD (job .weights) x 0) (⊎-elim (accepted .weights x) (λ h. le-trans (le-of-eq (List·getD-eq-default (job .weights) 0 h)) (lit≤ tt)) (split x (length (job .weights))))
   where
     x : ℕ
@@ -261,7 +142,7 @@ module _ (job : Job) (best : ℕ) (p : SplitProposal) (given : ProposalOf job be
   pub region-gaps : (k : ℕ) → k < length (segmentsOfJob job best) → InRegion job best p k ↔ In (growth (seenOfJob job best) (seenOfJob job best .count + 1) .region) (gapOfSegment job best k)
   region-gaps k h =
       subst (λ (q : SplitProposal). InRegion job best q k ↔ In region (gapOfSegment job best k)) (sym (job-demand3 job best p given .is-grown))
-      (covers-exactly seen (proposed-sound job best p given .rising) region (job-around job best p given) (heaviestMet seen region) (gapOfSegment job best k) (instOf (segmentOfJob job best k .from .0)) (inside .known)
+      (covers-exactly seen (proposed-sound job best p given .rising) region (job-around job best p given) (heaviestIn seen region) (gapOfSegment job best k) (instOf (segmentOfJob job best k .from .0)) (inside .known)
       (let l = inside .low in from-inst (getD (fromsOf (gapsOfJob job best)) (gapOfSegment job best k) 0) (segmentOfJob job best k .from .0) l)
       (λ m. before-inst (segmentOfJob job best k .from .0) (getD (toColumn (segmentsOfJob job best)) k 0) (getD (tosOf (gapsOfJob job best)) (gapOfSegment job best k) 0) (getD (fromsOf (gapsOfJob job best)) (gapOfSegment job best k + 1) 0)
       (inside .some) (inside .high) (tiles .follows (gapOfSegment job best k) m)))
@@ -286,9 +167,9 @@ module _ (job : Job) (best : ℕ) (p : SplitProposal) (given : ProposalOf job be
   region-no-fixed k i r m = job-no-fixed job best p given (gapOfSegment job best k, region-gaps k (m .segment) .0 r, gap-fixed job best k i m)
 
   -- no kind 0 reservation that it meets is heavier than its interference weight
-  pub region-none-heavier : (k i : ℕ) → InRegion job best p k → Weighs job best k i → unitsOf (weightOf (job .weights) (reservationOf job i)) ≤ unitsOf (p .«interference_weight»)
+  pub region-none-heavier : (k i : ℕ) → InRegion job best p k → Weighs job best k i → unitsOf (spillWeight (job .weights) (reservationOf job i)) ≤ unitsOf (p .«interference_weight»)
   region-none-heavier k i r m =
-      job-demand3 job best p given .none-heavier (gapOfSegment job best k) (region-gaps k (m .segment) .0 r) (weightOf (job .weights) (reservationOf job i)) (gap-weighs job best k i m)
+      job-demand3 job best p given .none-heavier (gapOfSegment job best k) (region-gaps k (m .segment) .0 r) (spillWeight (job .weights) (reservationOf job i)) (gap-weighs job best k i m)
 
   -- which is the weight of one that it meets, or zero
   pub region-heaviest-met : (p .«interference_weight» ≡ zeroWeight) ⊎ RegionMeets job best p (p .«interference_weight»)
@@ -310,17 +191,17 @@ module _ (job : Job) (best : ℕ) (p : SplitProposal) (given : ProposalOf job be
   pub carrying-exactly : (w : Float) → MeetsCarrying job best p w ↔ MeetsCarrier (promiseOf (seenOfJob job best) p) w
   carrying-exactly w = (
     (λ m. (
-      weightOf (job .weights) (reservationOf job (m .row)),
-      subst (λ (gs : List ℕ). Among (weightOf (job .weights) (reservationOf job (m .row))) (weightsMet (seen .met) gs)) (sym (job-demand3 job best p given .covered))
-          (met-of-gap seen region (gapOfSegment job best (m .segment)) (weightOf (job .weights) (reservationOf job (m .row))) (region-gaps (m .segment) (m .weighs .segment) .0 (m .in-region)) (gap-weighs job best (m .segment) (m .row) (m .weighs))),
+      spillWeight (job .weights) (reservationOf job (m .row)),
+      subst (λ (gs : List ℕ). Among (spillWeight (job .weights) (reservationOf job (m .row))) (weightsIn (seen .met) gs)) (sym (job-demand3 job best p given .covered))
+          (met-of-gap seen region (gapOfSegment job best (m .segment)) (spillWeight (job .weights) (reservationOf job (m .row))) (region-gaps (m .segment) (m .weighs .segment) .0 (m .in-region)) (gap-weighs job best (m .segment) (m .row) (m .weighs))),
       bits-of job (given .accepted) (m .row) ∙ m .carries,
     )),
     (λ c. back (c .0) (c .1) (c .2)),
   )
     where
-      back : (v : Float) → Among v (weightsMet (seen .met) (gapsCovered seen p)) → toBits binary32 v ≡ toBits binary32 w → MeetsCarrying job best p w
+      back : (v : Float) → Among v (weightsIn (seen .met) (gapsCovered seen p)) → toBits binary32 v ≡ toBits binary32 w → MeetsCarrying job best p w
       back v a e =
-          let g = gap-of-met seen region v (subst (λ (gs : List ℕ). Among v (weightsMet (seen .met) gs)) (job-demand3 job best p given .covered) a) in
+          let g = gap-of-met seen region v (subst (λ (gs : List ℕ). Among v (weightsIn (seen .met) gs)) (job-demand3 job best p given .covered) a) in
           let m = gap-weighed-by job best (g .0) v (g .2) in
           record {
             segment = m .segment;
@@ -368,17 +249,17 @@ each-2007 : (es : List Entry) → Each (λ (p : Promise). p .numerator ≤ 2007)
 each-2007 [] = tt
 each-2007 (e ∷ es) = (le-refl 2007, each-2007 es)
 
-evicts-after : (e : Entry) (es : List Entry) → Each IsEntry es → ChainAfter e es → EvictsAfter (promised (givenOf e)) (promises es)
+evicts-after : (e : Entry) (es : List Entry) → Each IsEntry es → EvictionsAfter e es → EvictsAfter (promised (givenOf e)) (promises es)
 evicts-after e [] given c = tt
 evicts-after e (f ∷ fs) given c = (carrying-exactly (f .job) (f .best) (f .proposal) (given .0) (weightIn e) .0 (c .0), evicts-after f fs (given .1) (c .1))
 
-evicts : (es : List Entry) → Each IsEntry es → Chain es → Evicts (promises es)
+evicts : (es : List Entry) → Each IsEntry es → Evictions es → Evicts (promises es)
 evicts [] given c = tt
 evicts (e ∷ es) given c = evicts-after e es (given .1) c
 
 -- the ring and chain law, of every list of accepted jobs and their proposals in which the region of each after the first meets a reservation that
 -- carries the normalised weight of the one before; nothing is kept between the jobs, and a job may stand twice
-pub job-evictions-end : (es : List Entry) → Each (λ (e : Entry). ProposalOf (e .job) (e .best) (e .proposal)) es → Chain es → ChainEnds es
+pub job-evictions-end : (es : List Entry) → Each (λ (e : Entry). ProposalOf (e .job) (e .best) (e .proposal)) es → Evictions es → JobEvictionsEnd es
 job-evictions-end es given chain =
     record {
       no-ring = λ i j h e f s t m.

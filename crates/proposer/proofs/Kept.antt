@@ -5,16 +5,18 @@ use native.Mathlib.Omega.{arith}
 use Rattle.links.specs.declared.blocks.Checked.{Checked}
 use Rattle.links.specs.declared.blocks.Checked.the-variants as Checked·is
 use Rattle.links.specs.declared.blocks.Refusal.{Refusal}
-use Rattle.tables.specs.UseTables.{bestOf}
-use Rattle.verdict.specs.Job.{Job, sourceOfJob}
-use Rattle.verdict.specs.Refusals.{refusalOf}
-use Rattle.proposer.specs.Answer.{ifAccepted, Tables, noTables, tablesOfBest, WorkColumns, roomsOf, FilledBy, IsProposed}
+use Rattle.filling.specs.UseTables.{bestOf}
+use Rattle.refusals.specs.Job.{Job, sourceOfJob}
+use Rattle.rooms.specs.Rooms.{refusalOf}
+use Rattle.proposer.specs.Answer.{IsProposed}
+use Rattle.tables.specs.JobTables.{ifAccepted, noTables}
+use Rattle.filling.specs.SourceTables.{Tables, tablesOfBest, WorkColumns, roomsOf, FilledBy}
 use Rattle.proposer.specs.declared.propose.Answer.the-variants as Answer·is
 use Rattle.proposer.specs.declared.propose.Proposed.{Proposed}
 use Rattle.proposer.proofs.Answered.{refused-exactly}
 
 -- a refused job has no rows
-refused-tables : (job : Job) (c : Checked) (x : Refusal) → c ≡ Checked·is.Refused x → ifAccepted c (tablesOfBest job (bestOf (sourceOfJob job))) noTables ≡ noTables
+refused-tables : (job : Job) (c : Checked) (x : Refusal) → c ≡ Checked·is.Refused x → ifAccepted c (tablesOfBest (sourceOfJob job) (bestOf (sourceOfJob job))) noTables ≡ noTables
 refused-tables job (Checked·is.Refused q) x e = refl
 refused-tables job Checked·is.Sound x e = absurd (let z : _≡_ {A = ℕ} 0 1 = cc in omega arith)
 

@@ -1,6 +1,4 @@
--- What growth sees of an accepted job is sound; what holds of every proposal
-pub mod SegmentOrder
-pub mod JobView
+-- What holds of every answer: the parts of the call joined, demand 3, evictions, what is kept, document 01's cases
 pub mod JobTheorems
 pub mod Assembly
 pub mod Answered

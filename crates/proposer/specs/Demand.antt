@@ -10,30 +10,20 @@ use Rattle.numbers.specs.Point.{instOf}
 use Rattle.numbers.specs.Weight.{unitsOf, zeroWeight}
 use Rattle.numbers.specs.Normal.{normalised, exceeds}
 use Rattle.links.specs.declared.lower.Side.{Side}
-use Rattle.jobs.specs.Rows.{noReservation}
-use Rattle.jobs.specs.declared.rows.Reservation.{Reservation}
-use Rattle.walks.specs.GapSegments.{GapSegment}
-use Rattle.walks.specs.declared.uses.SplitUse.{SplitUse}
-use Rattle.walks.specs.declared.uses.BestUse.{BestUse}
-use Rattle.walks.specs.declared.uses.BestUse.the-variants as BestUse·is
-use Rattle.walkers.specs.declared.meeting.GapSegment as Seen
-use Rattle.walkers.specs.Meeting.{weightOf, weighsAgainst, fixedAgainst}
-use Rattle.walkers.specs.Gaps.{segmentIn}
-use Rattle.tables.specs.UseTables.{bestOf}
+use Rattle.use_rows.specs.declared.row.SplitUse.{SplitUse}
+use Rattle.use_rows.specs.declared.row.BestUse.{BestUse}
+use Rattle.use_rows.specs.declared.row.BestUse.the-variants as BestUse·is
+use Rattle.walks.specs.Meeting.{spillWeight}
+use Rattle.filling.specs.UseTables.{bestOf}
 use Rattle.region.specs.Growth.{ownSpan, usedUp, growth}
 use Rattle.region.specs.Proposal.{covers}
 use Rattle.region.specs.Demand.{Around, Ended, FailedBefore, Demand3, sumOver, addedTo, gapsBeside, gapsGrown}
 use Rattle.region.specs.declared.proposal.SplitProposal.{SplitProposal}
-use Rattle.verdict.specs.Job.{Job, sourceOfJob, registerOf}
-use Rattle.proposer.specs.View.{usesOfJob, segmentsOfJob, segmentColumns, seenOfJob}
-
--- a best use among main weights: the largest, above zero, earliest on ties, in a table of more than one row
-pub record IsBest (ws : List Float) (best : ℕ) : Type 0 where
-  pub several : 1 < length ws
-  pub inside : best < length ws
-  pub above-zero : 0 < unitsOf (getD ws best zeroWeight)
-  pub largest : (k : ℕ) → k < length ws → unitsOf (getD ws k zeroWeight) ≤ unitsOf (getD ws best zeroWeight)
-  pub earliest : (k : ℕ) → k < best → unitsOf (getD ws k zeroWeight) < unitsOf (getD ws best zeroWeight)
+use Rattle.refusals.specs.Job.{Job, sourceOfJob}
+use Rattle.use_rows.specs.Uses.{IsBest}
+use Rattle.tables.specs.JobTables.{usesOfJob, segmentsOfJob}
+use Rattle.views.specs.View.{seenOfJob}
+use Rattle.views.specs.Met.{segmentOfJob, reservationOf, Weighs, CountsAsFixed}
 
 -- the main weights of a job's uses
 abbrev pub mainsOf : Job → List Float
@@ -47,37 +37,6 @@ numberOf BestUse·is.Nothing = 0
 abbrev pub bestNumber : Job → ℕ
 bestNumber job = numberOf (bestOf (sourceOfJob job))
 
--- a gap segment of a job, as the walkers see it
-abbrev pub segmentOfJob : Job → ℕ → ℕ → Seen.GapSegment
-segmentOfJob job best k = segmentIn (segmentColumns (segmentsOfJob job best)) k
-
--- the gap that it lies in
-abbrev pub gapOfSegment : Job → ℕ → ℕ → ℕ
-gapOfSegment job best k = getD (map (λ (s : GapSegment). s .gap) (segmentsOfJob job best)) k 0
-
--- a reservation of a job
-abbrev pub reservationOf : Job → ℕ → Reservation
-reservationOf job i = getD (job .reservations) i noReservation
-
--- gap segment k and reservation i of a job, which is kind 0, overlap: its weight counts
-pub record Weighs (job : Job) (best k i : ℕ) : Type 0 where
-  pub segment : k < length (segmentsOfJob job best)
-  pub row : i < length (job .reservations)
-  pub meets : T (weighsAgainst (registerOf job) (segmentOfJob job best k) (reservationOf job i))
-
--- they overlap, and the reservation counts as fixed
-pub record CountsAsFixed (job : Job) (best k i : ℕ) : Type 0 where
-  pub segment : k < length (segmentsOfJob job best)
-  pub row : i < length (job .reservations)
-  pub meets : T (fixedAgainst (registerOf job) (job .fixedUses) (segmentOfJob job best k) (reservationOf job i))
-
--- a gap meets something that counts as fixed: a gap segment of it does
-pub record FixedMet (job : Job) (best g : ℕ) : Type 0 where
-  pub segment : ℕ
-  pub row : ℕ
-  pub counts : CountsAsFixed job best segment row
-  pub of-gap : gapOfSegment job best segment ≡ g
-
 -- a proposal's region: the gap segments from its left to before its right
 abbrev pub InRegion : Job → ℕ → SplitProposal → ℕ → Type 0
 InRegion job best p k = T (covers p (instOf (segmentOfJob job best k .from .0)))
@@ -88,7 +47,7 @@ pub record RegionMeets (job : Job) (best : ℕ) (p : SplitProposal) (w : Float) 
   pub row : ℕ
   pub in-region : InRegion job best p segment
   pub weighs : Weighs job best segment row
-  pub has : weightOf (job .weights) (reservationOf job row) ≡ w
+  pub has : spillWeight (job .weights) (reservationOf job row) ≡ w
 
 -- demand 3 of a proposal of a job, around a best use: growth ends with its region; nothing fixed counts against it; its
 -- interference weight is exactly the heaviest one met; the weight test holds of it
@@ -109,7 +68,7 @@ pub record AnswerDemand3 (job : Job) (best : ℕ) (p : SplitProposal) : Type 0 w
   -- no reservation of the job that its region meets counts as fixed
   pub no-fixed : (k i : ℕ) → InRegion job best p k → CountsAsFixed job best k i → ⊥
   -- no kind 0 reservation that it meets is heavier than its interference weight, which is the weight of one of them, or zero
-  pub none-heavier : (k i : ℕ) → InRegion job best p k → Weighs job best k i → unitsOf (weightOf (job .weights) (reservationOf job i)) ≤ unitsOf (p .«interference_weight»)
+  pub none-heavier : (k i : ℕ) → InRegion job best p k → Weighs job best k i → unitsOf (spillWeight (job .weights) (reservationOf job i)) ≤ unitsOf (p .«interference_weight»)
   pub heaviest-met : (p .«interference_weight» ≡ zeroWeight) ⊎ RegionMeets job best p (p .«interference_weight»)
   -- the normalised weight times 2007/2048, rounded once, strictly exceeds the interference weight
   pub strict : T (exceeds 2007 (normalised (p .«use_weight») (p .«live_insts») (job .k)) (p .«interference_weight»))

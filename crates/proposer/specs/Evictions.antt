@@ -8,10 +8,11 @@ use Rattle.numbers.specs.Weight.{unitsOf}
 use Rattle.numbers.specs.Normal.{normalised}
 use Rattle.numbers.specs.Chain.{longest}
 use Rattle.region.specs.declared.proposal.SplitProposal.{SplitProposal}
-use Rattle.verdict.specs.declared.job.Rooms.{Rooms}
-use Rattle.verdict.specs.Job.{Job}
+use Rattle.filling.specs.declared.lent.Rooms.{Rooms}
+use Rattle.refusals.specs.Job.{Job}
 use Rattle.proposer.specs.Answer.{answerOf}
-use Rattle.proposer.specs.Demand.{bestNumber, reservationOf, Weighs, InRegion}
+use Rattle.proposer.specs.Demand.{bestNumber, InRegion}
+use Rattle.views.specs.Met.{reservationOf, Weighs}
 use Rattle.proposer.specs.declared.propose.Answer.the-variants as Answer·is
 
 -- a proposal's region meets a reservation that carries a weight: kind 0, and the spill weight at its index has those bits
@@ -37,14 +38,14 @@ abbrev pub Meets : Entry → Float → Type 0
 Meets e w = MeetsCarrying (e .job) (e .best) (e .proposal) w
 
 -- each after an entry meets a reservation that carries the normalised weight of the one before
-abbrev pub ChainAfter : Entry → List Entry → Type 0
-ChainAfter e [] = Unit {0}
-ChainAfter e (f ∷ fs) = Meets f (weightIn e) × ChainAfter f fs
+abbrev pub EvictionsAfter : Entry → List Entry → Type 0
+EvictionsAfter e [] = Unit {0}
+EvictionsAfter e (f ∷ fs) = Meets f (weightIn e) × EvictionsAfter f fs
 
 -- each after the first
-abbrev pub Chain : List Entry → Type 0
-Chain [] = Unit {0}
-Chain (e ∷ es) = ChainAfter e es
+abbrev pub Evictions : List Entry → Type 0
+Evictions [] = Unit {0}
+Evictions (e ∷ es) = EvictionsAfter e es
 
 -- entry i of a list
 abbrev pub Stands : List Entry → ℕ → Entry → Type 0
@@ -53,7 +54,7 @@ Stands (x ∷ es) zero e = x ≡ e
 Stands (x ∷ es) (suc i) e = Stands es i e
 
 -- no ring, and no long chain
-pub record ChainEnds (es : List Entry) : Type 0 where
+pub record JobEvictionsEnd (es : List Entry) : Type 0 where
   -- no member's region meets a reservation that carries its own or a later one's normalised weight
   pub no-ring : (i j : ℕ) → i ≤ j → (e f : Entry) → Stands es i e → Stands es j f → Meets e (weightIn f) → ⊥
   -- there are at most 10,000 members, 9,495 if the first normalised weight is above zero
@@ -61,12 +62,12 @@ pub record ChainEnds (es : List Entry) : Type 0 where
   pub few-above-zero : (e : Entry) → Stands es 0 e → 0 < unitsOf (weightIn e) → length es ≤ longest
 
 -- a job, the rows of its lent tables, and the proposal that it is answered
-pub record Answered : Type 0 where
+pub record AnsweredJob : Type 0 where
   pub job : Job
   pub rooms : Rooms
   pub proposal : SplitProposal
   pub answered : answerOf job rooms ≡ Answer·is.Found proposal
 
 -- with its best use
-abbrev pub entryOf : Answered → Entry
+abbrev pub entryOf : AnsweredJob → Entry
 entryOf a = record { job = a .job; best = bestNumber (a .job); proposal = a .proposal }

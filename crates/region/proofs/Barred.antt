@@ -9,7 +9,7 @@ use lib.Dec.{T, T-not}
 use Rattle.links.specs.declared.lower.Side.{Side}
 use Rattle.links.specs.declared.lower.Side.the-variants.{Previous, Next}
 use Rattle.links.specs.Links.{onSide}
-use Rattle.region.specs.Growth.{GapsSeen, Span, State, ownSpan, outside, usedUp, withGap, passesOn, start, sideOpen, isOpen, barred, growth}
+use Rattle.region.specs.Growth.{GapsSeen, Span, State, ownSpan, gapOutside, usedUp, grownBy, passesOn, start, sideOpen, isOpen, barred, growth}
 use Rattle.region.specs.Demand.{FailedBefore}
 use Rattle.region.proofs.Tries.{open-free, try-cases}
 
@@ -18,14 +18,14 @@ module _ (seen : GapsSeen) where
   abbrev Barred : Side → State → Type 0
   Barred side st = T (onSide side (st .left-barred) (st .right-barred))
 
-  later : (side : Side) (n : ℕ) (s t : Span) → outside side s ≡ outside side t → FailedBefore seen side n s → FailedBefore seen side (suc n) t
+  later : (side : Side) (n : ℕ) (s t : Span) → gapOutside side s ≡ gapOutside side t → FailedBefore seen side n s → FailedBefore seen side (suc n) t
   later side n s t e f = (f .0, le-trans (f .1) (more n), f .2 ∙ e, f .3)
     where
       more : (n : ℕ) → n ≤ suc n
       more n = omega arith
 
   -- growing on the other side leaves the gap just outside; on a barred side there is no growing
-  same-outside : (st : State) (side other : Side) → T (isOpen other seen st) → Barred side st → outside side (st .region) ≡ outside side (withGap other seen (st .region))
+  same-outside : (st : State) (side other : Side) → T (isOpen other seen st) → Barred side st → gapOutside side (st .region) ≡ gapOutside side (grownBy other seen (st .region))
   same-outside st Previous Previous o b = absurd (T-not (st .left-barred) (open-free seen Previous st o) b)
   same-outside st Previous Next o b = refl
   same-outside st Next Previous o b = refl
@@ -40,7 +40,7 @@ module _ (seen : GapsSeen) where
       none Next b = absurd b
   barred-failed side (suc n) =
       try-cases seen (λ (t : State). Barred side t → FailedBefore seen side (suc n) (t .region)) (growth seen n)
-      (λ other o _ b. later side n (growth seen n .region) (withGap other seen (growth seen n .region)) (same-outside (growth seen n) side other o b) (barred-failed side n b))
+      (λ other o _ b. later side n (growth seen n .region) (grownBy other seen (growth seen n .region)) (same-outside (growth seen n) side other o b) (barred-failed side n b))
       (λ other o f b. by-bar other side f (barred-failed side n) b) (λ _ b. later side n (growth seen n .region) (growth seen n .region) refl (barred-failed side n b))
     where
       by-bar : (other side : Side) → T (not (passesOn other seen (growth seen n .region))) → (Barred side (growth seen n) → FailedBefore seen side n (growth seen n .region)) → Barred side (barred other (growth seen n)) → FailedBefore seen side (suc n) (growth seen n .region)

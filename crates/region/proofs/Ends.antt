@@ -11,10 +11,10 @@ use lib.Ieee.{Float}
 use lib.Ieee.Fits.{and-l, and-r}
 use Rattle.numbers.specs.declared.MaybeInst.{MaybeInst}
 use Rattle.numbers.specs.declared.MaybeInst.the-variants.{At, Absent}
-use Rattle.numbers.proofs.Tests.{cond-both, cond-true, cond-false}
-use Rattle.links.proofs.Firsts.{split}
+use Rattle.columns.proofs.Tests.{cond-both, cond-true, cond-false}
+use Rattle.columns.proofs.Firsts.{split}
 use Rattle.links.specs.declared.lower.Side.the-variants.{Previous, Next}
-use Rattle.region.specs.Growth.{GapsSeen, Span, heaviestMet, numbersFrom, between, gapsOf}
+use Rattle.region.specs.Growth.{GapsSeen, Span, heaviestIn, numbersFrom, between, gapsIn}
 use Rattle.region.specs.Proposal.{endOf, proposalWith, proposalOf, fromEnd, beforeEnd, covers, those, gapsCovered}
 use Rattle.region.specs.Demand.{Around, In}
 use Rattle.region.proofs.Tries.{not-is, is-true}
@@ -186,9 +186,9 @@ module _ (seen : GapsSeen) (rising : (g : ℕ) → g + 1 < seen .count → seen 
   -- the gaps of a proposal's region are those of the region that it was made of
   module _ (s : Span) (around : Around seen s) where
     at-first : (g : ℕ) → g < seen .count → T (covers (proposalOf seen s) (seen .first g)) ↔ In s g
-    at-first g h = covers-exactly s around (heaviestMet seen s) g (seen .first g) h (le-refl (seen .first g)) (rising g)
+    at-first g h = covers-exactly s around (heaviestIn seen s) g (seen .first g) h (le-refl (seen .first g)) (rising g)
 
-    pub covered-gaps : gapsCovered seen (proposalOf seen s) ≡ gapsOf s
+    pub covered-gaps : gapsCovered seen (proposalOf seen s) ≡ gapsIn s
     covered-gaps =
         those-between (λ (g : ℕ). covers (proposalOf seen s) (seen .first g)) (s .left) (s .right) (seen .count) (le-trans (around .left) (le-of-lt (around .own))) (around .right)
         (λ g h l m. is-true (covers (proposalOf seen s) (seen .first g)) (at-first g h .1 (l, m)))

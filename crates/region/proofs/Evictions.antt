@@ -19,7 +19,7 @@ use Rattle.numbers.proofs.Normalised.{exceeds-rises, exceeds-lighter}
 use Rattle.numbers.proofs.Heaviest.{heaviest-weight, heaviest-above}
 use Rattle.numbers.proofs.Bits.{weight-back, bits-back, value-is}
 use Rattle.numbers.proofs.Chain.{chain-rises, chain-few, chain-bound}
-use Rattle.region.specs.Growth.{GapsSeen, ownSpan, passes, growth, weightsMet}
+use Rattle.region.specs.Growth.{GapsSeen, ownSpan, passes, growth, weightsIn}
 use Rattle.region.specs.Proposal.{proposalWith, proposalOf}
 use Rattle.region.specs.Demand.{SoundGaps}
 use Rattle.region.specs.Evictions.{Promise, Kept, MeetsCarrier, EvictsAfter, Evicts, Each, member, EvictionsEnd, promiseOf, Given, AfterTries, IsFound, promised}
@@ -159,7 +159,7 @@ pub early-kept : (seen : GapsSeen) → SoundGaps seen → T (passes seen (seen .
 unfolding proposalWith
 early-kept seen sound t n =
     let d = early-demand3 seen sound n t in
-    let e = sym (ap (weightsMet (seen .met)) (d .covered)) in
+    let e = sym (ap (weightsIn (seen .met)) (d .covered)) in
     record {
       finite = d .finite;
       weights = subst Weights e (growth-met seen sound n);

@@ -11,25 +11,26 @@ use lib.Ieee.{Float}
 use lib.ListN.{length, getD}
 use borrow.Author.Tests.{lt-ltb, le-ltb}
 use Rattle.numbers.specs.Weight.{Weight, finite, unitsOf, zeroWeight, heavier}
-use Rattle.numbers.proofs.Tests.{cond-true, cond-false}
+use Rattle.columns.proofs.Tests.{cond-true, cond-false}
 use Rattle.numbers.proofs.Units.{units-inj, zero-finite, zero-units}
 use Rattle.numbers.proofs.Heaviest.{heavier-weight, heavier-units, heaviest-weight}
-use Rattle.links.specs.First.{FirstIn}
-use Rattle.links.proofs.Firsts.{split}
+use Rattle.columns.specs.First.{FirstIn}
+use Rattle.columns.proofs.Firsts.{split}
 use Rattle.links.specs.declared.lower.Side.{Side}
 use Rattle.links.specs.declared.lower.Side.the-variants.{Previous, Next}
-use Rattle.walkers.specs.declared.meeting.Register.{Register}
-use Rattle.walkers.specs.declared.right.RightWalker.{RightWalker}
-use Rattle.walkers.specs.declared.left.LeftWalker.{LeftWalker}
-use Rattle.walkers.specs.Meeting.{Reserved, fixedMetAny, weightsMetAll}
-use Rattle.walkers.specs.Standing.{StandsRight, StandsLeft}
-use Rattle.walkers.specs.Gaps.{GapColumns, segmentsOfGap, heaviestInGap, OrderedGaps, GapsFrom, RightAt, LeftAt}
-use Rattle.walkers.proofs.GapWalk.{right-begins, left-begins, gaps-found}
-use Rattle.walkers.proofs.GapSegments.{all-weights}
+use Rattle.walks.specs.declared.meeting.Register.{Register}
+use Rattle.walks.specs.declared.right.RightWalker.{RightWalker}
+use Rattle.walks.specs.declared.left.LeftWalker.{LeftWalker}
+use Rattle.walks.specs.Meeting.{Reserved, fixedMetAny, weightsMetAll}
+use Rattle.walks.specs.Standing.{StandsRight, StandsLeft}
+use Rattle.walks.specs.Gaps.{segmentsOfGap, heaviestInGap, OrderedGaps, GapsFrom, RightAt, LeftAt}
+use Rattle.overlaps.specs.GapSegments.{SegmentColumns}
+use Rattle.walks.proofs.GapWalk.{right-begins, left-begins, gaps-found}
+use Rattle.walks.proofs.GapSegments.{all-weights}
 use Rattle.links.specs.Links.{onSide}
-use Rattle.region.specs.Growth.{GapsSeen, Span, State, gapsOf, weightsMet, ownSpan, growth, withGap, outside, passes, passesOn, isOpen, sideTried}
+use Rattle.region.specs.Growth.{GapsSeen, Span, State, gapsIn, weightsIn, ownSpan, growth, grownBy, gapOutside, passes, passesOn, isOpen, sideTried}
 use Rattle.region.specs.Demand.{SoundGaps}
-use Rattle.region.specs.Columns.{floats, spanOf, stateOf, grownOf, triedOf, testedOf, startAt, afterTry, Going}
+use Rattle.region.specs.Columns.{floatAt, spanOf, stateOf, grownOf, triedOf, testedOf, startAt, afterTry, Going}
 use Rattle.region.specs.Proposal.{regionOf}
 use Rattle.region.specs.declared.proposal.Region.the-variants.{Nothing}
 use Rattle.region.specs.declared.growth.Grown.{Grown}
@@ -54,14 +55,14 @@ barred-not-right : (t : Bool) (r : Grown) (growth : Growth) → afterTry Next (t
 barred-not-right true r growth e = refl
 barred-not-right false r growth e = absurd (true≢false e)
 
-module _ (p : Register) (t : Reserved) (g : GapColumns) (froms : List ℕ) (weights : List Float) (lives : List ℕ) (freqs : List Float) (own k : ℕ) where
+module _ (p : Register) (t : Reserved) (g : SegmentColumns) (froms : List ℕ) (weights : List Float) (lives : List ℕ) (freqs : List Float) (own k : ℕ) where
   abbrev seen : GapsSeen
   seen = seenBy p t g froms weights lives freqs own k
 
   module _ (table : InTable seen weights lives freqs) (s : Stand) (r : Reached seen p t g s) where
     -- the heaviest weight so far is a weight
     heaviest-is : Weight (s .growth .region .heaviest)
-    heaviest-is = subst (λ (x : Growth). Weight (x .region .heaviest)) (sym (r .going .is-after)) (heaviest-weight (weightsMet (seen .met) (gapsOf (growth seen (r .going .tries) .region))) (growth-met seen (table .sound) (r .going .tries)))
+    heaviest-is = subst (λ (x : Growth). Weight (x .region .heaviest)) (sym (r .going .is-after)) (heaviest-weight (weightsIn (seen .met) (gapsIn (growth seen (r .going .tries) .region))) (growth-met seen (table .sound) (r .going .tries)))
 
     -- a try can be made
     pub try-ready : (side : Side) → TurnOf seen (s .growth) (Try side) → Triable side weights lives (s .growth) × Standing side p t g s
@@ -90,7 +91,7 @@ module _ (p : Register) (t : Reserved) (g : GapColumns) (froms : List ℕ) (weig
 
     -- what is tried is what growth tries
     abbrev gapTried : Side → Tried
-    gapTried side = triedOf (passesOn side seen (spanOf (s .growth .region))) (grownOf seen (withGap side seen (spanOf (s .growth .region))))
+    gapTried side = triedOf (passesOn side seen (spanOf (s .growth .region))) (grownOf seen (grownBy side seen (spanOf (s .growth .region))))
 
     tried-is : (side : Side) → TurnOf seen (s .growth) (Try side) → triedOn side p t g weights lives k (s .growth) ≡ afterTry side (gapTried side) (s .growth)
     tried-is Previous turn = ap (λ (x : Tried). afterTry Previous x (s .growth)) (going-tested seen (table .sound) refl (s .growth) Previous (r .going) turn)
@@ -106,9 +107,9 @@ module _ (p : Register) (t : Reserved) (g : GapColumns) (froms : List ℕ) (weig
 
       left-after : (side : Side) → s' .growth ≡ afterTry side (gapTried side) (s .growth) → Moved side p t g s s' → s' .growth .«left_barred» ≡ false → Standing Previous p t g s'
       left-after Previous e m b =
-          let pass = barred-not (s .growth .region) (passesOn Previous seen (spanOf (s .growth .region))) (grownOf seen (withGap Previous seen (spanOf (s .growth .region)))) (s .growth) (sym (ap (λ (x : Growth). x .«left_barred») e) ∙ b) in
+          let pass = barred-not (s .growth .region) (passesOn Previous seen (spanOf (s .growth .region))) (grownOf seen (grownBy Previous seen (spanOf (s .growth .region)))) (s .growth) (sym (ap (λ (x : Growth). x .«left_barred») e) ∙ b) in
           let to : s' .growth .region .left ≡ s .growth .region .left - 1 =
-          ap (λ (x : Growth). x .region .left) e ∙ ap (λ (b : Bool). afterTry Previous (triedOf b (grownOf seen (withGap Previous seen (spanOf (s .growth .region))))) (s .growth) .region .left) pass in
+          ap (λ (x : Growth). x .region .left) e ∙ ap (λ (b : Bool). afterTry Previous (triedOf b (grownOf seen (grownBy Previous seen (spanOf (s .growth .region))))) (s .growth) .region .left) pass in
           subst (λ (n : ℕ). LeftAt p (t .rows) g n (s' .left)) (sym to) (m .0)
       left-after Next e m b =
           let same = next-left (passesOn Next seen (spanOf (s .growth .region))) in
@@ -116,15 +117,15 @@ module _ (p : Register) (t : Reserved) (g : GapColumns) (froms : List ℕ) (weig
           let to : s' .growth .region .left ≡ s .growth .region .left = ap (λ (x : Growth). x .region .left) e ∙ same .1 in
           subst (λ (n : ℕ). LeftAt p (t .rows) g n (s' .left)) (sym to) (subst (λ (w : LeftWalker). LeftAt p (t .rows) g (s .growth .region .left) w) (sym (m .1)) was)
         where
-          next-left : (b : Bool) → (afterTry Next (triedOf b (grownOf seen (withGap Next seen (spanOf (s .growth .region))))) (s .growth) .«left_barred» ≡ s .growth .«left_barred») × (afterTry Next (triedOf b (grownOf seen (withGap Next seen (spanOf (s .growth .region))))) (s .growth) .region .left ≡ s .growth .region .left)
+          next-left : (b : Bool) → (afterTry Next (triedOf b (grownOf seen (grownBy Next seen (spanOf (s .growth .region))))) (s .growth) .«left_barred» ≡ s .growth .«left_barred») × (afterTry Next (triedOf b (grownOf seen (grownBy Next seen (spanOf (s .growth .region))))) (s .growth) .region .left ≡ s .growth .region .left)
           next-left true = (refl, refl)
           next-left false = (refl, refl)
 
       right-after : (side : Side) → s' .growth ≡ afterTry side (gapTried side) (s .growth) → Moved side p t g s s' → s' .growth .«right_barred» ≡ false → Standing Next p t g s'
       right-after Next e m b =
-          let pass = barred-not-right (passesOn Next seen (spanOf (s .growth .region))) (grownOf seen (withGap Next seen (spanOf (s .growth .region)))) (s .growth) (sym (ap (λ (x : Growth). x .«right_barred») e) ∙ b) in
+          let pass = barred-not-right (passesOn Next seen (spanOf (s .growth .region))) (grownOf seen (grownBy Next seen (spanOf (s .growth .region)))) (s .growth) (sym (ap (λ (x : Growth). x .«right_barred») e) ∙ b) in
           let to : s' .growth .region .right ≡ s .growth .region .right + 1 =
-          ap (λ (x : Growth). x .region .right) e ∙ ap (λ (b : Bool). afterTry Next (triedOf b (grownOf seen (withGap Next seen (spanOf (s .growth .region))))) (s .growth) .region .right) pass in
+          ap (λ (x : Growth). x .region .right) e ∙ ap (λ (b : Bool). afterTry Next (triedOf b (grownOf seen (grownBy Next seen (spanOf (s .growth .region))))) (s .growth) .region .right) pass in
           subst (λ (n : ℕ). RightAt p (t .rows) g n (s' .right)) (sym to) (m .0)
       right-after Previous e m b =
           let same = previous-right (passesOn Previous seen (spanOf (s .growth .region))) in
@@ -132,7 +133,7 @@ module _ (p : Register) (t : Reserved) (g : GapColumns) (froms : List ℕ) (weig
           let to : s' .growth .region .right ≡ s .growth .region .right = ap (λ (x : Growth). x .region .right) e ∙ same .1 in
           subst (λ (n : ℕ). RightAt p (t .rows) g n (s' .right)) (sym to) (subst (λ (w : RightWalker). RightAt p (t .rows) g (s .growth .region .right) w) (sym (m .1)) was)
         where
-          previous-right : (b : Bool) → (afterTry Previous (triedOf b (grownOf seen (withGap Previous seen (spanOf (s .growth .region))))) (s .growth) .«right_barred» ≡ s .growth .«right_barred») × (afterTry Previous (triedOf b (grownOf seen (withGap Previous seen (spanOf (s .growth .region))))) (s .growth) .region .right ≡ s .growth .region .right)
+          previous-right : (b : Bool) → (afterTry Previous (triedOf b (grownOf seen (grownBy Previous seen (spanOf (s .growth .region))))) (s .growth) .«right_barred» ≡ s .growth .«right_barred») × (afterTry Previous (triedOf b (grownOf seen (grownBy Previous seen (spanOf (s .growth .region))))) (s .growth) .region .right ≡ s .growth .region .right)
           previous-right true = (refl, refl)
           previous-right false = (refl, refl)
 
@@ -150,7 +151,7 @@ module _ (p : Register) (t : Reserved) (g : GapColumns) (froms : List ℕ) (weig
 
 -- ---- the start
 -- a walker to the right stands before the own gap's rows, and one to the left behind the rows before it
-module _ (p : Register) (t : Reserved) (g : GapColumns) (ordered : OrderedGaps g) (long : g .used ≡ length (g .from)) (own next : ℕ) (found : FirstIn (λ (k : ℕ). leb own (getD (g .gap) k 0)) 0 (g .used) next) where
+module _ (p : Register) (t : Reserved) (g : SegmentColumns) (ordered : OrderedGaps g) (long : g .used ≡ length (g .from)) (own next : ℕ) (found : FirstIn (λ (k : ℕ). leb own (getD (g .gap) k 0)) 0 (g .used) next) where
   abbrev point : ℕ
   point = pointAt (g .from) next
 
@@ -190,16 +191,16 @@ tried-grows : (b : Bool) (r s : Grown) → triedOf b r ≡ Grows s → T b × (s
 tried-grows true r s e = (tt, sym (ap (λ (x : Tried). elim x [ Grows y ↦ y | Fails ↦ r ]) e))
 tried-grows false r s e = absurd (true≢false (ap (λ (x : Tried). elim x [ Grows _ ↦ false | Fails ↦ true ]) e))
 
-module _ (p : Register) (t : Reserved) (g : GapColumns) (froms : List ℕ) (weights : List Float) (lives : List ℕ) (freqs : List Float) (own k : ℕ) (table : InTable (seenBy p t g froms weights lives freqs own k) weights lives freqs)
+module _ (p : Register) (t : Reserved) (g : SegmentColumns) (froms : List ℕ) (weights : List Float) (lives : List ℕ) (freqs : List Float) (own k : ℕ) (table : InTable (seenBy p t g froms weights lives freqs own k) weights lives freqs)
     {free : Bool} {top : Float} {tried : Tried} (fixed-is : free ≡ fixedMetAny p t (segmentsOfGap g own)) (top-is : top ≡ heaviestInGap p t g own zeroWeight)
-    (tested : tried ≡ testedOf (not free) (record { left = own; right = own; weight = zeroWeight; insts = 0; heaviest = zeroWeight }) (floats weights own) 1 top k own (own + 1)) where
+    (tested : tried ≡ testedOf (not free) (record { left = own; right = own; weight = zeroWeight; insts = 0; heaviest = zeroWeight }) (floatAt weights own) 1 top k own (own + 1)) where
   abbrev view : GapsSeen
   view = seenBy p t g froms weights lives freqs own k
 
   own-tried : tried ≡ triedOf (passes view own (ownSpan view)) (grownOf view (ownSpan view))
   own-tried =
       tested
-      ∙ ap₂ (λ (f : Bool) (h : Float). testedOf (not f) (record { left = own; right = own; weight = zeroWeight; insts = 0; heaviest = zeroWeight }) (floats weights own) 1 h k own (own + 1)) fixed-is
+      ∙ ap₂ (λ (f : Bool) (h : Float). testedOf (not f) (record { left = own; right = own; weight = zeroWeight; insts = 0; heaviest = zeroWeight }) (floatAt weights own) 1 h k own (own + 1)) fixed-is
       (top-is ∙ heavier-zero (heaviest-weight (weightsMetAll p t (segmentsOfGap g own)) (all-weights p t (segmentsOfGap g own))))
       ∙ tested-own view refl (table .sound .weights own (table .sound .inside))
 

@@ -8,15 +8,15 @@ use mathlib.Core.List.{List, append-nil}
 use lib.Dec.{T, lit<}
 use lib.Ieee.{Float, binary32, add}
 use Rattle.numbers.specs.Weight.{Weight, finite, unitsOf, zeroWeight, heavier, heaviest, Weights}
-use Rattle.numbers.proofs.Tests.{cond-both, cond-true, cond-false}
+use Rattle.columns.proofs.Tests.{cond-both, cond-true, cond-false}
 use Rattle.numbers.proofs.Units.{units-inj, zero-finite, zero-units}
 use Rattle.numbers.proofs.Rounding.{rounded, round-fixed}
 use Rattle.numbers.proofs.Operations.{sum-weight, sum-units}
 use Rattle.links.specs.declared.lower.Side.{Side}
-use Rattle.region.specs.Growth.{GapsSeen, Span, State, ownSpan, gapsOf, weightsMet, heaviestMet, weightTest, outside, withGap, passes, passesOn, isOpen, sideTried, barred, grows, tryOn, tryAt, try, growth, grown}
+use Rattle.region.specs.Growth.{GapsSeen, Span, State, ownSpan, gapsIn, weightsIn, heaviestIn, weightTest, gapOutside, grownBy, passes, passesOn, isOpen, sideTried, barred, grows, tryOn, tryAt, try, growth, grown}
 use Rattle.region.specs.Proposal.{proposalWith, proposalOf, regionOf}
 use Rattle.region.specs.Demand.{Around, Ended, SoundGaps}
-use Rattle.region.specs.Columns.{grownOf, growthOf, spanOf, stateOf, Inside, CountFits, triedOf, testedOf, startAt, afterTry, Going}
+use Rattle.region.specs.Columns.{grownOf, growthOf, spanOf, stateOf, InsideGaps, CountFits, triedOf, testedOf, startAt, afterTry, Going}
 use Rattle.region.specs.declared.growth.Grown.{Grown}
 use Rattle.region.specs.declared.growth.Growth.{Growth}
 use Rattle.region.specs.declared.growth.Tried.{Tried}
@@ -53,32 +53,32 @@ module _ (seen : GapsSeen) where
 
   -- ---- the region with one more gap, by what the code knows of the gap
   pub tested-step : seen .numerator ≡ 2007 → (st : State) (side : Side) → T (isOpen side seen st) → Around seen (st .region)
-      → Weights (weightsMet (seen .met) (gapsOf (st .region))) → Weights (seen .met (outside side (st .region)))
-      → testedOf (not (seen .fixed (outside side (st .region)))) (grownOf seen (st .region)) (seen .weight (outside side (st .region))) (seen .live (outside side (st .region))) (heavier (heaviestMet seen (st .region)) (heaviest (seen .met (outside side (st .region))))) (seen .k) (withGap side seen (st .region) .left) (withGap side seen (st .region) .right)
-      ≡ triedOf (passesOn side seen (st .region)) (grownOf seen (withGap side seen (st .region)))
+      → Weights (weightsIn (seen .met) (gapsIn (st .region))) → Weights (seen .met (gapOutside side (st .region)))
+      → testedOf (not (seen .fixed (gapOutside side (st .region)))) (grownOf seen (st .region)) (seen .weight (gapOutside side (st .region))) (seen .live (gapOutside side (st .region))) (heavier (heaviestIn seen (st .region)) (heaviest (seen .met (gapOutside side (st .region))))) (seen .k) (grownBy side seen (st .region) .left) (grownBy side seen (st .region) .right)
+      ≡ triedOf (passesOn side seen (st .region)) (grownOf seen (grownBy side seen (st .region)))
   tested-step e st side o a p q =
       let s = st .region in
-      ap (λ (h : Float). testedOf (not (seen .fixed (outside side s))) (grownOf seen s) (seen .weight (outside side s)) (seen .live (outside side s)) h (seen .k) (withGap side seen s .left) (withGap side seen s .right))
+      ap (λ (h : Float). testedOf (not (seen .fixed (gapOutside side s))) (grownOf seen s) (seen .weight (gapOutside side s)) (seen .live (gapOutside side s)) h (seen .k) (grownBy side seen s .left) (grownBy side seen s .right))
       (sym (heaviest-with-gap seen st side o a p q))
       ∙ tested-is side seen s e
 
   -- what the code's steps rely on
-  pub growth-inside : seen .own < seen .count → (n : ℕ) → Inside (seen .count) (grownOf seen (growth seen n .region))
+  pub growth-inside : seen .own < seen .count → (n : ℕ) → InsideGaps (seen .count) (grownOf seen (growth seen n .region))
   growth-inside h n = let a = growth-around seen h n in record { some = le-trans (suc-le-suc (a .left)) (a .own); inside = a .right }
 
-  pub growth-count-fits : SoundGaps seen → (n : ℕ) (side : Side) → T (isOpen side seen (growth seen n)) → CountFits (grownOf seen (growth seen n .region)) (seen .live (outside side (growth seen n .region)))
+  pub growth-count-fits : SoundGaps seen → (n : ℕ) (side : Side) → T (isOpen side seen (growth seen n)) → CountFits (grownOf seen (growth seen n .region)) (seen .live (gapOutside side (growth seen n .region)))
   growth-count-fits sound n side o =
-      below (growth seen n .region .insts + seen .live (outside side (growth seen n .region))) (seen .k) (2 ^ 24) (2 ^ 32) (tried-insts-few seen sound n side o) (lit< tt)
+      below (growth seen n .region .insts + seen .live (gapOutside side (growth seen n .region))) (seen .k) (2 ^ 24) (2 ^ 32) (tried-insts-few seen sound n side o) (lit< tt)
     where
       below : (a k m b : ℕ) → a + k ≤ m → m < b → a < b
       below a k m b h l = omega arith
 
   -- ---- growth after a try, as the code holds it
-  pub after-try : (st : State) (side : Side) → afterTry side (triedOf (passesOn side seen (st .region)) (grownOf seen (withGap side seen (st .region)))) (growthOf seen st) ≡ growthOf seen (tryOn side seen st)
+  pub after-try : (st : State) (side : Side) → afterTry side (triedOf (passesOn side seen (st .region)) (grownOf seen (grownBy side seen (st .region)))) (growthOf seen st) ≡ growthOf seen (tryOn side seen st)
   unfolding tryOn
   after-try st side = by (passesOn side seen (st .region))
     where
-      by : (t : Bool) → afterTry side (triedOf t (grownOf seen (withGap side seen (st .region)))) (growthOf seen st) ≡ growthOf seen (cond t (grows side seen st) (barred side st))
+      by : (t : Bool) → afterTry side (triedOf t (grownOf seen (grownBy side seen (st .region)))) (growthOf seen st) ≡ growthOf seen (cond t (grows side seen st) (barred side st))
       by true = refl
       by false = refl
 
@@ -95,9 +95,9 @@ module _ (seen : GapsSeen) where
       none a = omega arith
 
   -- the own gap alone meets what that gap meets
-  pub heaviest-own : heaviestMet seen (ownSpan seen) ≡ heaviest (seen .met (seen .own))
-  unfolding weightsMet
-  heaviest-own = ap (λ (gs : List ℕ). heaviest (weightsMet (seen .met) gs)) (between-one (seen .own)) ∙ ap heaviest (append-nil (seen .met (seen .own)))
+  pub heaviest-own : heaviestIn seen (ownSpan seen) ≡ heaviest (seen .met (seen .own))
+  unfolding weightsIn
+  heaviest-own = ap (λ (gs : List ℕ). heaviest (weightsIn (seen .met) gs)) (between-one (seen .own)) ∙ ap heaviest (append-nil (seen .met (seen .own)))
 
   pub tested-own : seen .numerator ≡ 2007 → Weight (seen .weight (seen .own))
       → testedOf (not (seen .fixed (seen .own))) noGap (seen .weight (seen .own)) 1 (heaviest (seen .met (seen .own))) (seen .k) (seen .own) (seen .own + 1)
@@ -140,12 +140,12 @@ module _ (seen : GapsSeen) where
   unfolding growth
   going-start t = record { own-passes = t; tries = 0; is-after = refl }
 
-  pub going-inside : seen .own < seen .count → (now : Growth) → Going seen now → Inside (seen .count) (now .region)
-  going-inside h now g = subst (λ (x : Growth). Inside (seen .count) (x .region)) (sym (g .is-after)) (growth-inside h (g .tries))
+  pub going-inside : seen .own < seen .count → (now : Growth) → Going seen now → InsideGaps (seen .count) (now .region)
+  going-inside h now g = subst (λ (x : Growth). InsideGaps (seen .count) (x .region)) (sym (g .is-after)) (growth-inside h (g .tries))
 
   -- what is tried on the side whose turn it is
   abbrev pub Tries : Growth → Side → Tried → Type 0
-  Tries now side t = t ≡ triedOf (passesOn side seen (spanOf (now .region))) (grownOf seen (withGap side seen (spanOf (now .region))))
+  Tries now side t = t ≡ triedOf (passesOn side seen (spanOf (now .region))) (grownOf seen (grownBy side seen (spanOf (now .region))))
 
   abbrev pub TurnOf : Growth → Turn → Type 0
   TurnOf now t = t ≡ sideTried (seen .count) (seen .freq) (seen .live) (stateOf now)
@@ -196,7 +196,7 @@ module _ (seen : GapsSeen) where
   -- ---- what the code knows of the gap tried
   -- a gap that is free, with the heaviest weight of the region and of the gap
   pub going-tested : SoundGaps seen → seen .numerator ≡ 2007 → (now : Growth) (side : Side) → Going seen now → TurnOf now (Try side)
-      → Tries now side (testedOf (not (seen .fixed (outside side (spanOf (now .region))))) (now .region) (seen .weight (outside side (spanOf (now .region)))) (seen .live (outside side (spanOf (now .region)))) (heavier (now .region .heaviest) (heaviest (seen .met (outside side (spanOf (now .region)))))) (seen .k) (withGap side seen (spanOf (now .region)) .left) (withGap side seen (spanOf (now .region)) .right))
+      → Tries now side (testedOf (not (seen .fixed (gapOutside side (spanOf (now .region))))) (now .region) (seen .weight (gapOutside side (spanOf (now .region)))) (seen .live (gapOutside side (spanOf (now .region)))) (heavier (now .region .heaviest) (heaviest (seen .met (gapOutside side (spanOf (now .region)))))) (seen .k) (grownBy side seen (spanOf (now .region)) .left) (grownBy side seen (spanOf (now .region)) .right))
   going-tested sound e now side g turn =
       let st = growth seen (g .tries) in
       let f = g .is-after in
@@ -204,19 +204,19 @@ module _ (seen : GapsSeen) where
       let o = turn-open st side (sym (subst (λ (x : Growth). TurnOf x (Try side)) f turn)) in
       subst
       (λ (x : Growth). Tries x side
-      (testedOf (not (seen .fixed (outside side (spanOf (x .region))))) (x .region) (seen .weight (outside side (spanOf (x .region)))) (seen .live (outside side (spanOf (x .region)))) (heavier (x .region .heaviest) (heaviest (seen .met (outside side (spanOf (x .region)))))) (seen .k) (withGap side seen (spanOf (x .region)) .left) (withGap side seen (spanOf (x .region)) .right)))
-      (sym f) (tested-step e st side o a (growth-met seen sound (g .tries)) (sound .met (outside side (st .region)) (outside-inside seen st side o a)))
+      (testedOf (not (seen .fixed (gapOutside side (spanOf (x .region))))) (x .region) (seen .weight (gapOutside side (spanOf (x .region)))) (seen .live (gapOutside side (spanOf (x .region)))) (heavier (x .region .heaviest) (heaviest (seen .met (gapOutside side (spanOf (x .region)))))) (seen .k) (grownBy side seen (spanOf (x .region)) .left) (grownBy side seen (spanOf (x .region)) .right)))
+      (sym f) (tested-step e st side o a (growth-met seen sound (g .tries)) (sound .met (gapOutside side (st .region)) (outside-inside seen st side o a)))
 
-  pub going-count-fits : SoundGaps seen → (now : Growth) (side : Side) → Going seen now → TurnOf now (Try side) → CountFits (now .region) (seen .live (outside side (spanOf (now .region))))
+  pub going-count-fits : SoundGaps seen → (now : Growth) (side : Side) → Going seen now → TurnOf now (Try side) → CountFits (now .region) (seen .live (gapOutside side (spanOf (now .region))))
   going-count-fits sound now side g turn =
       let f = g .is-after in
-      subst (λ (x : Growth). CountFits (x .region) (seen .live (outside side (spanOf (x .region))))) (sym f)
+      subst (λ (x : Growth). CountFits (x .region) (seen .live (gapOutside side (spanOf (x .region))))) (sym f)
       (growth-count-fits sound (g .tries) side (turn-open (growth seen (g .tries)) side (sym (subst (λ (x : Growth). TurnOf x (Try side)) f turn))))
 
   -- the gap tried is one of the table's
-  pub going-gap : SoundGaps seen → (now : Growth) (side : Side) → Going seen now → TurnOf now (Try side) → outside side (spanOf (now .region)) < seen .count
+  pub going-gap : SoundGaps seen → (now : Growth) (side : Side) → Going seen now → TurnOf now (Try side) → gapOutside side (spanOf (now .region)) < seen .count
   going-gap sound now side g turn =
       let st = growth seen (g .tries) in
       let f = g .is-after in
-      subst (λ (x : Growth). outside side (spanOf (x .region)) < seen .count) (sym f)
+      subst (λ (x : Growth). gapOutside side (spanOf (x .region)) < seen .count) (sym f)
       (outside-inside seen st side (turn-open st side (sym (subst (λ (x : Growth). TurnOf x (Try side)) f turn))) (growth-around seen (sound .inside) (g .tries)))

@@ -10,14 +10,14 @@ use lib.Ieee.{Float}
 use lib.Ieee.Fits.{and-l, and-r}
 use Rattle.numbers.specs.Weight.{Finite, Weight, finite, unitsOf, zeroWeight, Weights, Among}
 use Rattle.numbers.specs.Normal.{normalised, exceeds}
-use Rattle.numbers.proofs.Tests.{cond-both}
+use Rattle.columns.proofs.Tests.{cond-both}
 use Rattle.numbers.proofs.Units.{zero-finite}
 use Rattle.numbers.proofs.Operations.{sum-weight}
 use Rattle.numbers.proofs.Normalised.{normalised-finite}
 use Rattle.numbers.proofs.Heaviest.{heaviest-weight, heaviest-among, heaviest-above}
 use Rattle.links.specs.declared.lower.Side.{Side}
 use Rattle.links.specs.declared.lower.Side.the-variants.{Previous, Next}
-use Rattle.region.specs.Growth.{GapsSeen, State, ownSpan, gapsOf, weightsMet, heaviestMet, normalisedOf, weightTest, outside, usedUp, withGap, passes, passesOn, isOpen, growth, grown}
+use Rattle.region.specs.Growth.{GapsSeen, State, ownSpan, gapsIn, weightsIn, heaviestIn, normalisedOf, weightTest, gapOutside, usedUp, grownBy, passes, passesOn, isOpen, growth, grown}
 use Rattle.region.specs.Proposal.{freqOutside, splitCost, proposalWith, proposalOf, regionOf}
 use Rattle.region.specs.Demand.{Around, Ended, In, MeetsFixed, sumOver, addedTo, gapsBeside, gapsGrown, FailedBefore, SoundGaps, Demand3}
 use Rattle.region.specs.declared.proposal.SplitProposal.{SplitProposal}
@@ -31,7 +31,7 @@ use Rattle.region.proofs.Barred.{shut-why}
 -- ---- growth at every try
 module _ (seen : GapsSeen) where
   -- a gap of the region with one more is that gap or one of the region
-  in-grown : (st : State) (side : Side) (g : ℕ) → T (isOpen side seen st) → In (withGap side seen (st .region)) g → (outside side (st .region) ≡ g) ⊎ In (st .region) g
+  in-grown : (st : State) (side : Side) (g : ℕ) → T (isOpen side seen st) → In (grownBy side seen (st .region)) g → (gapOutside side (st .region) ≡ g) ⊎ In (st .region) g
   in-grown st Previous g o i =
       elim (eq-or-lt-of-le (i .0)) [ inl e ↦ inl e | inr l ↦ inr (up (st .region .left) g (open-left seen st o) l, i .1) ]
     where
@@ -44,11 +44,11 @@ module _ (seen : GapsSeen) where
       down g r l = omega arith
 
   -- no gap of a region that meets no fixed one is fixed: so is one more gap that passes
-  free-grown : (st : State) (side : Side) → T (isOpen side seen st) → T (passesOn side seen (st .region)) → (MeetsFixed seen (st .region) → ⊥) → MeetsFixed seen (withGap side seen (st .region)) → ⊥
+  free-grown : (st : State) (side : Side) → T (isOpen side seen st) → T (passesOn side seen (st .region)) → (MeetsFixed seen (st .region) → ⊥) → MeetsFixed seen (grownBy side seen (st .region)) → ⊥
   unfolding passes
   free-grown st side o t h m =
       elim (in-grown st side (m .0) o (m .1)) [
-        | inl e ↦ T-not (seen .fixed (outside side (st .region))) (and-l (not (seen .fixed (outside side (st .region)))) (weightTest seen (withGap side seen (st .region))) t) (subst (λ (g : ℕ). T (seen .fixed g)) (sym e) (m .2))
+        | inl e ↦ T-not (seen .fixed (gapOutside side (st .region))) (and-l (not (seen .fixed (gapOutside side (st .region)))) (weightTest seen (grownBy side seen (st .region))) t) (subst (λ (g : ℕ). T (seen .fixed g)) (sym e) (m .2))
         | inr i ↦ h (m .0, i, m .2)
       ]
 
@@ -72,14 +72,14 @@ module _ (seen : GapsSeen) where
     unfolding passes
     growth-tested =
         growth-keeps seen (λ (st : State). T (weightTest seen (st .region))) (and-r (not (seen .fixed (seen .own))) (weightTest seen (ownSpan seen)) own-passes)
-        (λ st side o t h. and-r (not (seen .fixed (outside side (st .region)))) (weightTest seen (withGap side seen (st .region))) t) (λ st side o h. h)
+        (λ st side o t h. and-r (not (seen .fixed (gapOutside side (st .region)))) (weightTest seen (grownBy side seen (st .region))) t) (λ st side o h. h)
 
   module _ (sound : SoundGaps seen) (n : ℕ) where
     around : Around seen (growth seen n .region)
     around = growth-around seen (sound .inside) n
 
     -- the weights met by every region on the way are weights
-    pub growth-met : Weights (weightsMet (seen .met) (gapsOf (growth seen n .region)))
+    pub growth-met : Weights (weightsIn (seen .met) (gapsIn (growth seen n .region)))
     growth-met = met-weights seen (growth seen n .region) (λ g i. sound .met g (le-trans (i .1) (around .right)))
 
     -- its use weight is a weight
@@ -87,7 +87,7 @@ module _ (seen : GapsSeen) where
     unfolding growth
     growth-weight =
         growth-keeps seen (λ (st : State). Around seen (st .region) × Weight (st .region .weight)) (growth-around seen (sound .inside) 0, sound .weights (seen .own) (sound .inside))
-        (λ st side o _ h. (around-grows seen st side o (h .0), sum-weight (h .1) (sound .weights (outside side (st .region)) (outside-inside seen st side o (h .0)))))
+        (λ st side o _ h. (around-grows seen st side o (h .0), sum-weight (h .1) (sound .weights (gapOutside side (st .region)) (outside-inside seen st side o (h .0)))))
         (λ st side o h. h) n .1
 
     -- its normalised weight is finite
@@ -111,14 +111,14 @@ module _ (seen : GapsSeen) where
     growth-split-cost = sum-weight (outside-weight Previous) (outside-weight Next)
 
     -- the heaviest weight it meets is zero or met by one of its gaps
-    pub growth-heaviest-met : (heaviestMet seen (growth seen n .region) ≡ zeroWeight) ⊎ ((g : ℕ) × In (growth seen n .region) g × Among (heaviestMet seen (growth seen n .region)) (seen .met g))
+    pub growth-heaviest-met : (heaviestIn seen (growth seen n .region) ≡ zeroWeight) ⊎ ((g : ℕ) × In (growth seen n .region) g × Among (heaviestIn seen (growth seen n .region)) (seen .met g))
     growth-heaviest-met =
         let s = growth seen n .region in
-        elim (heaviest-among (weightsMet (seen .met) (gapsOf s))) [ inl e ↦ inl e | inr a ↦ inr (gap-of-met seen s (heaviestMet seen s) a) ]
+        elim (heaviest-among (weightsIn (seen .met) (gapsIn s))) [ inl e ↦ inl e | inr a ↦ inr (gap-of-met seen s (heaviestIn seen s) a) ]
 
     -- none of its gaps meets a heavier one
-    pub growth-none-heavier : (g : ℕ) → In (growth seen n .region) g → (w : Float) → Among w (seen .met g) → unitsOf w ≤ unitsOf (heaviestMet seen (growth seen n .region))
-    growth-none-heavier g i w a = heaviest-above (weightsMet (seen .met) (gapsOf (growth seen n .region))) growth-met w (met-of-gap seen (growth seen n .region) g w i a)
+    pub growth-none-heavier : (g : ℕ) → In (growth seen n .region) g → (w : Float) → Among w (seen .met g) → unitsOf w ≤ unitsOf (heaviestIn seen (growth seen n .region))
+    growth-none-heavier g i w a = heaviest-above (weightsIn (seen .met) (gapsIn (growth seen n .region))) growth-met w (met-of-gap seen (growth seen n .region) g w i a)
 
     -- demand 3 of a proposal before growth is finished
     pub early-demand3 : T (passes seen (seen .own) (ownSpan seen)) → Demand3 seen (growth seen n) (proposalOf seen (growth seen n .region))
@@ -132,7 +132,7 @@ module _ (seen : GapsSeen) where
           none-heavier = growth-none-heavier;
           finite = growth-finite;
           strict = growth-tested t n;
-          weights = (growth-weight, heaviest-weight (weightsMet (seen .met) (gapsOf (growth seen n .region))) growth-met, growth-split-cost);
+          weights = (growth-weight, heaviest-weight (weightsIn (seen .met) (gapsIn (growth seen n .region))) growth-met, growth-split-cost);
         }
 
 -- ---- the answer
@@ -209,7 +209,7 @@ module _ (seen : GapsSeen) where
       found-no-fixed = found-demand3 .no-fixed
 
       -- its interference weight is the heaviest of all weights that its region meets
-      pub found-heaviest : p .«interference_weight» ≡ heaviestMet seen (growth seen (seen .count + 1) .region)
+      pub found-heaviest : p .«interference_weight» ≡ heaviestIn seen (growth seen (seen .count + 1) .region)
       unfolding proposalWith
       found-heaviest = ap (λ (q : SplitProposal). q .«interference_weight») found-is-grown
 

@@ -6,9 +6,10 @@ use native.Mathlib.Omega.{arith}
 use mathlib.Core.List.{List, [], _∷_, _++_, append-assoc}
 use lib.Dec.{T}
 use lib.Ieee.{Float, binary32, add}
+use Rattle.numbers.specs.Sum.{plus}
 use Rattle.links.specs.declared.lower.Side.{Side}
 use Rattle.links.specs.declared.lower.Side.the-variants.{Previous, Next}
-use Rattle.region.specs.Growth.{GapsSeen, Span, State, ownSpan, numbersFrom, between, outside, withGap, isOpen, try, growth}
+use Rattle.region.specs.Growth.{GapsSeen, Span, State, ownSpan, numbersFrom, between, gapOutside, grownBy, isOpen, try, growth}
 use Rattle.region.specs.Demand.{Around, sumOver, addedTo, gapsBeside, gapsGrown, SoundGaps}
 use Rattle.region.proofs.Tries.{open-left, open-right, try-cases, around-grows, growth-around}
 
@@ -113,13 +114,13 @@ sum-between f a b c l m =
 
 -- ---- weights added
 added-append : (w : Float) (weight : ℕ → Float) (xs ys : List ℕ) → addedTo w weight (xs ++ ys) ≡ addedTo (addedTo w weight xs) weight ys
-unfolding addedTo
+unfolding plus
 added-append w weight [] ys = refl
 added-append w weight (x ∷ xs) ys = added-append (add binary32 w (weight x)) weight xs ys
 
 module _ (seen : GapsSeen) where
   -- the gap just outside on an open side is a gap of the table
-  pub outside-inside : (st : State) (side : Side) → T (isOpen side seen st) → Around seen (st .region) → outside side (st .region) < seen .count
+  pub outside-inside : (st : State) (side : Side) → T (isOpen side seen st) → Around seen (st .region) → gapOutside side (st .region) < seen .count
   outside-inside st Previous o a = below (st .region .left) (seen .own) (seen .count) (open-left seen st o) (a .left) (le-trans (a .own) (a .right))
     where
       below : (l o c : ℕ) → 0 < l → l ≤ o → o < c → l - 1 < c
@@ -134,14 +135,14 @@ module _ (seen : GapsSeen) where
     pub beside : (f : ℕ → ℕ) → sumOver f (gapsBeside (ownSpan seen) t) ≡ sumOver f (gapsBeside (ownSpan seen) s) + sumOver f gs
 
   adds-none : (s : Span) → Adds s s []
-  unfolding addedTo sumOver
+  unfolding plus sumOver
   adds-none s = record { weight = refl; insts = none (s .insts); beside = λ f. none (sumOver f (gapsBeside (ownSpan seen) s)) }
     where
       none : (a : ℕ) → a ≡ a + 0
       none a = omega arith
 
-  adds-one : (st : State) (side : Side) → T (isOpen side seen st) → Around seen (st .region) → Adds (st .region) (withGap side seen (st .region)) (outside side (st .region) ∷ [])
-  unfolding addedTo
+  adds-one : (st : State) (side : Side) → T (isOpen side seen st) → Around seen (st .region) → Adds (st .region) (grownBy side seen (st .region)) (gapOutside side (st .region) ∷ [])
+  unfolding plus
   adds-one st Previous o a =
       let s = st .region in
       let g = s .left - 1 in
@@ -175,7 +176,7 @@ module _ (seen : GapsSeen) where
       up a b l = omega arith
 
   -- those are the gaps beside the smaller region
-  beside-one : (st : State) (side : Side) → T (isOpen side seen st) → gapsBeside (st .region) (withGap side seen (st .region)) ≡ outside side (st .region) ∷ []
+  beside-one : (st : State) (side : Side) → T (isOpen side seen st) → gapsBeside (st .region) (grownBy side seen (st .region)) ≡ gapOutside side (st .region) ∷ []
   beside-one st Previous o =
       let s = st .region in
       ap₂ (λ (xs ys : List ℕ). xs ++ ys)
@@ -188,7 +189,7 @@ module _ (seen : GapsSeen) where
   try-adds : (st : State) → Around seen (st .region) → Adds (st .region) (try seen st .region) (gapsBeside (st .region) (try seen st .region))
   try-adds st a =
       try-cases seen (λ (t : State). Adds (st .region) (t .region) (gapsBeside (st .region) (t .region))) st
-      (λ side o _. subst (Adds (st .region) (withGap side seen (st .region))) (sym (beside-one st side o)) (adds-one st side o a))
+      (λ side o _. subst (Adds (st .region) (grownBy side seen (st .region))) (sym (beside-one st side o)) (adds-one st side o a))
       (λ side o _. same) (λ _. same)
     where
       same : Adds (st .region) (st .region) (gapsBeside (st .region) (st .region))
@@ -200,7 +201,7 @@ module _ (seen : GapsSeen) where
 
     -- the weight is the own gap's, and then those of the gaps grown, added in the order grown
     pub weight-in-order : (n : ℕ) → growth seen n .region .weight ≡ addedTo (seen .weight (seen .own)) (seen .weight) (gapsGrown seen n)
-    unfolding growth gapsGrown addedTo
+    unfolding growth gapsGrown plus
     weight-in-order zero = refl
     weight-in-order (suc n) =
         let gs = gapsBeside (growth seen n .region) (try seen (growth seen n) .region) in
@@ -280,14 +281,14 @@ module _ (seen : GapsSeen) where
         few i b t k m e l h = omega arith
 
     -- and so are those of the region with one more gap
-    pub tried-insts-few : (side : Side) → T (isOpen side seen (growth seen n)) → growth seen n .region .insts + seen .live (outside side (growth seen n .region)) + seen .k ≤ 2 ^ 24
+    pub tried-insts-few : (side : Side) → T (isOpen side seen (growth seen n)) → growth seen n .region .insts + seen .live (gapOutside side (growth seen n .region)) + seen .k ≤ 2 ^ 24
     tried-insts-few side o =
         let st = growth seen n in
         let a = growth-around seen (sound .inside) n in
-        let g = outside side (st .region) in
-        few (st .region .insts) (sumOver (seen .live) (gapsBeside (ownSpan seen) (st .region))) (seen .live g) (sumOver (seen .live) (g ∷ [])) (sumOver (seen .live) (gapsBeside (ownSpan seen) (withGap side seen (st .region))))
+        let g = gapOutside side (st .region) in
+        few (st .region .insts) (sumOver (seen .live) (gapsBeside (ownSpan seen) (st .region))) (seen .live g) (sumOver (seen .live) (g ∷ [])) (sumOver (seen .live) (gapsBeside (ownSpan seen) (grownBy side seen (st .region))))
         (sumOver (seen .live) (between 0 (seen .count))) (seen .k) (2 ^ 24) counted (sum-one (seen .live) g) (adds-one st side o a .beside (seen .live))
-        (beside-at-most (seen .live) (withGap side seen (st .region)) (around-grows seen st side o a)) (sound .few)
+        (beside-at-most (seen .live) (grownBy side seen (st .region)) (around-grows seen st side o a)) (sound .few)
       where
         few : (i b l q c t k m : ℕ) → i ≡ 1 + b → q ≡ l → c ≡ b + q → c ≤ t → t + k < m → i + l + k ≤ m
         few i b l q c t k m e f g h j = omega arith

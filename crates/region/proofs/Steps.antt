@@ -10,14 +10,14 @@ use borrow.Author.Tests.{lt-ltb, le-ltb, le-leb, lt-leb, leb-false, eqb-false}
 use lib.Ieee.{Float, binary32, add}
 use Rattle.numbers.specs.declared.MaybeInst.{MaybeInst}
 use Rattle.numbers.specs.Normal.{normalised, exceeds}
-use Rattle.numbers.proofs.Tests.{cond-true, cond-false}
-use Rattle.links.proofs.Firsts.{split}
+use Rattle.columns.proofs.Tests.{cond-true, cond-false}
+use Rattle.columns.proofs.Firsts.{split}
 use Rattle.links.specs.declared.lower.Side.{Side}
 use Rattle.links.specs.declared.lower.Side.the-variants.{Previous, Next}
-use Rattle.region.specs.Growth.{GapsSeen, Span, heaviestMet, weightTest, outside, withGap, sideOpen, prefersLeft, sideTried, passes, passesOn}
+use Rattle.region.specs.Growth.{GapsSeen, Span, heaviestIn, weightTest, gapOutside, grownBy, sideOpen, prefersLeft, sideTried, passes, passesOn}
 use Rattle.region.specs.Proposal.{endOf, splitCost, proposalWith}
 use Rattle.region.specs.declared.proposal.SplitProposal.{SplitProposal}
-use Rattle.region.specs.Columns.{spanOf, stateOf, openWith, Inside, Between, grownOf, triedOf, testedOf}
+use Rattle.region.specs.Columns.{spanOf, stateOf, openWith, InsideGaps, HasNeighbours, grownOf, triedOf, testedOf}
 use Rattle.region.specs.declared.growth.Grown.{Grown}
 use Rattle.region.specs.declared.growth.Growth.{Growth}
 use Rattle.region.specs.declared.growth.Tried.the-variants.{Grows, Fails}
@@ -83,7 +83,7 @@ module _ (n : ℕ) (freq : ℕ → Float) (live : ℕ → ℕ) (growth : Growth)
   turn-preferred e f p h = ap (λ (b : Bool). cond b (Try Previous) (Try Next)) h ∙ picked-both l r (prefersLeft freq live (spanOf (growth .region))) e f ∙ picked-is
 
   -- with both sides open a gap lies on each side
-  pub both-between : Inside n (growth .region) → not l ≡ false → not r ≡ false → Between n (growth .region)
+  pub both-between : InsideGaps n (growth .region) → not l ≡ false → not r ≡ false → HasNeighbours n (growth .region)
   both-between i e f =
       record {
         left = above (growth .region .left) (eqb-false (growth .region .left) 0 (used (growth .«left_barred») (eqb (growth .region .left) 0) (ap not (sym left-is) ∙ e)));
@@ -133,8 +133,8 @@ module _ (free : Bool) (g : Grown) (weight : Float) (insts : ℕ) (heaviest : Fl
 
 -- ---- the region with one more gap, as the code tests it, is the one that growth tries
 pub tested-is : (side : Side) (seen : GapsSeen) (s : Span) → seen .numerator ≡ 2007
-    → testedOf (not (seen .fixed (outside side s))) (grownOf seen s) (seen .weight (outside side s)) (seen .live (outside side s)) (heaviestMet seen (withGap side seen s)) (seen .k) (withGap side seen s .left) (withGap side seen s .right)
-    ≡ triedOf (passesOn side seen s) (grownOf seen (withGap side seen s))
+    → testedOf (not (seen .fixed (gapOutside side s))) (grownOf seen s) (seen .weight (gapOutside side s)) (seen .live (gapOutside side s)) (heaviestIn seen (grownBy side seen s)) (seen .k) (grownBy side seen s .left) (grownBy side seen s .right)
+    ≡ triedOf (passesOn side seen s) (grownOf seen (grownBy side seen s))
 unfolding testedOf passes weightTest
 tested-is side seen s e = rw e
 

@@ -7,11 +7,11 @@ use native.Mathlib.Omega.{arith}
 use mathlib.Core.Bool.{Bool, true, false, not, _&&_, cond}
 use lib.Dec.{T, leb, eqb, nleb→lt}
 use lib.Ieee.Fits.{and-l, and-r}
-use Rattle.numbers.proofs.Tests.{cond-both, cond-false}
+use Rattle.columns.proofs.Tests.{cond-both, cond-false}
 use Rattle.links.specs.declared.lower.Side.{Side}
 use Rattle.links.specs.declared.lower.Side.the-variants.{Previous, Next}
 use Rattle.links.specs.Links.{onSide}
-use Rattle.region.specs.Growth.{GapsSeen, State, usedUp, withGap, passesOn, start, sideOpen, isOpen, prefersLeft, sideTried, barred, grows, tryOn, tryAt, try, growth}
+use Rattle.region.specs.Growth.{GapsSeen, State, usedUp, grownBy, passesOn, start, sideOpen, isOpen, prefersLeft, sideTried, barred, grows, tryOn, tryAt, try, growth}
 use Rattle.region.specs.Demand.{Around, Ended}
 use Rattle.region.specs.declared.growth.Turn.{Turn}
 use Rattle.region.specs.declared.growth.Turn.the-variants.{Try, End}
@@ -75,7 +75,7 @@ module _ (seen : GapsSeen) where
       try-cases P (growth seen n) (λ side o t. g (growth seen n) side o t h) (λ side o _. b (growth seen n) side o h) (λ _. h)
 
   -- ---- growth never leaves the table, and never its own gap
-  pub around-grows : (st : State) (side : Side) → T (isOpen side seen st) → Around seen (st .region) → Around seen (withGap side seen (st .region))
+  pub around-grows : (st : State) (side : Side) → T (isOpen side seen st) → Around seen (st .region) → Around seen (grownBy side seen (st .region))
   around-grows st Previous o h = record { left = lower (st .region .left) (seen .own) (h .left); own = h .own; right = h .right }
     where
       lower : (a b : ℕ) → a ≤ b → a - 1 ≤ b

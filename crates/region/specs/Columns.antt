@@ -8,7 +8,7 @@ use lib.Ieee.{Float, nan, binary32, add}
 use lib.ListN.{getD}
 use Rattle.numbers.specs.Normal.{normalised, exceeds}
 use Rattle.links.specs.Links.{onSide}
-use Rattle.region.specs.Growth.{GapsSeen, Span, State, ownSpan, heaviestMet, passes, growth}
+use Rattle.region.specs.Growth.{GapsSeen, Span, State, ownSpan, heaviestIn, passes, growth}
 use Rattle.links.specs.declared.lower.Side.{Side}
 use Rattle.region.specs.declared.growth.Grown.{Grown}
 use Rattle.region.specs.declared.growth.Growth.{Growth}
@@ -16,11 +16,11 @@ use Rattle.region.specs.declared.growth.Tried.{Tried}
 use Rattle.region.specs.declared.growth.Tried.the-variants.{Grows, Fails}
 
 -- a column by row number
-abbrev pub numbers : List ℕ → ℕ → ℕ
-numbers xs g = getD xs g 0
+abbrev pub numberAt : List ℕ → ℕ → ℕ
+numberAt xs g = getD xs g 0
 
-abbrev pub floats : List Float → ℕ → Float
-floats xs g = getD xs g nan
+abbrev pub floatAt : List Float → ℕ → Float
+floatAt xs g = getD xs g nan
 
 -- what growth sees of gaps in columns and of what they meet; the numerator is 2007
 abbrev pub seenIn : List ℕ → List Float → List ℕ → List Float → ℕ → ℕ → (ℕ → Bool) → (ℕ → List Float) → ℕ → GapsSeen
@@ -28,10 +28,10 @@ seenIn froms weights lives freqs count own fixed met k =
     record {
       count = count;
       own = own;
-      first = numbers froms;
-      weight = floats weights;
-      live = numbers lives;
-      freq = floats freqs;
+      first = numberAt froms;
+      weight = floatAt weights;
+      live = numberAt lives;
+      freq = floatAt freqs;
       fixed = fixed;
       met = met;
       k = k;
@@ -52,19 +52,19 @@ openWith barred used-up = not barred && not used-up
 
 -- the code holds a region with the heaviest weight it meets
 abbrev pub grownOf : GapsSeen → Span → Grown
-grownOf seen s = record { left = s .left; right = s .right; weight = s .weight; insts = s .insts; heaviest = heaviestMet seen s }
+grownOf seen s = record { left = s .left; right = s .right; weight = s .weight; insts = s .insts; heaviest = heaviestIn seen s }
 
 -- and with it growth
 abbrev pub growthOf : GapsSeen → State → Growth
 growthOf seen st = record { region = grownOf seen (st .region); «left_barred» = st .left-barred; «right_barred» = st .right-barred }
 
 -- a region of some of n gaps
-pub record Inside (n : ℕ) (g : Grown) : Type 0 where
+pub record InsideGaps (n : ℕ) (g : Grown) : Type 0 where
   pub some : g .left < g .right
   pub inside : g .right ≤ n
 
 -- a gap lies on each side of it
-pub record Between (n : ℕ) (g : Grown) : Type 0 where
+pub record HasNeighbours (n : ℕ) (g : Grown) : Type 0 where
   pub left : 0 < g .left
   pub order : g .left ≤ g .right
   pub right : g .right < n

@@ -3,15 +3,16 @@ use Prim.Native.Nat.{ℕ, zero, suc, _+_, _^_, _≤_, _<_}
 use mathlib.Core.Path.{_≡_}
 use mathlib.Core.Logic.{_⊎_}
 use mathlib.Core.Bool.{not}
-use mathlib.Core.List.{List, [], _∷_, _++_}
+use mathlib.Core.List.{List, [], _∷_, _++_, map}
 use lib.Dec.{T}
-use lib.Ieee.{Float, binary32, add}
+use lib.Ieee.{Float}
 use Rattle.numbers.specs.Weight.{Finite, Weight, unitsOf, zeroWeight, Weights, Among}
+use Rattle.numbers.specs.Sum.{plus}
 use Rattle.numbers.specs.Normal.{normalised, exceeds}
 use Rattle.links.specs.declared.lower.Side.{Side}
 use Rattle.links.specs.declared.lower.Side.the-variants.{Previous, Next}
 use Rattle.region.specs.declared.proposal.SplitProposal.{SplitProposal}
-use Rattle.region.specs.Growth.{GapsSeen, Span, between, gapsOf, outside, State, isOpen, passesOn, growth}
+use Rattle.region.specs.Growth.{GapsSeen, Span, between, gapsIn, gapOutside, State, isOpen, passesOn, growth}
 use Rattle.region.specs.Proposal.{proposalOf, gapsCovered}
 
 -- a region around the best use's own gap, inside the table
@@ -27,7 +28,7 @@ pub record Ended (seen : GapsSeen) (st : State) : Type 0 where
 
 -- the gap just outside a region failed in one of the first n tries
 abbrev pub FailedBefore : GapsSeen → Side → ℕ → Span → Type 0
-FailedBefore seen side n s = (m : ℕ) × (m < n) × (outside side (growth seen m .region) ≡ outside side s) × T (not (passesOn side seen (growth seen m .region)))
+FailedBefore seen side n s = (m : ℕ) × (m < n) × (gapOutside side (growth seen m .region) ≡ gapOutside side s) × T (not (passesOn side seen (growth seen m .region)))
 
 -- a gap of a region
 abbrev pub In : Span → ℕ → Type 0
@@ -42,10 +43,9 @@ unfoldable pub sumOver : (ℕ → ℕ) → List ℕ → ℕ
 sumOver f [] = 0
 sumOver f (g ∷ gs) = f g + sumOver f gs
 
--- weights added to a weight one after the other
-unfoldable pub addedTo : Float → (ℕ → Float) → List ℕ → Float
-addedTo w weight [] = w
-addedTo w weight (g ∷ gs) = addedTo (add binary32 w (weight g)) weight gs
+-- the weights of gaps added to a weight, one after the other
+abbrev pub addedTo : Float → (ℕ → Float) → List ℕ → Float
+addedTo w weight gaps = plus w (map weight gaps)
 
 -- the gaps that a larger region has more than a smaller one: those left of it and those right of it
 abbrev pub gapsBeside : Span → Span → List ℕ
@@ -74,7 +74,7 @@ pub record Demand3 (seen : GapsSeen) (st : State) (p : SplitProposal) : Type 0 w
   -- it is the proposal of the region grown
   pub is-grown : p ≡ proposalOf seen (st .region)
   -- the gaps from its left to before its right are those of that region
-  pub covered : gapsCovered seen p ≡ gapsOf (st .region)
+  pub covered : gapsCovered seen p ≡ gapsIn (st .region)
   -- its region meets nothing that counts as fixed
   pub no-fixed : MeetsFixed seen (st .region) → ⊥
   -- its interference weight is zero or met by a gap of its region

@@ -10,7 +10,7 @@ use Rattle.numbers.specs.Normal.{normalised, exceeds}
 use Rattle.numbers.specs.Chain.{longest}
 use Rattle.region.specs.declared.proposal.SplitProposal.{SplitProposal}
 use Rattle.region.specs.declared.proposal.Region.the-variants.{Found}
-use Rattle.region.specs.Growth.{GapsSeen, ownSpan, weightsMet, passes, growth}
+use Rattle.region.specs.Growth.{GapsSeen, ownSpan, weightsIn, passes, growth}
 use Rattle.region.specs.Proposal.{proposalOf, regionOf, gapsCovered}
 use Rattle.region.specs.Demand.{SoundGaps}
 
@@ -66,7 +66,7 @@ promiseOf seen p =
     record {
       weight = normalised (p .«use_weight») (p .«live_insts») (seen .k);
       interference = p .«interference_weight»;
-      met = weightsMet (seen .met) (gapsCovered seen p);
+      met = weightsIn (seen .met) (gapsCovered seen p);
       numerator = seen .numerator;
     }
 

@@ -8,19 +8,20 @@ use lib.Ieee.{Float}
 use lib.ListN.{length, getD}
 use Rattle.links.specs.declared.lower.Side.{Side}
 use Rattle.links.specs.declared.lower.Side.the-variants.{Previous, Next}
-use Rattle.walkers.specs.declared.meeting.Register.{Register}
-use Rattle.walkers.specs.Meeting.{Reserved, fixedMetAny, weightsMetAll}
-use Rattle.walkers.specs.Gaps.{GapColumns, segmentsOfGap, RightAt, LeftAt}
+use Rattle.walks.specs.declared.meeting.Register.{Register}
+use Rattle.walks.specs.Meeting.{Reserved, fixedMetAny, weightsMetAll}
+use Rattle.walks.specs.Gaps.{segmentsOfGap, RightAt, LeftAt}
+use Rattle.overlaps.specs.GapSegments.{SegmentColumns}
 use Rattle.region.specs.Growth.{GapsSeen}
 use Rattle.region.specs.Proposal.{proposalWith, regionOf}
 use Rattle.region.specs.Demand.{SoundGaps}
-use Rattle.region.specs.Columns.{seenIn, spanOf, Inside, Going}
+use Rattle.region.specs.Columns.{seenIn, spanOf, InsideGaps, Going}
 use Rattle.region.specs.declared.growth.Grown.{Grown}
 use Rattle.region.specs.declared.proposal.Region.the-variants.{Found}
 use Rattle.region.specs.declared.find.Stand.{Stand}
 
 -- what growth sees: the gaps in columns, and of each gap what its gap segments meet among the register's reservations
-abbrev pub seenBy : Register → Reserved → GapColumns → List ℕ → List Float → List ℕ → List Float → ℕ → ℕ → GapsSeen
+abbrev pub seenBy : Register → Reserved → SegmentColumns → List ℕ → List Float → List ℕ → List Float → ℕ → ℕ → GapsSeen
 seenBy p t g froms weights lives freqs own k =
     seenIn froms weights lives freqs (length froms) own (λ (gap : ℕ). fixedMetAny p t (segmentsOfGap g gap)) (λ (gap : ℕ). weightsMetAll p t (segmentsOfGap g gap)) k
 
@@ -45,24 +46,24 @@ pub record RowsInside (gaps : ℕ) (froms : List ℕ) (weights : List Float) (li
 
 -- ---- for contracts of private functions
 -- the walker of a side stands at the region's end
-abbrev pub Standing : Side → Register → Reserved → GapColumns → Stand → Type 0
+abbrev pub Standing : Side → Register → Reserved → SegmentColumns → Stand → Type 0
 Standing Previous p t g s = LeftAt p (t .rows) g (s .growth .region .left) (s .left)
 Standing Next p t g s = RightAt p (t .rows) g (s .growth .region .right) (s .right)
 
 -- it has moved on by a gap, and the other one has not
-abbrev pub Moved : Side → Register → Reserved → GapColumns → Stand → Stand → Type 0
+abbrev pub Moved : Side → Register → Reserved → SegmentColumns → Stand → Stand → Type 0
 Moved Previous p t g s r = LeftAt p (t .rows) g (s .growth .region .left - 1) (r .left) × (r .right ≡ s .right)
 Moved Next p t g s r = RightAt p (t .rows) g (s .growth .region .right + 1) (r .right) × (r .left ≡ s .left)
 
 -- growth after some tries, with a walker at each end that is not barred
-pub record Reached (seen : GapsSeen) (p : Register) (t : Reserved) (g : GapColumns) (s : Stand) : Type 0 where
+pub record Reached (seen : GapsSeen) (p : Register) (t : Reserved) (g : SegmentColumns) (s : Stand) : Type 0 where
   pub going : Going seen (s .growth)
   pub left : s .growth .«left_barred» ≡ false → Standing Previous p t g s
   pub right : s .growth .«right_barred» ≡ false → Standing Next p t g s
 
 -- the region with which growth ends: its proposal is the answer
 pub record Answers (seen : GapsSeen) (r : Grown) : Type 0 where
-  pub inside : Inside (seen .count) r
+  pub inside : InsideGaps (seen .count) r
   pub is : Found (proposalWith (seen .count) (seen .first) (seen .freq) (spanOf r) (r .heaviest)) ≡ regionOf seen
 
 -- where a row's gap segment begins, and past the last one the last point

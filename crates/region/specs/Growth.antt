@@ -50,17 +50,17 @@ abbrev pub between : ℕ → ℕ → List ℕ
 between a b = numbersFrom a (b - a)
 
 -- the gaps of a region
-abbrev pub gapsOf : Span → List ℕ
-gapsOf s = between (s .left) (s .right)
+abbrev pub gapsIn : Span → List ℕ
+gapsIn s = between (s .left) (s .right)
 
 -- the weights that gaps meet
-unfoldable pub weightsMet : (ℕ → List Float) → List ℕ → List Float
-weightsMet met [] = []
-weightsMet met (g ∷ gs) = met g ++ weightsMet met gs
+unfoldable pub weightsIn : (ℕ → List Float) → List ℕ → List Float
+weightsIn met [] = []
+weightsIn met (g ∷ gs) = met g ++ weightsIn met gs
 
 -- the heaviest weight that a region meets, zero if none
-abbrev pub heaviestMet : GapsSeen → Span → Float
-heaviestMet seen s = heaviest (weightsMet (seen .met) (gapsOf s))
+abbrev pub heaviestIn : GapsSeen → Span → Float
+heaviestIn seen s = heaviest (weightsIn (seen .met) (gapsIn s))
 
 -- the normalised weight of a region
 abbrev pub normalisedOf : GapsSeen → Span → Float
@@ -68,24 +68,24 @@ normalisedOf seen s = normalised (s .weight) (s .insts) (seen .k)
 
 -- the weight test of a region
 unfoldable pub weightTest : GapsSeen → Span → Bool
-weightTest seen s = exceeds (seen .numerator) (normalisedOf seen s) (heaviestMet seen s)
+weightTest seen s = exceeds (seen .numerator) (normalisedOf seen s) (heaviestIn seen s)
 
 -- the gap just outside a region on a side
-abbrev pub outside : Side → Span → ℕ
-outside side s = onSide side (s .left - 1) (s .right)
+abbrev pub gapOutside : Side → Span → ℕ
+gapOutside side s = onSide side (s .left - 1) (s .right)
 
 -- a side is used up: no gap of n is left there
 abbrev pub usedUp : Side → ℕ → Span → Bool
 usedUp side n s = onSide side (eqb (s .left) 0) (leb n (s .right))
 
 -- the region with one more gap on a side: its weight is added to the weight so far, its live instructions too
-abbrev pub withGap : Side → GapsSeen → Span → Span
-withGap side seen s =
+abbrev pub grownBy : Side → GapsSeen → Span → Span
+grownBy side seen s =
     record {
       left = onSide side (s .left - 1) (s .left);
       right = onSide side (s .right) (s .right + 1);
-      weight = add binary32 (s .weight) (seen .weight (outside side s));
-      insts = s .insts + seen .live (outside side s);
+      weight = add binary32 (s .weight) (seen .weight (gapOutside side s));
+      insts = s .insts + seen .live (gapOutside side s);
     }
 
 -- a gap tried passes: it meets no fixed one, and the weight test holds of the region with it
@@ -117,7 +117,7 @@ leftFirst left-freq right-freq left-live right-live =
 
 -- with both sides open, whether left is taken
 abbrev pub prefersLeft : (ℕ → Float) → (ℕ → ℕ) → Span → Bool
-prefersLeft freq live s = leftFirst (freq (outside Previous s)) (freq (outside Next s)) (live (outside Previous s)) (live (outside Next s))
+prefersLeft freq live s = leftFirst (freq (gapOutside Previous s)) (freq (gapOutside Next s)) (live (gapOutside Previous s)) (live (gapOutside Next s))
 
 -- the side that is tried: the open one, with both open the one taken, none if none is open
 unfoldable pub sideTried : ℕ → (ℕ → Float) → (ℕ → ℕ) → State → Turn
@@ -132,11 +132,11 @@ barred side st = record { region = st .region; left-barred = onSide side true (s
 
 -- growth with one more gap on a side
 abbrev pub grows : Side → GapsSeen → State → State
-grows side seen st = record { region = withGap side seen (st .region); left-barred = st .left-barred; right-barred = st .right-barred }
+grows side seen st = record { region = grownBy side seen (st .region); left-barred = st .left-barred; right-barred = st .right-barred }
 
 -- the gap on a side passes
 abbrev pub passesOn : Side → GapsSeen → Span → Bool
-passesOn side seen s = passes seen (outside side s) (withGap side seen s)
+passesOn side seen s = passes seen (gapOutside side s) (grownBy side seen s)
 
 -- a try on a side: it grows by the gap there, or the side is barred
 unfoldable pub tryOn : Side → GapsSeen → State → State

@@ -13,11 +13,11 @@ use Rattle.links.specs.Links.{onSide}
 use Rattle.region.specs.declared.proposal.SplitProposal.{SplitProposal}
 use Rattle.region.specs.declared.proposal.Region.{Region}
 use Rattle.region.specs.declared.proposal.Region.the-variants as Region·is
-use Rattle.region.specs.Growth.{GapsSeen, Span, ownSpan, between, heaviestMet, outside, usedUp, passes, grown}
+use Rattle.region.specs.Growth.{GapsSeen, Span, ownSpan, between, heaviestIn, gapOutside, usedUp, passes, grown}
 
 -- the frequency of the gap just outside on a side, zero where there is none
 abbrev pub freqOutside : Side → ℕ → (ℕ → Float) → Span → Float
-freqOutside side n freq s = cond (usedUp side n s) zeroWeight (freq (outside side s))
+freqOutside side n freq s = cond (usedUp side n s) zeroWeight (freq (gapOutside side s))
 
 -- split cost: the frequencies of the gaps just outside, added
 unfoldable pub splitCost : ℕ → (ℕ → Float) → Span → Float
@@ -41,7 +41,7 @@ proposalWith n first freq s heaviest =
 
 -- the proposal that a region is
 abbrev pub proposalOf : GapsSeen → Span → SplitProposal
-proposalOf seen s = proposalWith (seen .count) (seen .first) (seen .freq) s (heaviestMet seen s)
+proposalOf seen s = proposalWith (seen .count) (seen .first) (seen .freq) s (heaviestIn seen s)
 
 -- the answer: nothing if the best use's own gap fails, else the proposal of the region with which growth ends
 unfoldable pub regionOf : GapsSeen → Region

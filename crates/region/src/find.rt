@@ -9,24 +9,24 @@ use crate::one_try::try_left;
 use crate::one_try::try_right;
 use crate::proposal::Region;
 use crate::proposal::proposal_of;
+use columns::search::first_at_least;
 use links::lower::Side;
-use links::search::first_at_least;
 use numbers::Point;
-use walkers::both::Walkers;
-use walkers::left::LeftWalker;
-use walkers::meeting::Register;
-use walkers::right::RightWalker;
+use walks::both::Walkers;
+use walks::left::LeftWalker;
+use walks::meeting::Register;
+use walks::right::RightWalker;
 ghost use mathlib.Core.Path.{_≡_};
 ghost use Prim.Native.Nat.{_≤_};
 ghost use lib.ListN.{length, take};
-ghost use Rattle.walkers.specs.Meeting.{reservedOf};
-ghost use Rattle.walkers.specs.Gaps.{gapColumns};
+ghost use Rattle.walks.specs.Meeting.{reservedOf};
+ghost use Rattle.overlaps.specs.GapSegments.{segmentColumns};
 ghost use Rattle.region.specs.Proposal.{regionOf};
 ghost use Rattle.region.specs.OneTry.{Walkable, Triable, triedOn};
 ghost use Rattle.region.specs.Find.{seenBy, InTable, RowsInside, Standing, Moved, Reached, Answers, pointAt};
 
 // Growth so far, and the walkers on both sides of its region.
-pub struct Stand {
+struct Stand {
     pub growth: Growth,
     pub left: LeftWalker,
     pub right: RightWalker,
@@ -55,8 +55,22 @@ fn try_side(
     side: Side,
     stand: Stand,
 ) -> Stand
-    requires { ⌜ Walkable register (reservedOf (now unit) (now start) (now end) (now kind) (now index) (now fixed) (now «f_unit») (now «f_point») (now «f_value») (now «spill_weight»)) (gapColumns (now «out_from») (now «out_to») (now «out_value») (now «out_gap») (length (now «out_from»))) × Standing side register (reservedOf (now unit) (now start) (now end) (now kind) (now index) (now fixed) (now «f_unit») (now «f_point») (now «f_value») (now «spill_weight»)) (gapColumns (now «out_from») (now «out_to») (now «out_value») (now «out_gap») (length (now «out_from»))) stand × Triable side (now weight) (now live) (stand .growth) ⌝ }
-    ensures { λ r. ⌜ (r .growth ≡ triedOn side register (reservedOf (now (unit .entry)) (now (start .entry)) (now (end .entry)) (now (kind .entry)) (now (index .entry)) (now (fixed .entry)) (now («f_unit» .entry)) (now («f_point» .entry)) (now («f_value» .entry)) (now («spill_weight» .entry))) (gapColumns (now («out_from» .entry)) (now («out_to» .entry)) (now («out_value» .entry)) (now («out_gap» .entry)) (length (now («out_from» .entry)))) (now (weight .entry)) (now (live .entry)) k (stand .growth)) × Moved side register (reservedOf (now (unit .entry)) (now (start .entry)) (now (end .entry)) (now (kind .entry)) (now (index .entry)) (now (fixed .entry)) (now («f_unit» .entry)) (now («f_point» .entry)) (now («f_value» .entry)) (now («spill_weight» .entry))) (gapColumns (now («out_from» .entry)) (now («out_to» .entry)) (now («out_value» .entry)) (now («out_gap» .entry)) (length (now («out_from» .entry)))) stand r ⌝ }
+    requires { ⌜
+        (let reserved = reservedOf
+        (now unit) (now start) (now end) (now kind) (now index) (now fixed)
+        (now «f_unit») (now «f_point») (now «f_value») (now «spill_weight») in
+        let gapSegments = segmentColumns (now «out_from») (now «out_to») (now «out_value») (now «out_gap») (length (now «out_from»)) in
+        Walkable register reserved gapSegments ×
+        Standing side register reserved gapSegments stand ×
+        Triable side (now weight) (now live) (stand .growth)) ⌝ }
+    ensures { λ r. ⌜
+        (let reserved = reservedOf
+        (now (unit .entry)) (now (start .entry)) (now (end .entry)) (now (kind .entry)) (now (index .entry)) (now (fixed .entry))
+        (now («f_unit» .entry)) (now («f_point» .entry)) (now («f_value» .entry)) (now («spill_weight» .entry)) in
+        let gapSegments = segmentColumns
+        (now («out_from» .entry)) (now («out_to» .entry)) (now («out_value» .entry)) (now («out_gap» .entry)) (length (now («out_from» .entry))) in
+        (r .growth ≡ triedOn side register reserved gapSegments (now (weight .entry)) (now (live .entry)) k (stand .growth)) ×
+        Moved side register reserved gapSegments stand r) ⌝ }
 {
     let growth = stand.growth;
     let left = stand.left;
@@ -148,9 +162,29 @@ fn grow(
     k: u32,
     stand: Stand,
 ) -> Grown
-    requires { ⌜ Walkable register (reservedOf (now unit) (now start) (now end) (now kind) (now index) (now fixed) (now «f_unit») (now «f_point») (now «f_value») (now «spill_weight»)) (gapColumns (now «out_from») (now «out_to») (now «out_value») (now «out_gap») (length (now «out_from»))) × InTable (seenBy register (reservedOf (now unit) (now start) (now end) (now kind) (now index) (now fixed) (now «f_unit») (now «f_point») (now «f_value») (now «spill_weight»)) (gapColumns (now «out_from») (now «out_to») (now «out_value») (now «out_gap») (length (now «out_from»))) (now from) (now weight) (now live) (now «min_freq») initial k) (now weight) (now live) (now «min_freq») ⌝ }
-    requires { ⌜ Reached (seenBy register (reservedOf (now unit) (now start) (now end) (now kind) (now index) (now fixed) (now «f_unit») (now «f_point») (now «f_value») (now «spill_weight»)) (gapColumns (now «out_from») (now «out_to») (now «out_value») (now «out_gap») (length (now «out_from»))) (now from) (now weight) (now live) (now «min_freq») initial k) register (reservedOf (now unit) (now start) (now end) (now kind) (now index) (now fixed) (now «f_unit») (now «f_point») (now «f_value») (now «spill_weight»)) (gapColumns (now «out_from») (now «out_to») (now «out_value») (now «out_gap») (length (now «out_from»))) stand ⌝ }
-    ensures { λ r. ⌜ Answers (seenBy register (reservedOf (now (unit .entry)) (now (start .entry)) (now (end .entry)) (now (kind .entry)) (now (index .entry)) (now (fixed .entry)) (now («f_unit» .entry)) (now («f_point» .entry)) (now («f_value» .entry)) (now («spill_weight» .entry))) (gapColumns (now («out_from» .entry)) (now («out_to» .entry)) (now («out_value» .entry)) (now («out_gap» .entry)) (length (now («out_from» .entry)))) (now (from .entry)) (now (weight .entry)) (now (live .entry)) (now («min_freq» .entry)) initial k) r ⌝ }
+    requires { ⌜
+        (let reserved = reservedOf
+        (now unit) (now start) (now end) (now kind) (now index) (now fixed)
+        (now «f_unit») (now «f_point») (now «f_value») (now «spill_weight») in
+        let gapSegments = segmentColumns (now «out_from») (now «out_to») (now «out_value») (now «out_gap») (length (now «out_from»)) in
+        let seen = seenBy register reserved gapSegments (now from) (now weight) (now live) (now «min_freq») initial k in
+        Walkable register reserved gapSegments × InTable seen (now weight) (now live) (now «min_freq»)) ⌝ }
+    requires { ⌜
+        (let reserved = reservedOf
+        (now unit) (now start) (now end) (now kind) (now index) (now fixed)
+        (now «f_unit») (now «f_point») (now «f_value») (now «spill_weight») in
+        let gapSegments = segmentColumns (now «out_from») (now «out_to») (now «out_value») (now «out_gap») (length (now «out_from»)) in
+        let seen = seenBy register reserved gapSegments (now from) (now weight) (now live) (now «min_freq») initial k in
+        Reached seen register reserved gapSegments stand) ⌝ }
+    ensures { λ r. ⌜
+        (let reserved = reservedOf
+        (now (unit .entry)) (now (start .entry)) (now (end .entry)) (now (kind .entry)) (now (index .entry)) (now (fixed .entry))
+        (now («f_unit» .entry)) (now («f_point» .entry)) (now («f_value» .entry)) (now («spill_weight» .entry)) in
+        let gapSegments = segmentColumns
+        (now («out_from» .entry)) (now («out_to» .entry)) (now («out_value» .entry)) (now («out_gap» .entry)) (length (now («out_from» .entry))) in
+        let seen = seenBy register reserved gapSegments
+        (now (from .entry)) (now (weight .entry)) (now (live .entry)) (now («min_freq» .entry)) initial k in
+        Answers seen r) ⌝ }
 {
     let gaps = from.len();
     let mut stand = stand;
@@ -197,7 +231,7 @@ fn point_at(out_from: &[u32], next: usize) -> Point
 }
 
 // The proposal of the region with which growth from the best use's gap ends, or nothing where that gap fails.
-pub fn find_split_region(
+fn find_split_region(
     from: &[u32],
     weight: &[f32],
     live: &[u32],
@@ -220,8 +254,22 @@ pub fn find_split_region(
     register: Register,
     k: u32,
 ) -> Region
-    requires { ⌜ Walkable register (reservedOf (now unit) (now start) (now end) (now kind) (now index) (now fixed) (now «f_unit») (now «f_point») (now «f_value») (now «spill_weight»)) (gapColumns (now «out_from») (now «out_to») (now «out_value») (now «out_gap») (length (now «out_from»))) × InTable (seenBy register (reservedOf (now unit) (now start) (now end) (now kind) (now index) (now fixed) (now «f_unit») (now «f_point») (now «f_value») (now «spill_weight»)) (gapColumns (now «out_from») (now «out_to») (now «out_value») (now «out_gap») (length (now «out_from»))) (now from) (now weight) (now live) (now «min_freq») initial k) (now weight) (now live) (now «min_freq») ⌝ }
-    ensures { λ r. ⌜ r ≡ regionOf (seenBy register (reservedOf (now (unit .entry)) (now (start .entry)) (now (end .entry)) (now (kind .entry)) (now (index .entry)) (now (fixed .entry)) (now («f_unit» .entry)) (now («f_point» .entry)) (now («f_value» .entry)) (now («spill_weight» .entry))) (gapColumns (now («out_from» .entry)) (now («out_to» .entry)) (now («out_value» .entry)) (now («out_gap» .entry)) (length (now («out_from» .entry)))) (now (from .entry)) (now (weight .entry)) (now (live .entry)) (now («min_freq» .entry)) initial k) ⌝ }
+    requires { ⌜
+        (let reserved = reservedOf
+        (now unit) (now start) (now end) (now kind) (now index) (now fixed)
+        (now «f_unit») (now «f_point») (now «f_value») (now «spill_weight») in
+        let gapSegments = segmentColumns (now «out_from») (now «out_to») (now «out_value») (now «out_gap») (length (now «out_from»)) in
+        let seen = seenBy register reserved gapSegments (now from) (now weight) (now live) (now «min_freq») initial k in
+        Walkable register reserved gapSegments × InTable seen (now weight) (now live) (now «min_freq»)) ⌝ }
+    ensures { λ r. ⌜
+        (let reserved = reservedOf
+        (now (unit .entry)) (now (start .entry)) (now (end .entry)) (now (kind .entry)) (now (index .entry)) (now (fixed .entry))
+        (now («f_unit» .entry)) (now («f_point» .entry)) (now («f_value» .entry)) (now («spill_weight» .entry)) in
+        let gapSegments = segmentColumns
+        (now («out_from» .entry)) (now («out_to» .entry)) (now («out_value» .entry)) (now («out_gap» .entry)) (length (now («out_from» .entry))) in
+        let seen = seenBy register reserved gapSegments
+        (now (from .entry)) (now (weight .entry)) (now (live .entry)) (now («min_freq» .entry)) initial k in
+        r ≡ regionOf seen) ⌝ }
 {
     let gaps = from.len();
     let next = first_at_least(out_gap, 0, out_from.len(), initial as u32);
@@ -328,9 +376,32 @@ pub fn find_in_tables(
     register: Register,
     k: u32,
 ) -> Region
-    requires { ⌜ RowsInside gaps (now from) (now weight) (now live) (now «min_freq») segments (now «out_from») (now «out_to») (now «out_value») (now «out_gap») ⌝ }
-    requires { ⌜ Walkable register (reservedOf (now unit) (now start) (now end) (now kind) (now index) (now fixed) (now «f_unit») (now «f_point») (now «f_value») (now «spill_weight»)) (gapColumns (take segments (now «out_from»)) (take segments (now «out_to»)) (take segments (now «out_value»)) (take segments (now «out_gap»)) (length (take segments (now «out_from»)))) × InTable (seenBy register (reservedOf (now unit) (now start) (now end) (now kind) (now index) (now fixed) (now «f_unit») (now «f_point») (now «f_value») (now «spill_weight»)) (gapColumns (take segments (now «out_from»)) (take segments (now «out_to»)) (take segments (now «out_value»)) (take segments (now «out_gap»)) (length (take segments (now «out_from»)))) (take gaps (now from)) (take gaps (now weight)) (take gaps (now live)) (take gaps (now «min_freq»)) initial k) (take gaps (now weight)) (take gaps (now live)) (take gaps (now «min_freq»)) ⌝ }
-    ensures { λ r. ⌜ r ≡ regionOf (seenBy register (reservedOf (now (unit .entry)) (now (start .entry)) (now (end .entry)) (now (kind .entry)) (now (index .entry)) (now (fixed .entry)) (now («f_unit» .entry)) (now («f_point» .entry)) (now («f_value» .entry)) (now («spill_weight» .entry))) (gapColumns (take segments (now («out_from» .entry))) (take segments (now («out_to» .entry))) (take segments (now («out_value» .entry))) (take segments (now («out_gap» .entry))) (length (take segments (now («out_from» .entry))))) (take gaps (now (from .entry))) (take gaps (now (weight .entry))) (take gaps (now (live .entry))) (take gaps (now («min_freq» .entry))) initial k) ⌝ }
+    requires { ⌜ RowsInside
+        gaps (now from) (now weight) (now live) (now «min_freq»)
+        segments (now «out_from») (now «out_to») (now «out_value») (now «out_gap») ⌝ }
+    requires { ⌜
+        (let reserved = reservedOf
+        (now unit) (now start) (now end) (now kind) (now index) (now fixed)
+        (now «f_unit») (now «f_point») (now «f_value») (now «spill_weight») in
+        let gapSegments = segmentColumns
+        (take segments (now «out_from»)) (take segments (now «out_to»)) (take segments (now «out_value»)) (take segments (now «out_gap»))
+        (length (take segments (now «out_from»))) in
+        let seen = seenBy register reserved gapSegments
+        (take gaps (now from)) (take gaps (now weight)) (take gaps (now live)) (take gaps (now «min_freq»)) initial k in
+        Walkable register reserved gapSegments ×
+        InTable seen (take gaps (now weight)) (take gaps (now live)) (take gaps (now «min_freq»))) ⌝ }
+    ensures { λ r. ⌜
+        (let reserved = reservedOf
+        (now (unit .entry)) (now (start .entry)) (now (end .entry)) (now (kind .entry)) (now (index .entry)) (now (fixed .entry))
+        (now («f_unit» .entry)) (now («f_point» .entry)) (now («f_value» .entry)) (now («spill_weight» .entry)) in
+        let gapSegments = segmentColumns
+        (take segments (now («out_from» .entry))) (take segments (now («out_to» .entry)))
+        (take segments (now («out_value» .entry))) (take segments (now («out_gap» .entry)))
+        (length (take segments (now («out_from» .entry)))) in
+        let seen = seenBy register reserved gapSegments
+        (take gaps (now (from .entry))) (take gaps (now (weight .entry))) (take gaps (now (live .entry))) (take gaps (now («min_freq» .entry)))
+        initial k in
+        r ≡ regionOf seen) ⌝ }
 {
     find_split_region(
         &from[..gaps],

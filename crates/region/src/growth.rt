@@ -4,11 +4,11 @@ ghost use Prim.Native.Nat.{_≤_};
 ghost use lib.ListN.{length};
 ghost use lib.Dec.{leb, eqb};
 ghost use Rattle.region.specs.Growth.{prefersLeft, sideTried};
-ghost use Rattle.region.specs.Columns.{numbers, floats, spanOf, stateOf, openWith, Inside, Between, CountFits, testedOf, startAt, afterTry};
+ghost use Rattle.region.specs.Columns.{numberAt, floatAt, spanOf, stateOf, openWith, InsideGaps, HasNeighbours, CountFits, testedOf, startAt, afterTry};
 use links::lower::Side;
 
 // A region: the gaps from left to before right, their use weight and live instructions, and the heaviest weight met.
-pub struct Grown {
+pub(crate) struct Grown {
     pub left: usize,
     pub right: usize,
     pub weight: f32,
@@ -17,20 +17,20 @@ pub struct Grown {
 }
 
 // The region with one more gap, if that passes.
-pub enum Tried {
+pub(crate) enum Tried {
     Grows(Grown),
     Fails,
 }
 
 // Growth so far: the region, and whether its sides are barred. A side that failed is barred for good.
-pub struct Growth {
+pub(crate) struct Growth {
     pub region: Grown,
     pub left_barred: bool,
     pub right_barred: bool,
 }
 
 // The side that is tried next, or the end of growth.
-pub enum Turn {
+pub(crate) enum Turn {
     Try(Side),
     End,
 }
@@ -38,10 +38,10 @@ pub enum Turn {
 // With both sides open, whether the left one is tried: the one of higher frequency. On equal ones it is the gap with more
 // instructions, and left if both have as many.
 fn prefers_left(freq: &[f32], live: &[u32], gaps: usize, g: Grown) -> bool
-    requires { ⌜ Between gaps g ⌝ }
+    requires { ⌜ HasNeighbours gaps g ⌝ }
     requires { ⌜ gaps ≤ length (now freq) ⌝ }
     requires { ⌜ gaps ≤ length (now live) ⌝ }
-    ensures { λ r. ⌜ r ≡ prefersLeft (floats (now (freq .entry))) (numbers (now (live .entry))) (spanOf g) ⌝ }
+    ensures { λ r. ⌜ r ≡ prefersLeft (floatAt (now (freq .entry))) (numberAt (now (live .entry))) (spanOf g) ⌝ }
 {
     let left = g.left - 1;
     let right = g.right;
@@ -76,11 +76,11 @@ fn can_grow_right(gaps: usize, g: Grown, barred: bool) -> bool
 }
 
 // Whether growth goes on, and on which side.
-pub fn grow_next(freq: &[f32], live: &[u32], gaps: usize, growth: Growth) -> Turn
-    requires { ⌜ Inside gaps (growth .region) ⌝ }
+pub(crate) fn grow_next(freq: &[f32], live: &[u32], gaps: usize, growth: Growth) -> Turn
+    requires { ⌜ InsideGaps gaps (growth .region) ⌝ }
     requires { ⌜ gaps ≤ length (now freq) ⌝ }
     requires { ⌜ gaps ≤ length (now live) ⌝ }
-    ensures { λ r. ⌜ r ≡ sideTried gaps (floats (now (freq .entry))) (numbers (now (live .entry))) (stateOf growth) ⌝ }
+    ensures { λ r. ⌜ r ≡ sideTried gaps (floatAt (now (freq .entry))) (numberAt (now (live .entry))) (stateOf growth) ⌝ }
 {
     let g = growth.region;
     let left = can_grow_left(g, growth.left_barred);
@@ -102,7 +102,7 @@ pub fn grow_next(freq: &[f32], live: &[u32], gaps: usize, growth: Growth) -> Tur
 
 // The region with one more gap, which makes it reach from left to before right. The gap must be free of fixed interference, and
 // the region must be able to evict the heaviest weight that it then meets.
-pub fn tested(
+pub(crate) fn tested(
     free: bool,
     g: Grown,
     weight: f32,
@@ -137,7 +137,7 @@ pub fn tested(
 
 impl Growth {
     // Growth from a region, with no side barred.
-    pub fn new(region: Grown) -> Self
+    pub(crate) fn new(region: Grown) -> Self
         ensures { λ r. ⌜ r ≡ startAt region ⌝ }
     {
         Growth {
@@ -148,7 +148,7 @@ impl Growth {
     }
 
     // Growth after a try on a side: the region that passed, or that side barred.
-    pub fn after(self, side: Side, tried: Tried) -> Self
+    pub(crate) fn after(self, side: Side, tried: Tried) -> Self
         ensures { λ r. ⌜ r ≡ afterTry side tried self ⌝ }
     {
         let left_barred = self.left_barred;

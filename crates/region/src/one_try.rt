@@ -2,26 +2,27 @@
 use crate::growth::Growth;
 use crate::growth::tested;
 use links::lower::Side;
-use walkers::left::LeftWalker;
-use walkers::meeting::Register;
-use walkers::right::RightWalker;
+use walks::left::LeftWalker;
+use walks::meeting::Register;
+use walks::right::RightWalker;
 ghost use mathlib.Core.Path.{_≡_};
 ghost use Prim.Native.Nat.{_+_, _-_};
 ghost use lib.ListN.{length};
 ghost use Rattle.links.specs.declared.lower.Side.the-variants.{Previous, Next};
 ghost use Rattle.jobs.specs.Rows.{reservationsOf};
-ghost use Rattle.walkers.specs.Meeting.{reservedOf};
-ghost use Rattle.walkers.specs.Gaps.{gapColumns, RightAt, LeftAt};
+ghost use Rattle.walks.specs.Meeting.{reservedOf};
+ghost use Rattle.walks.specs.Gaps.{RightAt, LeftAt};
+ghost use Rattle.overlaps.specs.GapSegments.{segmentColumns};
 ghost use Rattle.region.specs.OneTry.{Walkable, Triable, triedOn};
 
 // Growth after a try on the left, and the walker behind the gap that was tried.
-pub struct TriedLeft {
+pub(crate) struct TriedLeft {
     pub growth: Growth,
     pub walker: LeftWalker,
 }
 
 // A try on the left: the walker takes the gap's segments, and the region with the gap is tested.
-pub fn try_left(
+pub(crate) fn try_left(
     unit: &[u32],
     start: &[u32],
     end: &[u32],
@@ -43,10 +44,27 @@ pub fn try_left(
     growth: Growth,
     walker: LeftWalker,
 ) -> TriedLeft
-    requires { ⌜ Walkable register (reservedOf (now unit) (now start) (now end) (now kind) (now index) (now fixed) (now «f_unit») (now «f_point») (now «f_value») (now «spill_weight»)) (gapColumns (now «out_from») (now «out_to») (now «out_value») (now «out_gap») (length (now «out_from»))) ⌝ }
-    requires { ⌜ LeftAt register (reservationsOf (now unit) (now start) (now end) (now kind) (now index) (now fixed)) (gapColumns (now «out_from») (now «out_to») (now «out_value») (now «out_gap») (length (now «out_from»))) (growth .region .left) walker ⌝ }
+    requires { ⌜
+        (let reserved = reservedOf
+        (now unit) (now start) (now end) (now kind) (now index) (now fixed)
+        (now «f_unit») (now «f_point») (now «f_value») (now «spill_weight») in
+        let gapSegments = segmentColumns (now «out_from») (now «out_to») (now «out_value») (now «out_gap») (length (now «out_from»)) in
+        Walkable register reserved gapSegments) ⌝ }
+    requires { ⌜
+        (let reservations = reservationsOf (now unit) (now start) (now end) (now kind) (now index) (now fixed) in
+        let gapSegments = segmentColumns (now «out_from») (now «out_to») (now «out_value») (now «out_gap») (length (now «out_from»)) in
+        LeftAt register reservations gapSegments (growth .region .left) walker) ⌝ }
     requires { ⌜ Triable Previous (now weight) (now live) growth ⌝ }
-    ensures { λ r. ⌜ (r .growth ≡ triedOn Previous register (reservedOf (now (unit .entry)) (now (start .entry)) (now (end .entry)) (now (kind .entry)) (now (index .entry)) (now (fixed .entry)) (now («f_unit» .entry)) (now («f_point» .entry)) (now («f_value» .entry)) (now («spill_weight» .entry))) (gapColumns (now («out_from» .entry)) (now («out_to» .entry)) (now («out_value» .entry)) (now («out_gap» .entry)) (length (now («out_from» .entry)))) (now (weight .entry)) (now (live .entry)) k growth) × LeftAt register (reservationsOf (now (unit .entry)) (now (start .entry)) (now (end .entry)) (now (kind .entry)) (now (index .entry)) (now (fixed .entry))) (gapColumns (now («out_from» .entry)) (now («out_to» .entry)) (now («out_value» .entry)) (now («out_gap» .entry)) (length (now («out_from» .entry)))) (growth .region .left - 1) (r .walker) ⌝ }
+    ensures { λ r. ⌜
+        (let reserved = reservedOf
+        (now (unit .entry)) (now (start .entry)) (now (end .entry)) (now (kind .entry)) (now (index .entry)) (now (fixed .entry))
+        (now («f_unit» .entry)) (now («f_point» .entry)) (now («f_value» .entry)) (now («spill_weight» .entry)) in
+        let reservations = reservationsOf
+        (now (unit .entry)) (now (start .entry)) (now (end .entry)) (now (kind .entry)) (now (index .entry)) (now (fixed .entry)) in
+        let gapSegments = segmentColumns
+        (now («out_from» .entry)) (now («out_to» .entry)) (now («out_value» .entry)) (now («out_gap» .entry)) (length (now («out_from» .entry))) in
+        (r .growth ≡ triedOn Previous register reserved gapSegments (now (weight .entry)) (now (live .entry)) k growth) ×
+        LeftAt register reservations gapSegments (growth .region .left - 1) (r .walker)) ⌝ }
 {
     let g = growth.region;
     let gap = g.left - 1;
@@ -88,13 +106,13 @@ pub fn try_left(
 }
 
 // Growth after a try on the right, and the walker behind the gap that was tried.
-pub struct TriedRight {
+pub(crate) struct TriedRight {
     pub growth: Growth,
     pub walker: RightWalker,
 }
 
 // A try on the right: the walker takes the gap's segments, and the region with the gap is tested.
-pub fn try_right(
+pub(crate) fn try_right(
     unit: &[u32],
     start: &[u32],
     end: &[u32],
@@ -116,10 +134,27 @@ pub fn try_right(
     growth: Growth,
     walker: RightWalker,
 ) -> TriedRight
-    requires { ⌜ Walkable register (reservedOf (now unit) (now start) (now end) (now kind) (now index) (now fixed) (now «f_unit») (now «f_point») (now «f_value») (now «spill_weight»)) (gapColumns (now «out_from») (now «out_to») (now «out_value») (now «out_gap») (length (now «out_from»))) ⌝ }
-    requires { ⌜ RightAt register (reservationsOf (now unit) (now start) (now end) (now kind) (now index) (now fixed)) (gapColumns (now «out_from») (now «out_to») (now «out_value») (now «out_gap») (length (now «out_from»))) (growth .region .right) walker ⌝ }
+    requires { ⌜
+        (let reserved = reservedOf
+        (now unit) (now start) (now end) (now kind) (now index) (now fixed)
+        (now «f_unit») (now «f_point») (now «f_value») (now «spill_weight») in
+        let gapSegments = segmentColumns (now «out_from») (now «out_to») (now «out_value») (now «out_gap») (length (now «out_from»)) in
+        Walkable register reserved gapSegments) ⌝ }
+    requires { ⌜
+        (let reservations = reservationsOf (now unit) (now start) (now end) (now kind) (now index) (now fixed) in
+        let gapSegments = segmentColumns (now «out_from») (now «out_to») (now «out_value») (now «out_gap») (length (now «out_from»)) in
+        RightAt register reservations gapSegments (growth .region .right) walker) ⌝ }
     requires { ⌜ Triable Next (now weight) (now live) growth ⌝ }
-    ensures { λ r. ⌜ (r .growth ≡ triedOn Next register (reservedOf (now (unit .entry)) (now (start .entry)) (now (end .entry)) (now (kind .entry)) (now (index .entry)) (now (fixed .entry)) (now («f_unit» .entry)) (now («f_point» .entry)) (now («f_value» .entry)) (now («spill_weight» .entry))) (gapColumns (now («out_from» .entry)) (now («out_to» .entry)) (now («out_value» .entry)) (now («out_gap» .entry)) (length (now («out_from» .entry)))) (now (weight .entry)) (now (live .entry)) k growth) × RightAt register (reservationsOf (now (unit .entry)) (now (start .entry)) (now (end .entry)) (now (kind .entry)) (now (index .entry)) (now (fixed .entry))) (gapColumns (now («out_from» .entry)) (now («out_to» .entry)) (now («out_value» .entry)) (now («out_gap» .entry)) (length (now («out_from» .entry)))) (growth .region .right + 1) (r .walker) ⌝ }
+    ensures { λ r. ⌜
+        (let reserved = reservedOf
+        (now (unit .entry)) (now (start .entry)) (now (end .entry)) (now (kind .entry)) (now (index .entry)) (now (fixed .entry))
+        (now («f_unit» .entry)) (now («f_point» .entry)) (now («f_value» .entry)) (now («spill_weight» .entry)) in
+        let reservations = reservationsOf
+        (now (unit .entry)) (now (start .entry)) (now (end .entry)) (now (kind .entry)) (now (index .entry)) (now (fixed .entry)) in
+        let gapSegments = segmentColumns
+        (now («out_from» .entry)) (now («out_to» .entry)) (now («out_value» .entry)) (now («out_gap» .entry)) (length (now («out_from» .entry))) in
+        (r .growth ≡ triedOn Next register reserved gapSegments (now (weight .entry)) (now (live .entry)) k growth) ×
+        RightAt register reservations gapSegments (growth .region .right + 1) (r .walker)) ⌝ }
 {
     let g = growth.region;
     let gap = g.right;

@@ -4,7 +4,7 @@ ghost use Prim.Native.Nat.{_≤_};
 ghost use lib.ListN.{length};
 ghost use Rattle.links.specs.declared.lower.Side.the-variants.{Previous, Next};
 ghost use Rattle.region.specs.Proposal.{endOf, freqOutside, splitCost, proposalWith};
-ghost use Rattle.region.specs.Columns.{numbers, floats, spanOf, Inside};
+ghost use Rattle.region.specs.Columns.{numberAt, floatAt, spanOf, InsideGaps};
 use crate::growth::Grown;
 use numbers::Inst;
 use numbers::MaybeInst;
@@ -28,9 +28,9 @@ pub enum Region {
 
 // Where the region begins, absent at the table's start.
 fn left_end(from: &[u32], gaps: usize, g: Grown) -> MaybeInst
-    requires { ⌜ Inside gaps g ⌝ }
+    requires { ⌜ InsideGaps gaps g ⌝ }
     requires { ⌜ gaps ≤ length (now from) ⌝ }
-    ensures { λ r. ⌜ r ≡ endOf Previous gaps (numbers (now (from .entry))) (spanOf g) ⌝ }
+    ensures { λ r. ⌜ r ≡ endOf Previous gaps (numberAt (now (from .entry))) (spanOf g) ⌝ }
 {
     let left = g.left;
     if left == 0 {
@@ -42,7 +42,7 @@ fn left_end(from: &[u32], gaps: usize, g: Grown) -> MaybeInst
 // Where it ends, absent at the table's end.
 fn right_end(from: &[u32], gaps: usize, g: Grown) -> MaybeInst
     requires { ⌜ gaps ≤ length (now from) ⌝ }
-    ensures { λ r. ⌜ r ≡ endOf Next gaps (numbers (now (from .entry))) (spanOf g) ⌝ }
+    ensures { λ r. ⌜ r ≡ endOf Next gaps (numberAt (now (from .entry))) (spanOf g) ⌝ }
 {
     let right = g.right;
     if right >= gaps {
@@ -53,9 +53,9 @@ fn right_end(from: &[u32], gaps: usize, g: Grown) -> MaybeInst
 
 // The frequency of the gap just left of the region.
 fn left_split_cost(freq: &[f32], gaps: usize, g: Grown) -> f32
-    requires { ⌜ Inside gaps g ⌝ }
+    requires { ⌜ InsideGaps gaps g ⌝ }
     requires { ⌜ gaps ≤ length (now freq) ⌝ }
-    ensures { λ r. ⌜ r ≡ freqOutside Previous gaps (floats (now (freq .entry))) (spanOf g) ⌝ }
+    ensures { λ r. ⌜ r ≡ freqOutside Previous gaps (floatAt (now (freq .entry))) (spanOf g) ⌝ }
 {
     let left = g.left;
     if left == 0 {
@@ -67,7 +67,7 @@ fn left_split_cost(freq: &[f32], gaps: usize, g: Grown) -> f32
 // And of the one just right of it.
 fn right_split_cost(freq: &[f32], gaps: usize, g: Grown) -> f32
     requires { ⌜ gaps ≤ length (now freq) ⌝ }
-    ensures { λ r. ⌜ r ≡ freqOutside Next gaps (floats (now (freq .entry))) (spanOf g) ⌝ }
+    ensures { λ r. ⌜ r ≡ freqOutside Next gaps (floatAt (now (freq .entry))) (spanOf g) ⌝ }
 {
     let right = g.right;
     if right >= gaps {
@@ -78,19 +78,19 @@ fn right_split_cost(freq: &[f32], gaps: usize, g: Grown) -> f32
 
 // The split cost, estimated by the frequencies just before and after the region.
 fn split_cost(freq: &[f32], gaps: usize, g: Grown) -> f32
-    requires { ⌜ Inside gaps g ⌝ }
+    requires { ⌜ InsideGaps gaps g ⌝ }
     requires { ⌜ gaps ≤ length (now freq) ⌝ }
-    ensures { λ r. ⌜ r ≡ splitCost gaps (floats (now (freq .entry))) (spanOf g) ⌝ }
+    ensures { λ r. ⌜ r ≡ splitCost gaps (floatAt (now (freq .entry))) (spanOf g) ⌝ }
 {
     left_split_cost(freq, gaps, g) + right_split_cost(freq, gaps, g)
 }
 
 // The proposal that a region is.
-pub fn proposal_of(from: &[u32], freq: &[f32], gaps: usize, g: Grown) -> SplitProposal
-    requires { ⌜ Inside gaps g ⌝ }
+pub(crate) fn proposal_of(from: &[u32], freq: &[f32], gaps: usize, g: Grown) -> SplitProposal
+    requires { ⌜ InsideGaps gaps g ⌝ }
     requires { ⌜ gaps ≤ length (now from) ⌝ }
     requires { ⌜ gaps ≤ length (now freq) ⌝ }
-    ensures { λ r. ⌜ r ≡ proposalWith gaps (numbers (now (from .entry))) (floats (now (freq .entry))) (spanOf g) (g .heaviest) ⌝ }
+    ensures { λ r. ⌜ r ≡ proposalWith gaps (numberAt (now (from .entry))) (floatAt (now (freq .entry))) (spanOf g) (g .heaviest) ⌝ }
 {
     let left = left_end(from, gaps, g);
     let right = right_end(from, gaps, g);

@@ -9,7 +9,7 @@ use sheet::Written;
 use sheet::same;
 
 // How many rows each table has.
-pub struct Rows {
+pub(crate) struct Rows {
     pub links: usize,
     pub uses: usize,
     pub gaps: usize,

@@ -5,7 +5,7 @@ use mathlib.Core.Path.{_≡_, refl}
 use mathlib.Core.List.{List, [], _∷_}
 use lib.ListN.{getD}
 use Rattle.sheet.specs.Kinds.{letter, fields, limit, width, position, kindOf}
-use Rattle.sheet.specs.Field.{digitOrBlank, columns, field, valueFrom, value, sameText, isField}
+use Rattle.sheet.specs.Field.{digitOrBlank, digits, field, valueBehind, value, sameText, isField}
 use Rattle.sheet.specs.Sheet.{fieldsText, lineText, line, linesText, textFrom, render}
 use Rattle.sheet.specs.Refusal.{linesOf, areFields, isLine, kindOfLine, latest, ofKind, isInOrder, fault, verdictBelow, verdict}
 use Rattle.sheet.specs.Answer.{endText, endsText, weightsText, figuresText, answerText}
@@ -37,11 +37,11 @@ rows =
     ∷ []
 
 case-text : render (λ k. getD rows k []) ≡ text
-unfolding text rows render textFrom linesText line lineText fieldsText field columns digitOrBlank letter
+unfolding text rows render textFrom linesText line lineText fieldsText field digits digitOrBlank letter
 case-text = refl
 
 case-sound : verdict text ≡ Sound
-unfolding text verdict verdictBelow fault isLine areFields isField sameText value valueFrom field columns digitOrBlank linesOf kindOfLine kindOf position latest ofKind isInOrder letter fields limit width
+unfolding text verdict verdictBelow fault isLine areFields isField sameText value valueBehind field digits digitOrBlank linesOf kindOfLine kindOf position latest ofKind isInOrder letter fields limit width
 case-sound = refl
 
 answer : Answer
@@ -57,5 +57,5 @@ printed =
     32 ∷ 32 ∷ 32 ∷ 32 ∷ 32 ∷ 32 ∷ 48 ∷ 10 ∷ 72 ∷ 32 ∷ 32 ∷ 32 ∷ 32 ∷ 32 ∷ 32 ∷ 32 ∷ 32 ∷ 53 ∷ 48 ∷ 48 ∷ 10 ∷ []
 
 case-answer : answerText answer ≡ printed
-unfolding answer printed answerText figuresText endsText weightsText endText lineText fieldsText field columns digitOrBlank
+unfolding answer printed answerText figuresText endsText weightsText endText lineText fieldsText field digits digitOrBlank
 case-answer = refl

@@ -11,7 +11,7 @@ use lib.ListN.{length, getD, set, drop, length-append}
 use lib.Dec.{eqb, leb, lit<}
 use borrow.Author.Tests.{eq-eqb, ne-eqb, eqb-true, le-leb, leb-true}
 use Rattle.sheet.specs.Kinds.{pick}
-use Rattle.sheet.specs.Field.{digitOrBlank, columns, field, valueFrom, value, sameText, isField}
+use Rattle.sheet.specs.Field.{digitOrBlank, digits, field, valueBehind, value, sameText, isField}
 use lib.Seq.{sets}
 use Rattle.sheet.proofs.Lists.{drop-next, sets-snoc}
 
@@ -27,12 +27,12 @@ pick-false true b e = e
 pick-false false b e = refl
 
 -- a turn of the loop that reads a number
-pub value-step : (s : List ℕ) (n i d v : ℕ) → i < length s → d ≡ getD s i 0 - 48 → valueFrom n (drop i s) ≡ v → valueFrom (n * 10 + d) (drop (i + 1) s) ≡ v
-unfolding valueFrom
+pub value-step : (s : List ℕ) (n i d v : ℕ) → i < length s → d ≡ getD s i 0 - 48 → valueBehind n (drop i s) ≡ v → valueBehind (n * 10 + d) (drop (i + 1) s) ≡ v
+unfolding valueBehind
 value-step s n i d v h e p = rw e (rw (drop-next s i h) at p)
 
-pub value-end : (s : List ℕ) (n i v : ℕ) → length s ≤ i → valueFrom n (drop i s) ≡ v → n ≡ v
-unfolding valueFrom
+pub value-end : (s : List ℕ) (n i v : ℕ) → length s ≤ i → valueBehind n (drop i s) ≡ v → n ≡ v
+unfolding valueBehind
 value-end s n i v h p = rw (lib.ListN.drop-of-length-le s h) at p
 
 pub bound-step : (n d i : ℕ) → d ≤ 207 → n + 23 ≤ 23 * 10 ^ i → n * 10 + d + 23 ≤ 23 * 10 ^ (i + 1)
@@ -69,8 +69,8 @@ same-lengths [] (y ∷ ys) h = refl
 same-lengths (x ∷ xs) [] h = refl
 same-lengths (x ∷ xs) (y ∷ ys) h = pick-false (eqb x y) (sameText xs ys) (same-lengths xs ys (λ e. h (ap suc e)))
 
-pub columns-length : (w n : ℕ) → length (columns w n) ≡ w
-unfolding columns
+pub columns-length : (w n : ℕ) → length (digits w n) ≡ w
+unfolding digits
 columns-length zero n = refl
 columns-length (suc w) n = simp length-append (omega (arith, columns-length w (n / 10)))
 
@@ -79,31 +79,31 @@ unfolding field
 field-length n = simp length-append (omega (arith, columns-length 10 (n / 10)))
 
 -- a turn of the loop that writes a number, from its last column on
-pub put-step : (out whole : List ℕ) (at i left d : ℕ) → 0 < i → d ≡ digitOrBlank left → sets out at (columns i left) ≡ whole → sets (set out (at + (i - 1)) d) at (columns (i - 1) (left / 10)) ≡ whole
-unfolding columns
+pub put-step : (out whole : List ℕ) (at i left d : ℕ) → 0 < i → d ≡ digitOrBlank left → sets out at (digits i left) ≡ whole → sets (set out (at + (i - 1)) d) at (digits (i - 1) (left / 10)) ≡ whole
+unfolding digits
 put-step out whole at i left d h e p =
     let j : i ≡ suc (i - 1) = omega arith in
-    let q : sets out at (columns (suc (i - 1)) left) ≡ whole = subst (λ (w : ℕ). sets out at (columns w left) ≡ whole) j p in
-    let t : sets (set out (at + (i - 1)) (digitOrBlank left)) at (columns (i - 1) (left / 10)) ≡ sets out at (columns (i - 1) (left / 10) ++ (digitOrBlank left ∷ [])) =
-    ap (λ (w : ℕ). sets (set out (at + w) (digitOrBlank left)) at (columns (i - 1) (left / 10))) (sym (columns-length (i - 1) (left / 10)))
-    ∙ sym (sets-snoc (columns (i - 1) (left / 10)) out at (digitOrBlank left)) in
+    let q : sets out at (digits (suc (i - 1)) left) ≡ whole = subst (λ (w : ℕ). sets out at (digits w left) ≡ whole) j p in
+    let t : sets (set out (at + (i - 1)) (digitOrBlank left)) at (digits (i - 1) (left / 10)) ≡ sets out at (digits (i - 1) (left / 10) ++ (digitOrBlank left ∷ [])) =
+    ap (λ (w : ℕ). sets (set out (at + w) (digitOrBlank left)) at (digits (i - 1) (left / 10))) (sym (columns-length (i - 1) (left / 10)))
+    ∙ sym (sets-snoc (digits (i - 1) (left / 10)) out at (digitOrBlank left)) in
     rw e (t ∙ q)
 
-pub put-end : (out whole : List ℕ) (at i left : ℕ) → i ≤ 0 → sets out at (columns i left) ≡ whole → out ≡ whole
-unfolding columns
+pub put-end : (out whole : List ℕ) (at i left : ℕ) → i ≤ 0 → sets out at (digits i left) ≡ whole → out ≡ whole
+unfolding digits
 put-end out whole at i left h p =
     let z : i ≡ 0 = omega arith in
-    subst (λ (w : ℕ). sets out at (columns w left) ≡ whole) z p
+    subst (λ (w : ℕ). sets out at (digits w left) ≡ whole) z p
 
-pub put-whole : (out : List ℕ) (at n : ℕ) → sets (set out (at + 10) (48 + n % 10)) at (columns 10 (n / 10)) ≡ sets out at (field n)
+pub put-whole : (out : List ℕ) (at n : ℕ) → sets (set out (at + 10) (48 + n % 10)) at (digits 10 (n / 10)) ≡ sets out at (field n)
 unfolding field
 put-whole out at n =
-    ap (λ (w : ℕ). sets (set out (at + w) (48 + n % 10)) at (columns 10 (n / 10))) (sym (columns-length 10 (n / 10)))
-    ∙ sym (sets-snoc (columns 10 (n / 10)) out at (48 + n % 10))
+    ap (λ (w : ℕ). sets (set out (at + w) (48 + n % 10)) at (digits 10 (n / 10))) (sym (columns-length 10 (n / 10)))
+    ∙ sym (sets-snoc (digits 10 (n / 10)) out at (48 + n % 10))
 
 -- the number that a field makes is its own
-value-snoc : (xs : List ℕ) (m c : ℕ) → valueFrom m (xs ++ (c ∷ [])) ≡ valueFrom m xs * 10 + (c - 48)
-unfolding valueFrom
+value-snoc : (xs : List ℕ) (m c : ℕ) → valueBehind m (xs ++ (c ∷ [])) ≡ valueBehind m xs * 10 + (c - 48)
+unfolding valueBehind
 value-snoc [] m c = refl
 value-snoc (x ∷ xs) m c = value-snoc xs (m * 10 + (x - 48)) c
 
@@ -112,17 +112,17 @@ unfolding digitOrBlank
 digit-value zero = refl
 digit-value (suc n) = rw (ne-eqb (suc n) 0 (omega arith)) (omega arith)
 
-columns-value : (w n : ℕ) → n < 10 ^ w → valueFrom 0 (columns w n) ≡ n
-unfolding columns valueFrom
+columns-value : (w n : ℕ) → n < 10 ^ w → valueBehind 0 (digits w n) ≡ n
+unfolding digits valueBehind
 columns-value zero n h = let z : n < 1 = rw (← pow-zero 10) h in omega arith
 columns-value (suc w) n h =
     let p : n < 10 * 10 ^ w = rw (← pow-succ' 10 w) h in
-    value-snoc (columns w (n / 10)) 0 (digitOrBlank n)
+    value-snoc (digits w (n / 10)) 0 (digitOrBlank n)
     ∙ omega (arith, columns-value w (n / 10) (omega arith), digit-value n)
 
 pub field-value : (n : ℕ) → n < 4294967296 → value (field n) ≡ n
 unfolding value field
-field-value n h = value-snoc (columns 10 (n / 10)) 0 (48 + n % 10) ∙ omega (arith, columns-value 10 (n / 10) (omega arith))
+field-value n h = value-snoc (digits 10 (n / 10)) 0 (48 + n % 10) ∙ omega (arith, columns-value 10 (n / 10) (omega arith))
 
 pub same-refl : (a : List ℕ) → sameText a a ≡ true
 unfolding sameText
@@ -172,11 +172,11 @@ unfolding digitOrBlank
 digit-no-feed zero e = omega arith
 digit-no-feed (suc n) e = let p : 48 + suc n % 10 ≡ 10 = rw (ne-eqb (suc n) 0 (omega arith)) at e in omega arith
 
-columns-no-feed : (w n : ℕ) → NoFeed (columns w n)
-unfolding columns
+columns-no-feed : (w n : ℕ) → NoFeed (digits w n)
+unfolding digits
 columns-no-feed zero n = tt
-columns-no-feed (suc w) n = no-feed-append (columns w (n / 10)) (digitOrBlank n ∷ []) (columns-no-feed w (n / 10)) (digit-no-feed n, tt)
+columns-no-feed (suc w) n = no-feed-append (digits w (n / 10)) (digitOrBlank n ∷ []) (columns-no-feed w (n / 10)) (digit-no-feed n, tt)
 
 pub field-no-feed : (n : ℕ) → NoFeed (field n)
 unfolding field
-field-no-feed n = no-feed-append (columns 10 (n / 10)) ((48 + n % 10) ∷ []) (columns-no-feed 10 (n / 10)) ((λ e. omega arith), tt)
+field-no-feed n = no-feed-append (digits 10 (n / 10)) ((48 + n % 10) ∷ []) (columns-no-feed 10 (n / 10)) ((λ e. omega arith), tt)

@@ -9,7 +9,7 @@ use lib.Seq.{sets, sets-eq, set-set}
 use lib.Dec.{ltb}
 use mathlib.Core.Bool.{true, false}
 use borrow.Author.Tests.{lt-ltb, le-ltb}
-use Rattle.sheet.specs.Field.{digitOrBlank, columns, field}
+use Rattle.sheet.specs.Field.{digitOrBlank, digits, field}
 use Rattle.sheet.specs.Sheet.{fieldsText, lineText}
 use Rattle.sheet.specs.Answer.{endText, endsText, weightsText, figuresText, answerText, Wrote}
 use Rattle.sheet.specs.declared.write.End.{End}
@@ -41,8 +41,8 @@ pub put-as : (before after : List ℕ) (at : ℕ) (text whole : List ℕ) (m : �
 put-as before after at text whole m u e = u .stored ∙ ap (sets before at) e
 
 -- an absent end
-blank-end : columns 10 0 ≡ replicate 10 32
-unfolding columns digitOrBlank
+blank-end : digits 10 0 ≡ replicate 10 32
+unfolding digits digitOrBlank
 blank-end = refl
 
 pub end-absent : (out : List ℕ) (at : ℕ) → set (sets out at (field 0)) (at + 10) 45 ≡ sets out at (endText Absent)

@@ -12,21 +12,21 @@ unfoldable pub digitOrBlank : ℕ → ℕ
 digitOrBlank n = pick (eqb n 0) 32 (48 + n % 10)
 
 -- what is left of a number, right-justified in w columns
-unfoldable pub columns : ℕ → ℕ → List ℕ
-columns zero n = []
-columns (suc w) n = columns w (n / 10) ++ (digitOrBlank n ∷ [])
+unfoldable pub digits : ℕ → ℕ → List ℕ
+digits zero n = []
+digits (suc w) n = digits w (n / 10) ++ (digitOrBlank n ∷ [])
 
 -- a field: the last digit always stands
 unfoldable pub field : ℕ → List ℕ
-field n = columns 10 (n / 10) ++ ((48 + n % 10) ∷ [])
+field n = digits 10 (n / 10) ++ ((48 + n % 10) ∷ [])
 
 -- the number that bytes make behind n, read as decimal digits; a blank counts as 0
-unfoldable pub valueFrom : ℕ → List ℕ → ℕ
-valueFrom n [] = n
-valueFrom n (c ∷ cs) = valueFrom (n * 10 + (c - 48)) cs
+unfoldable pub valueBehind : ℕ → List ℕ → ℕ
+valueBehind n [] = n
+valueBehind n (c ∷ cs) = valueBehind (n * 10 + (c - 48)) cs
 
 unfoldable pub value : List ℕ → ℕ
-value cs = valueFrom 0 cs
+value cs = valueBehind 0 cs
 
 -- two texts are the same, byte for byte
 unfoldable pub sameText : List ℕ → List ℕ → Bool

@@ -105,7 +105,7 @@ fn next_line(text: &[u8], at: usize, n: usize, m: usize) -> Next
 }
 
 // The verdict on a whole text, and how many lines of each kind it has.
-pub fn check_text(text: &[u8]) -> Reading
+pub(crate) fn check_text(text: &[u8]) -> Reading
     ensures { λ r. ⌜ Checked (now (text .entry)) (r .verdict) (r .counts) ⌝ }
 {
     let mut counts = [0usize; 8];

@@ -6,7 +6,7 @@ ghost use lib.Seq.{sets};
 ghost use Rattle.sheet.specs.Field.{digitOrBlank, field, value, sameText, isField};
 
 // The columns of a field.
-pub const COLUMNS: usize = 11;
+const COLUMNS: usize = 11;
 
 // What a byte counts as a digit; a blank and any byte below '0' count 0.
 fn digit(c: u8) -> u64

@@ -30,7 +30,7 @@ const F_AT: usize = E_AT + 6 * kinds::MANY;
 const P_AT: usize = F_AT + 3 * kinds::FEW;
 
 // How many cells a sheet needs.
-pub const CELLS: usize = P_AT + 5;
+const CELLS: usize = P_AT + 5;
 
 const BASES: [usize; 8] = [P_AT, 0, V_AT, S_AT, U_AT, W_AT, E_AT, F_AT];
 
@@ -93,7 +93,9 @@ fn fill_kind(text: &[u8], cells: &mut [u32], k: usize, at: usize, count: usize)
 
 // Stores every kind of a sound text.
 fn fill_all(text: &[u8], cells: &mut [u32], counts: [usize; 8])
-    requires { ⌜ (verdict (now text) ≡ Sound) × (cellCount ≤ length (now cells)) × ((k : ℕ) → k < kinds → getD counts k 0 ≡ length (sheetOf (now text) k)) ⌝ }
+    requires { ⌜ (verdict (now text) ≡ Sound) ×
+        (cellCount ≤ length (now cells)) ×
+        ((k : ℕ) → k < kinds → getD counts k 0 ≡ length (sheetOf (now text) k)) ⌝ }
     ensures { λ _. ⌜ now (cells .exit) ≡ stored (sheetOf (now (text .entry))) (now (cells .entry)) ⌝ }
 {
     let mut at: usize = 0;

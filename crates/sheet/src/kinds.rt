@@ -3,12 +3,12 @@ ghost use mathlib.Core.Path.{_≡_};
 ghost use Prim.Native.Nat.{_<_, _≤_};
 ghost use Rattle.sheet.specs.Kinds.{letter, fields, limit, width, kindOf};
 
-pub const KINDS: usize = 8;
+pub(crate) const KINDS: usize = 8;
 
 // The limits are this layer's alone: uses and reservations are many, the others few.
-pub const FEW: usize = 128;
+pub(crate) const FEW: usize = 128;
 
-pub const MANY: usize = 256;
+pub(crate) const MANY: usize = 256;
 
 const LETTERS: [u8; 8] = [b'P', b'B', b'V', b'S', b'U', b'W', b'E', b'F'];
 

@@ -1,8 +1,7 @@
 // A sheet's text to numbers, and an answer to text (document 01, "Sheet"; refusals 14 and 15).
 //
-// Here: read_sheet checks a whole text and stores its numbers into lent cells, column by column; check_text gives the
-// verdict alone; write_answer writes an answer's lines, write_line one line. Text and numbers only: weights are their bits,
-// and no job is known.
+// Here: read_sheet checks a whole text and stores its numbers into lent cells, column by column; write_answer writes an
+// answer's lines, write_line one line. Text and numbers only: weights are their bits, and no job is known.
 // Proved: the verdict is Sound exactly for the text of a sheet with one P within the limits (proofs/Exact.antt), else
 // the first bad line and its refusal; the first 47,485 bytes of a text decide its verdict (proofs/Prefix.antt); the cells at
 // exit are the definition's, and rendering what was read gives the text back; the bytes that are written are the
@@ -18,9 +17,7 @@ mod write;
 
 pub use check::Reading;
 pub use check::Verdict;
-pub use check::check_text;
 pub use field::same;
-pub use fill::CELLS;
 pub use fill::column_of;
 pub use fill::read_sheet;
 pub use write::Answer;

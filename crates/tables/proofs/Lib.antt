@@ -1,4 +1,2 @@
--- Why the tables are right
-pub mod Fillings
-pub mod UseFilling
-pub mod GapFilling
+-- What each answer says
+pub mod Answers

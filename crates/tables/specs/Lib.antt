@@ -1,3 +1,3 @@
--- The work tables of a job
-pub mod UseTables
-pub mod GapTables
+-- A job's tables, and what filling them leaves
+pub mod JobTables
+pub mod Filled

@@ -1,7 +1,7 @@
-// Tables: the work tables of a checked job, filled one after the other.
+// Tables: a job's work tables, filled by one call.
 //
-// Here: `fill_uses` (links, use table, best use) and `fill_gap_tables` (gaps, live instructions, gap segments).
-// Proved: each column holds its definition's rows, and later rows are as they were.
-// A caller should know: the columns may be longer than the rows used, and differ in length. The job has passed the checks.
-pub mod gap_tables;
-pub mod use_tables;
+// Here: `fill_tables`, which checks a job by lines 1 to 12 and fills links, uses, gaps and gap segments.
+// Proved: for every input its answer and all fifteen lent columns are those of specs/Filled.
+// A caller should know: there is no `requires`. Columns of a table may differ in length; the shortest counts. A refused job changes
+// nothing.
+pub mod fill;

@@ -1,22 +1,14 @@
--- What the walks share
-pub mod CheckedSegments
-pub mod GapRows
-pub mod GapCount
-pub mod Largest
-pub mod UseRows
-pub mod Pending
-pub mod UseCases
-pub mod Storing
-pub mod Fills
-pub mod Adding
-pub mod ListWalk
-pub mod UseOrder
-pub mod OneList
-pub mod WholeTable
-pub mod CheckedJob
-pub mod Held
-pub mod UseTable
-pub mod CheckedCases
-pub mod LiveCases
-pub mod LiveLaws
-pub mod LiveTotal
+-- What the walkers share. For the layer above: Checked (lines 10 and 11 give what walkers rely on), GapWalk (where new walkers stand),
+-- Regions (a region that grows by one gap), Sets (the definitions as sets), Cases
+pub mod Steps
+pub mod Uses
+pub mod Top
+pub mod Seen
+pub mod OneUnit
+pub mod AllUnits
+pub mod Begin
+pub mod Checked
+pub mod GapSegments
+pub mod GapWalk
+pub mod Sets
+pub mod Cases

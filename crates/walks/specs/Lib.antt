@@ -1,7 +1,4 @@
--- The tables between a checked job and the growth. Collecting, and what stands below a line of dashes, is for private functions.
-pub mod Uses
-pub mod UseColumns
-pub mod CheckedUses
-pub mod Collecting
-pub mod Live
-pub mod GapSegments
+-- What a gap segment meets among a register's reservations, and where a walker stands
+pub mod Meeting
+pub mod Standing
+pub mod Gaps

@@ -1,11 +1,16 @@
-// Walks: the use table of a checked job, and what its segments make of gaps.
+// Walkers: what gap segments meet among one physical register's reservations, to the right and to the left.
 //
-// Here: the use table, the best use, live instructions of segments and gaps, gap segments.
-// Proved: the public functions equal definitions of specs/ without a cursor, and leave the rows past those used as they were. The use
-// table of a checked job rises from its first to its last instruction (proofs/UseTable).
-// A caller should know: these functions serve the layer above. Each `requires` is a named predicate of specs/ that the checks of `jobs`,
-// or the gaps, establish.
-pub mod collect;
-pub mod gap_segments;
-pub mod live;
-pub mod uses;
+// Here: a register, a gap segment and the tests on one reservation (`meeting`), and the two walkers (`right`, `left`): `take_segment` takes
+// one gap segment and `take_gap` all of one gap. Each hands back its new self. `Walkers::new` (`both`) makes both at one point: a search
+// by halves finds the place in each unit.
+// Proved: whether something met counts as fixed, and the heaviest weight met, are those of specs/Meeting, which looks at all rows.
+// Both are exact in every case, the heaviest also where something is fixed. The laws are one set for both directions (proofs/Top,
+// Seen).
+// A caller should know: the rows and fixed uses are as lines 10 and 11 leave them (proofs/Checked), and gap segments come in order,
+// to the right rising, to the left falling: specs/Standing and specs/Gaps say where a walker must stand.
+pub mod both;
+mod gap_rows;
+pub mod left;
+pub mod meeting;
+pub mod right;
+mod units;

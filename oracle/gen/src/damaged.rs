@@ -134,7 +134,7 @@ const DAMAGES: &[Damage] = &[
     ("no value", |_, j| { j.values.clear(); true }),
     // 5
     ("segment: start is end", |r, j| one!(r, j, segments, s => s.start = s.end)),
-    ("segment: start above end", |r, j| one!(r, j, segments, s => s.start = s.end + 1)),
+    ("segment: start above end", |r, j| one!(r, j, segments, s => s.start = s.end.saturating_add(1))),
     ("segment: one point long", |r, j| one_of!(r, j, segments, s if s.end % 4 > 0 => s.start = s.end - 1)),
     ("segment: start slot 3", |r, j| one!(r, j, segments, s => s.start |= 3)),
     ("segment: end slot 3", |r, j| one!(r, j, segments, s => s.end |= 3)),

@@ -1,6 +1,6 @@
 -- `gelduvra_find_optimal_split_point` puts the words of what `find_optimal_split_point` answers
 use mathlib.Core.Path.{ap, _∙_}
-use Rattle.exports.specs.Words.{splitPointWords}
+use Rattle.words.specs.Words.{splitPointWords}
 use borrow.Author.Needs.{needs}
 use Rattle.exports.proofs.gelduvra_find_optimal_split_point.Statement.{statement}
 use Rattle.exports.proofs.gelduvra_find_optimal_split_point.Tie as tie

@@ -43,19 +43,60 @@ read-some-requires : tie.Need-read-some-requires Inv-loop μ-loop
 read-some-requires c κs = tt
 
 same-length : tie.Need-same-length Inv-loop μ-loop
-same-length c = part-long (c .before .before .before .before .before .before .loop .done) (c .before .before .before .before .before .before .loop .buf) (c .before .before .before .read-some .last .1 .0) (c .before .before .before .read-some .kept .1 .0) ∙ c .before .before .before .before .before .before .loop .inv .1
+same-length c =
+    let at-read-some = c .before .before .before in
+    let at-loop = at-read-some .before .before .before in
+    part-long (at-loop .loop .done) (at-loop .loop .buf) (at-read-some .read-some .last .1 .0)
+    (at-read-some .read-some .kept .1 .0)
+    ∙ at-loop .loop .inv .1
 
 returns : tie.Need-returns Inv-loop μ-loop
-returns c = counted _ _ (omega (arith, part-long (c .before .before .before .before .before .before .loop .done) (c .before .before .before .before .before .before .loop .buf) (c .before .before .before .read-some .last .1 .0) (c .before .before .before .read-some .kept .1 .0), c .before .before .before .before .before .before .loop .inv .0))
+returns c =
+    let at-read-some = c .before .before .before in
+    let at-loop = at-read-some .before .before .before in
+    counted _ _
+    (omega (
+      arith,
+      part-long (at-loop .loop .done) (at-loop .loop .buf) (at-read-some .read-some .last .1 .0)
+          (at-read-some .read-some .kept .1 .0),
+      at-loop .loop .inv .0,
+    ))
 
 add-done : tie.Need-add-done Inv-loop μ-loop
-add-done c = omega (arith, c .before .before .before .before .before .before .read-some .ensures .0, part-holds (c .before .before .before .before .before .before .before .before .before .loop .done) (c .before .before .before .before .before .before .before .before .before .loop .buf) (c .before .before .before .before .before .before .read-some .last .1 .0) (c .before .before .before .before .before .before .read-some .kept .1 .0) (c .before .before .before .before .before .before .before .before .before .loop .inv .0), c .before .before .before .before .before .before .before .before .before .loop .inv .0)
+add-done c =
+    let at-read-some = c .before .before .before .before .before .before in
+    let at-loop = at-read-some .before .before .before in
+    omega (
+      arith,
+      at-read-some .read-some .ensures .0,
+      part-holds (at-loop .loop .done) (at-loop .loop .buf)
+          (at-read-some .read-some .last .1 .0) (at-read-some .read-some .kept .1 .0) (at-loop .loop .inv .0),
+      at-loop .loop .inv .0,
+    )
 
 loop-less : tie.Need-loop-less Inv-loop μ-loop
-loop-less c = omega (arith, c .before .if2 .left, c .before .before .before .before .before .before .before .before .loop-test .taken, c .before .before .before .before .before .before .before .before .before .loop .inv)
+loop-less c =
+    let at-loop-test = c .before .before .before .before .before .before .before .before in
+    let at-loop = at-loop-test .before in
+    omega (arith, c .before .if2 .left, at-loop-test .loop-test .taken, at-loop .loop .inv)
 
 loop-again : tie.Need-loop-again Inv-loop μ-loop
-loop-again c = (omega (arith, c .before .before .before .before .before .before .read-some .ensures .0, part-holds (c .before .before .before .before .before .before .before .before .before .loop .done) (c .before .before .before .before .before .before .before .before .before .loop .buf) (c .before .before .before .before .before .before .read-some .last .1 .0) (c .before .before .before .before .before .before .read-some .kept .1 .0) (c .before .before .before .before .before .before .before .before .before .loop .inv .0), part-long (c .before .before .before .before .before .before .before .before .before .loop .done) (c .before .before .before .before .before .before .before .before .before .loop .buf) (c .before .before .before .before .before .before .read-some .last .1 .0) (c .before .before .before .before .before .before .read-some .kept .1 .0), c .before .before .before .before .before .before .before .before .before .loop .inv .0), part-long (c .before .before .before .before .before .before .before .before .before .loop .done) (c .before .before .before .before .before .before .before .before .before .loop .buf) (c .before .before .before .before .before .before .read-some .last .1 .0) (c .before .before .before .before .before .before .read-some .kept .1 .0) ∙ c .before .before .before .before .before .before .before .before .before .loop .inv .1)
+loop-again c =
+    let at-read-some = c .before .before .before .before .before .before in
+    let at-loop = at-read-some .before .before .before in (
+      omega (
+        arith,
+        at-read-some .read-some .ensures .0,
+        part-holds (at-loop .loop .done) (at-loop .loop .buf)
+            (at-read-some .read-some .last .1 .0) (at-read-some .read-some .kept .1 .0) (at-loop .loop .inv .0),
+        part-long
+            (at-loop .loop .done) (at-loop .loop .buf) (at-read-some .read-some .last .1 .0) (at-read-some .read-some .kept .1 .0),
+        at-loop .loop .inv .0,
+      ),
+      part-long (at-loop .loop .done) (at-loop .loop .buf) (at-read-some .read-some .last .1 .0)
+          (at-read-some .read-some .kept .1 .0)
+          ∙ at-loop .loop .inv .1,
+    )
 
 same-length-2 : tie.Need-same-length-2 Inv-loop μ-loop
 same-length-2 c = c .before .loop .inv .1
@@ -64,10 +105,24 @@ returns-2 : tie.Need-returns-2 Inv-loop μ-loop
 returns-2 c = counted _ _ (c .before .loop .inv .0)
 
 same-length-3 : tie.Need-same-length-3 Inv-loop μ-loop
-same-length-3 c = part-long (c .before .before .before .before .before .before .before .before .loop .done) (c .before .before .before .before .before .before .before .before .loop .buf) (c .before .before .before .before .before .read-some .last .1 .0) (c .before .before .before .before .before .read-some .kept .1 .0) ∙ c .before .before .before .before .before .before .before .before .loop .inv .1
+same-length-3 c =
+    let at-read-some = c .before .before .before .before .before in
+    let at-loop = at-read-some .before .before .before in
+    part-long (at-loop .loop .done) (at-loop .loop .buf) (at-read-some .read-some .last .1 .0)
+    (at-read-some .read-some .kept .1 .0)
+    ∙ at-loop .loop .inv .1
 
 returns-3 : tie.Need-returns-3 Inv-loop μ-loop
-returns-3 c = counted _ _ (omega (arith, part-long (c .before .before .before .before .before .before .before .before .loop .done) (c .before .before .before .before .before .before .before .before .loop .buf) (c .before .before .before .before .before .read-some .last .1 .0) (c .before .before .before .before .before .read-some .kept .1 .0), c .before .before .before .before .before .before .before .before .loop .inv .0))
+returns-3 c =
+    let at-read-some = c .before .before .before .before .before in
+    let at-loop = at-read-some .before .before .before in
+    counted _ _
+    (omega (
+      arith,
+      part-long (at-loop .loop .done) (at-loop .loop .buf) (at-read-some .read-some .last .1 .0)
+          (at-read-some .read-some .kept .1 .0),
+      at-loop .loop .inv .0,
+    ))
 
 pub read-text-spec : {M : Type 1} → statement M
 read-text-spec =

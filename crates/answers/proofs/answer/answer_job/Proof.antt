@@ -20,9 +20,14 @@ same-length c = search needs
 
 returns : tie.Need-returns
 returns c =
-    let a = c .before .before .before .before .before .before .before .args in
+    let at-write-answer = c .before .before .before in
+    let at-shown-of = at-write-answer .before in
+    let at-args = at-shown-of .before .before .before in
+    let a = at-args .args in
     record {
-      written = subst (λ (x : Shown.Answer). Wrote (answerText x) (a .out .now) (c .before .before .before .write-answer .last .0) (c .before .before .before .write-answer .result)) (c .before .before .before .before .shown-of .ensures) (c .before .before .before .write-answer .ensures);
+      written = subst
+          (λ (x : Shown.Answer). Wrote (answerText x) (a .out .now) (at-write-answer .write-answer .last .0)
+          (at-write-answer .write-answer .result)) (at-shown-of .shown-of .ensures) (at-write-answer .write-answer .ensures);
       links = c .links-used .ensures;
       uses = refl;
       gaps = refl;

@@ -24,14 +24,22 @@ same-length c = search needs
 
 returns : tie.Need-returns
 returns c =
-    let a = c .before .before .before .before .before .before .before .before .args in
-    subst⁻¹ (λ (v : Verdict). Unread v (a .out .now) (c .before .before .write-answer .last .0) (c .before .before .write-answer .result)) (c .before .before .before .before .before .v .given .1) (c .before .before .write-answer .ensures)
+    let at-v = c .before .before .before .before .before in
+    let at-args = at-v .before .before .before in
+    let a = at-args .args in
+    subst⁻¹
+    (λ (v : Verdict). Unread v (a .out .now) (c .before .before .write-answer .last .0)
+    (c .before .before .write-answer .result)) (at-v .v .given .1) (c .before .before .write-answer .ensures)
 
 returns-2 : tie.Need-returns-2
-returns-2 c = let a = c .before .before .before .args in subst⁻¹ (λ (v : Verdict). Unread v (a .out .now) (a .out .now) NoRoom) (c .enum-told .given .1) (refl, refl)
+returns-2 c =
+    let a = c .before .before .before .args in
+    subst⁻¹ (λ (v : Verdict). Unread v (a .out .now) (a .out .now) NoRoom) (c .enum-told .given .1) (refl, refl)
 
 returns-3 : tie.Need-returns-3
-returns-3 c = let a = c .before .before .before .args in subst⁻¹ (λ (v : Verdict). Unread v (a .out .now) (a .out .now) NoRoom) (c .enum-told2 .given .1) (refl, refl)
+returns-3 c =
+    let a = c .before .before .before .args in
+    subst⁻¹ (λ (v : Verdict). Unread v (a .out .now) (a .out .now) NoRoom) (c .enum-told2 .given .1) (refl, refl)
 
 pub write-unread-spec : {M : Type 1} → statement M
 write-unread-spec =

@@ -2,8 +2,7 @@
 use mathlib.Core.Path.{_≡_, refl, sym, ap, _∙_}
 use lib.Ieee.{nan}
 use lib.ListN.{List·getD-eq-default}
-use Rattle.numbers.specs.Weight.{bitsFrom}
-use Rattle.answers.specs.Figures.{bitsShown}
+use Rattle.numbers.specs.Weight.{bitsFrom, bitsShown}
 use borrow.Author.Needs.{needs}
 use Rattle.answers.proofs.rows.bits_at.Statement.{statement}
 use Rattle.answers.proofs.rows.bits_at.Tie as tie

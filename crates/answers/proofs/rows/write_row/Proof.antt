@@ -5,7 +5,7 @@ use Prim.Native.Nat.{ℕ}
 use Rattle.sheet.specs.Sheet.{lineText}
 use Rattle.sheet.specs.Answer.{Wrote}
 use Rattle.sheet.specs.declared.write.Written.{Written}
-use Rattle.proposer.specs.Answer.{WorkColumns, workColumns}
+use Rattle.filling.specs.SourceTables.{WorkColumns, workColumns}
 use Rattle.answers.specs.Rows.{tableLetter, rowFields, rowText}
 use Rattle.answers.specs.declared.rows.Table.{Table}
 use borrow.Author.Needs.{needs}
@@ -72,32 +72,68 @@ same-length c = search needs
 
 returns : tie.Need-returns
 returns c =
-    let a = c .before .before .before .before .before .before .before .before .before .before .before .before .before .before .before .before .before .before .before .before .before .before .before .before .args in
-    shown (a .table) (workColumns (a .prev .now) (a .next .now) (a .inst .now) (a .weight .now) (a .left .now) (a .right .now) (a .from .now) (a .to .now) (a .gap-weight .now) (a .live .now) (a .freq .now) (a .out-from .now) (a .out-to .now) (a .out-value .now) (a .out-gap .now)) (a .i) (c .before .before .before .before .before .before .enum-told .given .1) (c .before .before .before .before .before .link-row .ensures) (c .before .before .write-line .ensures)
+    let at-link-row = c .before .before .before .before .before in
+    let at-enum-told = at-link-row .before in
+    let at-args =
+    at-enum-told .before .before .before .before .before .before .before .before .before .before .before .before .before .before
+    .before .before .before .before in
+    let a = at-args .args in
+    shown (a .table)
+    (workColumns (a .prev .now) (a .next .now) (a .inst .now) (a .weight .now) (a .left .now) (a .right .now) (a .from .now)
+    (a .to .now) (a .gap-weight .now) (a .live .now) (a .freq .now) (a .out-from .now) (a .out-to .now) (a .out-value .now)
+    (a .out-gap .now)) (a .i) (at-enum-told .enum-told .given .1) (at-link-row .link-row .ensures)
+    (c .before .before .write-line .ensures)
 
 same-length-2 : tie.Need-same-length-2
 same-length-2 c = search needs
 
 returns-2 : tie.Need-returns-2
 returns-2 c =
-    let a = c .before .before .before .before .before .before .before .before .before .before .before .before .before .before .before .before .before .before .before .before .before .before .before .before .args in
-    shown (a .table) (workColumns (a .prev .now) (a .next .now) (a .inst .now) (a .weight .now) (a .left .now) (a .right .now) (a .from .now) (a .to .now) (a .gap-weight .now) (a .live .now) (a .freq .now) (a .out-from .now) (a .out-to .now) (a .out-value .now) (a .out-gap .now)) (a .i) (c .before .before .before .before .before .before .enum-told2 .given .1) (c .before .before .before .before .before .use-row .ensures) (c .before .before .write-line2 .ensures)
+    let at-use-row = c .before .before .before .before .before in
+    let at-enum-told2 = at-use-row .before in
+    let at-args =
+    at-enum-told2 .before .before .before .before .before .before .before .before .before .before .before .before .before
+    .before .before .before .before .before in
+    let a = at-args .args in
+    shown (a .table)
+    (workColumns (a .prev .now) (a .next .now) (a .inst .now) (a .weight .now) (a .left .now) (a .right .now) (a .from .now)
+    (a .to .now) (a .gap-weight .now) (a .live .now) (a .freq .now) (a .out-from .now) (a .out-to .now) (a .out-value .now)
+    (a .out-gap .now)) (a .i) (at-enum-told2 .enum-told2 .given .1) (at-use-row .use-row .ensures)
+    (c .before .before .write-line2 .ensures)
 
 same-length-3 : tie.Need-same-length-3
 same-length-3 c = search needs
 
 returns-3 : tie.Need-returns-3
 returns-3 c =
-    let a = c .before .before .before .before .before .before .before .before .before .before .before .before .before .before .before .before .before .before .before .before .before .before .before .before .args in
-    shown (a .table) (workColumns (a .prev .now) (a .next .now) (a .inst .now) (a .weight .now) (a .left .now) (a .right .now) (a .from .now) (a .to .now) (a .gap-weight .now) (a .live .now) (a .freq .now) (a .out-from .now) (a .out-to .now) (a .out-value .now) (a .out-gap .now)) (a .i) (c .before .before .before .before .before .before .enum-told3 .given .1) (c .before .before .before .before .before .gap-row .ensures) (c .before .before .write-line3 .ensures)
+    let at-gap-row = c .before .before .before .before .before in
+    let at-enum-told3 = at-gap-row .before in
+    let at-args =
+    at-enum-told3 .before .before .before .before .before .before .before .before .before .before .before .before .before
+    .before .before .before .before .before in
+    let a = at-args .args in
+    shown (a .table)
+    (workColumns (a .prev .now) (a .next .now) (a .inst .now) (a .weight .now) (a .left .now) (a .right .now) (a .from .now)
+    (a .to .now) (a .gap-weight .now) (a .live .now) (a .freq .now) (a .out-from .now) (a .out-to .now) (a .out-value .now)
+    (a .out-gap .now)) (a .i) (at-enum-told3 .enum-told3 .given .1) (at-gap-row .gap-row .ensures)
+    (c .before .before .write-line3 .ensures)
 
 same-length-4 : tie.Need-same-length-4
 same-length-4 c = search needs
 
 returns-4 : tie.Need-returns-4
 returns-4 c =
-    let a = c .before .before .before .before .before .before .before .before .before .before .before .before .before .before .before .before .before .before .before .before .before .before .before .before .args in
-    shown (a .table) (workColumns (a .prev .now) (a .next .now) (a .inst .now) (a .weight .now) (a .left .now) (a .right .now) (a .from .now) (a .to .now) (a .gap-weight .now) (a .live .now) (a .freq .now) (a .out-from .now) (a .out-to .now) (a .out-value .now) (a .out-gap .now)) (a .i) (c .before .before .before .before .before .before .enum-told4 .given .1) (c .before .before .before .before .before .gap-segment-row .ensures) (c .before .before .write-line4 .ensures)
+    let at-gap-segment-row = c .before .before .before .before .before in
+    let at-enum-told4 = at-gap-segment-row .before in
+    let at-args =
+    at-enum-told4 .before .before .before .before .before .before .before .before .before .before .before .before .before
+    .before .before .before .before .before in
+    let a = at-args .args in
+    shown (a .table)
+    (workColumns (a .prev .now) (a .next .now) (a .inst .now) (a .weight .now) (a .left .now) (a .right .now) (a .from .now)
+    (a .to .now) (a .gap-weight .now) (a .live .now) (a .freq .now) (a .out-from .now) (a .out-to .now) (a .out-value .now)
+    (a .out-gap .now)) (a .i) (at-enum-told4 .enum-told4 .given .1) (at-gap-segment-row .gap-segment-row .ensures)
+    (c .before .before .write-line4 .ensures)
 
 pub write-row-spec : {M : Type 1} → statement M
 write-row-spec =

@@ -7,8 +7,8 @@ use native.Mathlib.Omega.{arith}
 use borrow.Author.Needs.{needs}
 use lib.ListN.{length, getD, set, length-set}
 use lib.Seq.{getD-set-same, getD-set-other}
-use Rattle.links.proofs.Firsts.{split}
-use Rattle.links.proofs.Tables.{filled-is}
+use Rattle.columns.proofs.Firsts.{split}
+use Rattle.columns.proofs.Tables.{filled-is}
 use Rattle.gaps.proofs.gaps.clear_live.Statement.{statement}
 use Rattle.gaps.proofs.gaps.clear_live.Tie as tie
 
@@ -52,7 +52,12 @@ loop-less : tie.Need-loop-less Inv-loop μ-loop
 loop-less c = let h = c .loop-test .taken in omega (arith, h)
 
 loop-again : tie.Need-loop-again Inv-loop μ-loop
-loop-again c = let h = c .loop-test .taken in (one-more (c .before .before .args .live .now) (c .before .loop .live) (c .before .loop .i) (inside c) (c .before .loop .inv .0), omega (arith, h))
+loop-again c =
+    let h = c .loop-test .taken in (
+      one-more (c .before .before .args .live .now) (c .before .loop .live) (c .before .loop .i) (inside c)
+          (c .before .loop .inv .0),
+      omega (arith, h),
+    )
 
 same-length : tie.Need-same-length Inv-loop μ-loop
 same-length c = c .before .loop .inv .0 .long
@@ -63,7 +68,8 @@ returns c =
     let l = c .before .loop in
     let a = c .before .before .args in
     let m = l .inv .1 in
-    filled-is (λ (k : ℕ). 0) (a .n) (a .live .now) (l .live) 0 (c .before .before .pre) (l .inv .0 .long) (λ k q. l .inv .0 .rows k (omega (arith, q, h))) (λ k q. l .inv .0 .rest k (omega (arith, q, m)))
+    filled-is (λ (k : ℕ). 0) (a .n) (a .live .now) (l .live) 0 (c .before .before .pre) (l .inv .0 .long)
+    (λ k q. l .inv .0 .rows k (omega (arith, q, h))) (λ k q. l .inv .0 .rest k (omega (arith, q, m)))
 
 pub clear-live-spec : {M : Type 1} → statement M
 clear-live-spec = tie.close (tie.spec Inv-loop μ-loop loop-holds mul-live slice-write-live add-i loop-less loop-again same-length returns)

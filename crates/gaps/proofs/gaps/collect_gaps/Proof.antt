@@ -6,9 +6,9 @@ use borrow.Author.Needs.{needs}
 use lib.ListN.{length}
 use Rattle.links.specs.Blocks.{Ends, blocksOf}
 use Rattle.links.specs.declared.lower.Side.the-variants.{Previous, Next}
-use Rattle.walks.specs.UseColumns.{columns as useColumns, useIn}
-use Rattle.walks.specs.declared.uses.SplitUse.{SplitUse}
-use Rattle.gaps.specs.GapColumns.{columns}
+use Rattle.use_rows.specs.UseColumns.{useColumns, useIn}
+use Rattle.use_rows.specs.declared.row.SplitUse.{SplitUse}
+use Rattle.gaps.specs.GapColumns.{gapColumns}
 use Rattle.gaps.specs.Cutting.{ownIn}
 use Rattle.gaps.proofs.StoredGaps.{stored-held}
 use Rattle.gaps.proofs.InColumns.{own-ends, own-inside, in-order, side-alike, side-leads}
@@ -18,74 +18,211 @@ use Rattle.gaps.proofs.gaps.collect_gaps.Tie as tie
 
 cut-side-requires : tie.Need-cut-side-requires
 cut-side-requires c κs =
-    let a = c .before .before .before .before .before .before .before .before .before .before .before .before .before .before .before .before .before .before .args in
-    let p = c .before .before .before .before .before .before .before .before .before .before .before .before .before .before .before .before .before .before .pre in (
-      (side-leads (a .freq .now) (a .first .now) (a .end .now) (a .prev-lower-freq .now) (a .next-lower-freq .now) (useColumns (a .inst .now) (a .weight .now) (a .left-weight .now) (a .right-weight .now)) (a .best) (c .before .before .before .before .before .before .before .before .before .before .before .before .before .before .before .before .before .before .pre .0) Previous (a .prev-lower-freq .now) (p .0 .left-links), side-alike (a .freq .now) (a .first .now) (a .end .now) (a .prev-lower-freq .now) (a .next-lower-freq .now) (useColumns (a .inst .now) (a .weight .now) (a .left-weight .now) (a .right-weight .now)) (a .best) (c .before .before .before .before .before .before .before .before .before .before .before .before .before .before .before .before .before .before .pre .0) Previous (a .prev-lower-freq .now) (p .0 .left-links)),
-      (in-order (a .freq .now) (a .first .now) (a .end .now) (a .prev-lower-freq .now) (a .next-lower-freq .now) (useColumns (a .inst .now) (a .weight .now) (a .left-weight .now) (a .right-weight .now)) (a .best) (c .before .before .before .before .before .before .before .before .before .before .before .before .before .before .before .before .before .before .pre .0) 0 (a .best) (p .0 .best-inside), left-rows (a .freq .now) (a .first .now) (a .end .now) (a .prev-lower-freq .now) (a .next-lower-freq .now) (useColumns (a .inst .now) (a .weight .now) (a .left-weight .now) (a .right-weight .now)) (a .best) (c .before .before .before .before .before .before .before .before .before .before .before .before .before .before .before .before .before .before .pre .0) (columns (a .from .now) (a .to .now) (a .out-weight .now) (a .min-freq .now)) (p .1 .0)),
+    let at-pre =
+    c .before .before .before .before .before .before .before .before .before .before .before .before .before .before .before
+    .before .before .before in
+    let a = at-pre .args in
+    let p = at-pre .pre in (
+      (
+        side-leads (a .freq .now) (a .first .now) (a .end .now) (a .prev-lower-freq .now) (a .next-lower-freq .now)
+            (useColumns (a .inst .now) (a .weight .now) (a .left-weight .now) (a .right-weight .now)) (a .best) (at-pre .pre .0)
+            Previous (a .prev-lower-freq .now) (p .0 .left-links),
+        side-alike (a .freq .now) (a .first .now) (a .end .now)
+            (a .prev-lower-freq .now) (a .next-lower-freq .now)
+            (useColumns (a .inst .now) (a .weight .now) (a .left-weight .now) (a .right-weight .now)) (a .best) (at-pre .pre .0)
+            Previous (a .prev-lower-freq .now) (p .0 .left-links),
+      ),
+      (
+        in-order (a .freq .now) (a .first .now) (a .end .now) (a .prev-lower-freq .now) (a .next-lower-freq .now)
+            (useColumns (a .inst .now) (a .weight .now) (a .left-weight .now) (a .right-weight .now)) (a .best) (at-pre .pre .0) 0
+            (a .best) (p .0 .best-inside),
+        left-rows (a .freq .now) (a .first .now) (a .end .now) (a .prev-lower-freq .now)
+            (a .next-lower-freq .now) (useColumns (a .inst .now) (a .weight .now) (a .left-weight .now) (a .right-weight .now))
+            (a .best) (at-pre .pre .0) (gapColumns (a .from .now) (a .to .now) (a .out-weight .now) (a .min-freq .now)) (p .1 .0),
+      ),
     )
 
 use-at-requires : tie.Need-use-at-requires
-use-at-requires c κs = let a = c .before .before .before .before .before .before .before .before .before .before .before .before .before .before .before .before .before .before .before .before .before .before .before .before .before .before .before .args in own-inside (a .freq .now) (a .first .now) (a .end .now) (a .prev-lower-freq .now) (a .next-lower-freq .now) (useColumns (a .inst .now) (a .weight .now) (a .left-weight .now) (a .right-weight .now)) (a .best) (c .before .before .before .before .before .before .before .before .before .before .before .before .before .before .before .before .before .before .before .before .before .before .before .before .before .before .before .pre .0)
+use-at-requires c κs =
+    let at-args =
+    c .before .before .before .before .before .before .before .before .before .before .before .before .before .before .before
+    .before .before .before .before .before .before .before .before .before .before .before .before in
+    let a = at-args .args in
+    own-inside (a .freq .now) (a .first .now) (a .end .now) (a .prev-lower-freq .now) (a .next-lower-freq .now)
+    (useColumns (a .inst .now) (a .weight .now) (a .left-weight .now) (a .right-weight .now)) (a .best) (at-args .pre .0)
 
 put-own-requires : tie.Need-put-own-requires
 put-own-requires c κs =
-    let a = c .before .before .before .before .before .before .before .before .before .before .before .before .before .before .before .before .before .before .before .before .before .before .before .before .before .before .before .before .before .before .before .before .args in
-    let p = c .before .before .before .before .before .before .before .before .before .before .before .before .before .before .before .before .before .before .before .before .before .before .before .before .before .before .before .before .before .before .before .before .pre in (
-      subst (λ (u : SplitUse). Ends (a .end .now) (length (a .freq .now)) (u .inst .0)) (sym (c .before .before .before .before .use-at .ensures)) (own-ends (a .freq .now) (a .first .now) (a .end .now) (a .prev-lower-freq .now) (a .next-lower-freq .now) (useColumns (a .inst .now) (a .weight .now) (a .left-weight .now) (a .right-weight .now)) (a .best) (c .before .before .before .before .before .before .before .before .before .before .before .before .before .before .before .before .before .before .before .before .before .before .before .before .before .before .before .before .before .before .before .before .pre .0)),
-      own-rows (a .freq .now) (a .first .now) (a .end .now) (a .prev-lower-freq .now) (a .next-lower-freq .now) (useColumns (a .inst .now) (a .weight .now) (a .left-weight .now) (a .right-weight .now)) (a .best) (c .before .before .before .before .before .before .before .before .before .before .before .before .before .before .before .before .before .before .before .before .before .before .before .before .before .before .before .before .before .before .before .before .pre .0) (columns (a .from .now) (a .to .now) (a .out-weight .now) (a .min-freq .now)) (p .1 .0) (c .before .before .before .before .before .before .before .before .before .before .before .before .before .cut-side .ensures),
+    let at-use-at = c .before .before .before .before in
+    let at-cut-side = at-use-at .before .before .before .before .before .before .before .before .before in
+    let at-pre =
+    at-cut-side .before .before .before .before .before .before .before .before .before .before .before .before .before .before
+    .before .before .before .before .before in
+    let a = at-pre .args in
+    let p = at-pre .pre in (
+      subst (λ (u : SplitUse). Ends (a .end .now) (length (a .freq .now)) (u .inst .0)) (sym (at-use-at .use-at .ensures))
+          (own-ends (a .freq .now) (a .first .now) (a .end .now) (a .prev-lower-freq .now) (a .next-lower-freq .now)
+          (useColumns (a .inst .now) (a .weight .now) (a .left-weight .now) (a .right-weight .now)) (a .best) (at-pre .pre .0)),
+      own-rows (a .freq .now) (a .first .now) (a .end .now) (a .prev-lower-freq .now) (a .next-lower-freq .now)
+          (useColumns (a .inst .now) (a .weight .now) (a .left-weight .now) (a .right-weight .now)) (a .best) (at-pre .pre .0)
+          (gapColumns (a .from .now) (a .to .now) (a .out-weight .now) (a .min-freq .now)) (p .1 .0) (at-cut-side .cut-side .ensures),
     )
 
 sub-cut-side : tie.Need-sub-cut-side
-sub-cut-side c = let h = c .before .before .before .before .before .before .before .before .before .before .before .before .before .before .before .before .before .before .before .before .before .before .before .before .before .before .before .before .before .before .before .before .before .before .before .before .before .before .before .before .before .before .before .before .before .pre .0 .best-inside in omega (arith, h)
+sub-cut-side c =
+    let at-pre =
+    c .before .before .before .before .before .before .before .before .before .before .before .before .before .before .before
+    .before .before .before .before .before .before .before .before .before .before .before .before .before .before .before
+    .before .before .before .before .before .before .before .before .before .before .before .before .before .before .before in
+    let h = at-pre .pre .0 .best-inside in omega (arith, h)
 
-own-same : (c : tie.After-cut-side-arg8) → let a = c .before .before .before .before .before .before .before .before .before .before .before .before .before .before .before .before .before .before .before .before .before .before .before .before .before .before .before .before .before .before .before .before .before .before .before .before .before .before .before .before .before .before .before .before .before .args in ownIn (a .freq .now) (a .end .now) (c .before .before .before .before .before .before .before .before .before .before .before .before .before .before .before .before .before .use-at .result) ≡ ownIn (a .freq .now) (a .end .now) (useIn (useColumns (a .inst .now) (a .weight .now) (a .left-weight .now) (a .right-weight .now)) (a .best))
-own-same c = let a = c .before .before .before .before .before .before .before .before .before .before .before .before .before .before .before .before .before .before .before .before .before .before .before .before .before .before .before .before .before .before .before .before .before .before .before .before .before .before .before .before .before .before .before .before .before .args in ap (ownIn (a .freq .now) (a .end .now)) (c .before .before .before .before .before .before .before .before .before .before .before .before .before .before .before .before .before .use-at .ensures)
+own-same : (c : tie.After-cut-side-arg8) →
+    let a =
+    c .before .before .before .before .before .before .before .before .before .before .before .before .before .before .before
+    .before .before .before .before .before .before .before .before .before .before .before .before .before .before .before
+    .before .before .before .before .before .before .before .before .before .before .before .before .before .before .before
+    .args in
+    ownIn (a .freq .now) (a .end .now)
+    (c .before .before .before .before .before .before .before .before .before .before .before .before .before .before .before
+    .before .before .use-at .result) ≡ ownIn (a .freq .now) (a .end .now)
+    (useIn (useColumns (a .inst .now) (a .weight .now) (a .left-weight .now) (a .right-weight .now)) (a .best))
+own-same c =
+    let at-use-at =
+    c .before .before .before .before .before .before .before .before .before .before .before .before .before .before .before
+    .before .before in
+    let at-args =
+    at-use-at .before .before .before .before .before .before .before .before .before .before .before .before .before .before
+    .before .before .before .before .before .before .before .before .before .before .before .before .before .before in
+    let a = at-args .args in ap (ownIn (a .freq .now) (a .end .now)) (at-use-at .use-at .ensures)
 
 add-cut-side : tie.Need-add-cut-side
 add-cut-side c =
-    let a = c .before .before .before .before .before .before .before .before .before .before .before .before .before .before .before .before .before .before .before .before .before .before .before .before .before .before .before .before .before .before .before .before .before .before .before .before .before .before .before .before .before .before .before .before .before .args in
-    let b = own-below (a .freq .now) (a .first .now) (a .end .now) (a .prev-lower-freq .now) (a .next-lower-freq .now) (useColumns (a .inst .now) (a .weight .now) (a .left-weight .now) (a .right-weight .now)) (a .best) (c .before .before .before .before .before .before .before .before .before .before .before .before .before .before .before .before .before .before .before .before .before .before .before .before .before .before .before .before .before .before .before .before .before .before .before .before .before .before .before .before .before .before .before .before .before .pre .0) (columns (a .from .now) (a .to .now) (a .out-weight .now) (a .min-freq .now)) (c .before .before .before .before .before .before .before .before .before .before .before .before .before .before .before .before .before .before .before .before .before .before .before .before .before .before .before .before .before .before .before .before .before .before .before .before .before .before .before .before .before .before .before .before .before .pre .1 .0) (c .before .before .before .before .before .before .before .before .before .before .before .before .before .before .before .before .before .before .before .before .before .before .before .before .before .before .cut-side .ensures) in
-    let r = c .before .before .before .before .before .before .before .before .before .before .before .before .before .before .before .before .before .before .before .before .before .before .before .before .before .before .before .before .before .before .before .before .before .before .before .before .before .before .before .before .before .before .before .before .before .pre .1 .0 .from in
-    let g = c .before .before .before .before .before .before .before .before .before .before .before .before .before .before .before .before .before .before .before .before .before .before .before .before .before .before .before .before .before .before .before .before .before .before .before .before .before .before .before .before .before .before .before .before .before .good .1 .1 .1 .1 .1 .1 .1 .1 .1 .1 .0 .1 in
+    let at-cut-side =
+    c .before .before .before .before .before .before .before .before .before .before .before .before .before .before .before
+    .before .before .before .before .before .before .before .before .before .before .before in
+    let at-pre =
+    at-cut-side .before .before .before .before .before .before .before .before .before .before .before .before .before .before
+    .before .before .before .before .before in
+    let a = at-pre .args in
+    let b = own-below (a .freq .now) (a .first .now) (a .end .now) (a .prev-lower-freq .now) (a .next-lower-freq .now)
+    (useColumns (a .inst .now) (a .weight .now) (a .left-weight .now) (a .right-weight .now)) (a .best) (at-pre .pre .0)
+    (gapColumns (a .from .now) (a .to .now) (a .out-weight .now) (a .min-freq .now)) (at-pre .pre .1 .0)
+    (at-cut-side .cut-side .ensures) in
+    let r = at-pre .pre .1 .0 .from in
+    let g = at-pre .good .1 .1 .1 .1 .1 .1 .1 .1 .1 .1 .0 .1 in
     omega (arith, b, r, g)
 
 cut-side-requires-2 : tie.Need-cut-side-requires-2
 cut-side-requires-2 c κs =
-    let a = c .before .before .before .before .before .before .before .before .before .before .before .before .before .before .before .before .before .before .before .before .before .before .before .before .before .before .before .before .before .before .before .before .before .before .before .before .before .before .before .before .before .before .before .before .before .args in
-    let p = c .before .before .before .before .before .before .before .before .before .before .before .before .before .before .before .before .before .before .before .before .before .before .before .before .before .before .before .before .before .before .before .before .before .before .before .before .before .before .before .before .before .before .before .before .before .pre in
+    let at-put-own = c .before .before .before .before .before .before .before .before .before .before .before .before in
+    let at-cut-side =
+    at-put-own .before .before .before .before .before .before .before .before .before .before .before .before .before .before in
+    let at-pre =
+    at-cut-side .before .before .before .before .before .before .before .before .before .before .before .before .before .before
+    .before .before .before .before .before in
+    let a = at-pre .args in
+    let p = at-pre .pre in
     let b = p .0 .best-inside in (
-      (side-leads (a .freq .now) (a .first .now) (a .end .now) (a .prev-lower-freq .now) (a .next-lower-freq .now) (useColumns (a .inst .now) (a .weight .now) (a .left-weight .now) (a .right-weight .now)) (a .best) (c .before .before .before .before .before .before .before .before .before .before .before .before .before .before .before .before .before .before .before .before .before .before .before .before .before .before .before .before .before .before .before .before .before .before .before .before .before .before .before .before .before .before .before .before .before .pre .0) Next (a .next-lower-freq .now) (p .0 .right-links), side-alike (a .freq .now) (a .first .now) (a .end .now) (a .prev-lower-freq .now) (a .next-lower-freq .now) (useColumns (a .inst .now) (a .weight .now) (a .left-weight .now) (a .right-weight .now)) (a .best) (c .before .before .before .before .before .before .before .before .before .before .before .before .before .before .before .before .before .before .before .before .before .before .before .before .before .before .before .before .before .before .before .before .before .before .before .before .before .before .before .before .before .before .before .before .before .pre .0) Next (a .next-lower-freq .now) (p .0 .right-links)),
-      (in-order (a .freq .now) (a .first .now) (a .end .now) (a .prev-lower-freq .now) (a .next-lower-freq .now) (useColumns (a .inst .now) (a .weight .now) (a .left-weight .now) (a .right-weight .now)) (a .best) (c .before .before .before .before .before .before .before .before .before .before .before .before .before .before .before .before .before .before .before .before .before .before .before .before .before .before .before .before .before .before .before .before .before .before .before .before .before .before .before .before .before .before .before .before .before .pre .0) (a .best) (length (a .inst .now) - 1) (omega (arith, b)), right-rows (a .freq .now) (a .first .now) (a .end .now) (a .prev-lower-freq .now) (a .next-lower-freq .now) (useColumns (a .inst .now) (a .weight .now) (a .left-weight .now) (a .right-weight .now)) (a .best) (c .before .before .before .before .before .before .before .before .before .before .before .before .before .before .before .before .before .before .before .before .before .before .before .before .before .before .before .before .before .before .before .before .before .before .before .before .before .before .before .before .before .before .before .before .before .pre .0) (columns (a .from .now) (a .to .now) (a .out-weight .now) (a .min-freq .now)) (p .1 .0) (c .before .before .before .before .before .before .before .before .before .before .before .before .before .before .before .before .before .before .before .before .before .before .before .before .before .before .cut-side .ensures) (own-same c) (c .before .before .before .before .before .before .before .before .before .before .before .before .put-own .ensures)),
+      (
+        side-leads (a .freq .now) (a .first .now) (a .end .now) (a .prev-lower-freq .now) (a .next-lower-freq .now)
+            (useColumns (a .inst .now) (a .weight .now) (a .left-weight .now) (a .right-weight .now)) (a .best) (at-pre .pre .0) Next
+            (a .next-lower-freq .now) (p .0 .right-links),
+        side-alike (a .freq .now) (a .first .now) (a .end .now)
+            (a .prev-lower-freq .now) (a .next-lower-freq .now)
+            (useColumns (a .inst .now) (a .weight .now) (a .left-weight .now) (a .right-weight .now)) (a .best) (at-pre .pre .0) Next
+            (a .next-lower-freq .now) (p .0 .right-links),
+      ),
+      (
+        in-order (a .freq .now) (a .first .now) (a .end .now) (a .prev-lower-freq .now) (a .next-lower-freq .now)
+            (useColumns (a .inst .now) (a .weight .now) (a .left-weight .now) (a .right-weight .now)) (a .best) (at-pre .pre .0)
+            (a .best) (length (a .inst .now) - 1) (omega (arith, b)),
+        right-rows (a .freq .now) (a .first .now) (a .end .now)
+            (a .prev-lower-freq .now) (a .next-lower-freq .now)
+            (useColumns (a .inst .now) (a .weight .now) (a .left-weight .now) (a .right-weight .now)) (a .best) (at-pre .pre .0)
+            (gapColumns (a .from .now) (a .to .now) (a .out-weight .now) (a .min-freq .now)) (p .1 .0) (at-cut-side .cut-side .ensures)
+            (own-same c) (at-put-own .put-own .ensures),
+      ),
     )
 
 clear-live-requires : tie.Need-clear-live-requires
 clear-live-requires c κs =
-    let a = c .before .before .before .before .before .before .before .before .before .before .before .before .before .before .before .before .before .before .before .before .before .before .before .before .before .before .before .before .before .before .before .before .before .before .before .before .before .before .before .before .before .before .before .before .before .before .before .before .before .before .before .before .before .before .before .args in
-    let s = all-stored (a .freq .now) (a .first .now) (a .end .now) (a .prev-lower-freq .now) (a .next-lower-freq .now) (useColumns (a .inst .now) (a .weight .now) (a .left-weight .now) (a .right-weight .now)) (a .best) (c .before .before .before .before .before .before .before .before .before .before .before .before .before .before .before .before .before .before .before .before .before .before .before .before .before .before .before .before .before .before .before .before .before .before .before .before .before .before .before .before .before .before .before .before .before .before .before .before .before .before .before .before .before .before .before .pre .0) (columns (a .from .now) (a .to .now) (a .out-weight .now) (a .min-freq .now)) (c .before .before .before .before .before .before .before .before .before .before .before .before .before .before .before .before .before .before .before .before .before .before .before .before .before .before .before .before .before .before .before .before .before .before .before .before .before .before .before .before .before .before .before .before .before .before .before .before .before .before .before .before .before .before .before .pre .1 .0) (c .before .before .before .before .before .before .before .before .before .before .before .before .before .before .before .before .before .before .before .before .before .before .before .before .before .before .before .before .before .before .before .before .before .before .before .before .cut-side .ensures) (own-same (c .before .before .before .before .before .before .before .before .before .before)) (c .before .before .before .before .before .before .before .before .before .before .before .before .before .before .before .before .before .before .before .before .before .before .put-own .ensures) (c .before .before .before .before .before .before .before .before .before .cut-side2 .ensures) .0 in
-    let l = c .before .before .before .before .before .before .before .before .before .before .before .before .before .before .before .before .before .before .before .before .before .before .before .before .before .before .before .before .before .before .before .before .before .before .before .before .before .before .before .before .before .before .before .before .before .before .before .before .before .before .before .before .before .before .before .pre .1 .1 in
+    let at-cut-side2 = c .before .before .before .before .before .before .before .before .before in
+    let at-stage = at-cut-side2 .before in
+    let at-put-own = at-stage .before .before .before .before .before .before .before .before .before .before .before .before in
+    let at-cut-side =
+    at-put-own .before .before .before .before .before .before .before .before .before .before .before .before .before .before in
+    let at-pre =
+    at-cut-side .before .before .before .before .before .before .before .before .before .before .before .before .before .before
+    .before .before .before .before .before in
+    let a = at-pre .args in
+    let s = all-stored (a .freq .now) (a .first .now) (a .end .now) (a .prev-lower-freq .now) (a .next-lower-freq .now)
+    (useColumns (a .inst .now) (a .weight .now) (a .left-weight .now) (a .right-weight .now)) (a .best) (at-pre .pre .0)
+    (gapColumns (a .from .now) (a .to .now) (a .out-weight .now) (a .min-freq .now)) (at-pre .pre .1 .0)
+    (at-cut-side .cut-side .ensures) (own-same (at-stage)) (at-put-own .put-own .ensures)
+    (at-cut-side2 .cut-side2 .ensures) .0 in
+    let l = at-pre .pre .1 .1 in
     omega (arith, s, l)
 
 same-length : tie.Need-same-length
-same-length c = c .before .before .before .before .before .before .before .before .before .before .before .before .cut-side2 .kept .1 .1 .1 .1 .1 .1 .1 .1 .1 .0 ∙ c .before .before .before .before .before .before .before .before .before .before .before .before .before .before .before .before .before .before .before .before .before .before .before .before .before .put-own .kept .1 .1 .0 ∙ c .before .before .before .before .before .before .before .before .before .before .before .before .before .before .before .before .before .before .before .before .before .before .before .before .before .before .before .before .before .before .before .before .before .before .before .before .before .before .before .cut-side .kept .1 .1 .1 .1 .1 .1 .1 .1 .1 .0
+same-length c =
+    let at-cut-side2 = c .before .before .before .before .before .before .before .before .before .before .before .before in
+    let at-put-own = at-cut-side2 .before .before .before .before .before .before .before .before .before .before .before .before .before in
+    let at-cut-side =
+    at-put-own .before .before .before .before .before .before .before .before .before .before .before .before .before .before in
+    at-cut-side2 .cut-side2 .kept .1 .1 .1 .1 .1 .1 .1 .1 .1 .0
+    ∙ at-put-own .put-own .kept .1 .1 .0
+    ∙ at-cut-side .cut-side .kept .1 .1 .1 .1 .1 .1 .1 .1 .1 .0
 
 same-length-2 : tie.Need-same-length-2
-same-length-2 c = c .before .before .before .before .before .before .before .before .before .before .before .before .cut-side2 .kept .1 .1 .1 .1 .1 .1 .1 .1 .1 .1 .0 ∙ c .before .before .before .before .before .before .before .before .before .before .before .before .before .before .before .before .before .before .before .before .before .before .before .before .before .put-own .kept .1 .1 .1 .0 ∙ c .before .before .before .before .before .before .before .before .before .before .before .before .before .before .before .before .before .before .before .before .before .before .before .before .before .before .before .before .before .before .before .before .before .before .before .before .before .before .before .cut-side .kept .1 .1 .1 .1 .1 .1 .1 .1 .1 .1 .0
+same-length-2 c =
+    let at-cut-side2 = c .before .before .before .before .before .before .before .before .before .before .before .before in
+    let at-put-own = at-cut-side2 .before .before .before .before .before .before .before .before .before .before .before .before .before in
+    let at-cut-side =
+    at-put-own .before .before .before .before .before .before .before .before .before .before .before .before .before .before in
+    at-cut-side2 .cut-side2 .kept .1 .1 .1 .1 .1 .1 .1 .1 .1 .1 .0
+    ∙ at-put-own .put-own .kept .1 .1 .1 .0
+    ∙ at-cut-side .cut-side .kept .1 .1 .1 .1 .1 .1 .1 .1 .1 .1 .0
 
 same-length-3 : tie.Need-same-length-3
-same-length-3 c = c .before .before .before .before .before .before .before .before .before .before .before .before .cut-side2 .kept .1 .1 .1 .1 .1 .1 .1 .1 .1 .1 .1 .0 ∙ c .before .before .before .before .before .before .before .before .before .before .before .before .before .before .before .before .before .before .before .before .before .before .before .before .before .put-own .kept .1 .1 .1 .1 .0 ∙ c .before .before .before .before .before .before .before .before .before .before .before .before .before .before .before .before .before .before .before .before .before .before .before .before .before .before .before .before .before .before .before .before .before .before .before .before .before .before .before .cut-side .kept .1 .1 .1 .1 .1 .1 .1 .1 .1 .1 .1 .0
+same-length-3 c =
+    let at-cut-side2 = c .before .before .before .before .before .before .before .before .before .before .before .before in
+    let at-put-own = at-cut-side2 .before .before .before .before .before .before .before .before .before .before .before .before .before in
+    let at-cut-side =
+    at-put-own .before .before .before .before .before .before .before .before .before .before .before .before .before .before in
+    at-cut-side2 .cut-side2 .kept .1 .1 .1 .1 .1 .1 .1 .1 .1 .1 .1 .0
+    ∙ at-put-own .put-own .kept .1 .1 .1 .1 .0
+    ∙ at-cut-side .cut-side .kept .1 .1 .1 .1 .1 .1 .1 .1 .1 .1 .1 .0
 
 same-length-4 : tie.Need-same-length-4
 same-length-4 c = search needs
 
 same-length-5 : tie.Need-same-length-5
-same-length-5 c = c .before .before .before .before .before .before .before .before .before .before .before .before .cut-side2 .kept .1 .1 .1 .1 .1 .1 .1 .1 .1 .1 .1 .1 .0 ∙ c .before .before .before .before .before .before .before .before .before .before .before .before .before .before .before .before .before .before .before .before .before .before .before .before .before .put-own .kept .1 .1 .1 .1 .1 .0 ∙ c .before .before .before .before .before .before .before .before .before .before .before .before .before .before .before .before .before .before .before .before .before .before .before .before .before .before .before .before .before .before .before .before .before .before .before .before .before .before .before .cut-side .kept .1 .1 .1 .1 .1 .1 .1 .1 .1 .1 .1 .1 .0
+same-length-5 c =
+    let at-cut-side2 = c .before .before .before .before .before .before .before .before .before .before .before .before in
+    let at-put-own = at-cut-side2 .before .before .before .before .before .before .before .before .before .before .before .before .before in
+    let at-cut-side =
+    at-put-own .before .before .before .before .before .before .before .before .before .before .before .before .before .before in
+    at-cut-side2 .cut-side2 .kept .1 .1 .1 .1 .1 .1 .1 .1 .1 .1 .1 .1 .0
+    ∙ at-put-own .put-own .kept .1 .1 .1 .1 .1 .0
+    ∙ at-cut-side .cut-side .kept .1 .1 .1 .1 .1 .1 .1 .1 .1 .1 .1 .1 .0
 
 returns : tie.Need-returns
 returns c =
-    let a = c .before .before .before .before .before .before .before .before .before .before .before .before .before .before .before .before .before .before .before .before .before .before .before .before .before .before .before .before .before .before .before .before .before .before .before .before .before .before .before .before .before .before .before .before .before .before .before .before .before .before .before .before .before .before .before .before .before .before .args in
-    let s = all-stored (a .freq .now) (a .first .now) (a .end .now) (a .prev-lower-freq .now) (a .next-lower-freq .now) (useColumns (a .inst .now) (a .weight .now) (a .left-weight .now) (a .right-weight .now)) (a .best) (c .before .before .before .before .before .before .before .before .before .before .before .before .before .before .before .before .before .before .before .before .before .before .before .before .before .before .before .before .before .before .before .before .before .before .before .before .before .before .before .before .before .before .before .before .before .before .before .before .before .before .before .before .before .before .before .before .before .before .pre .0) (columns (a .from .now) (a .to .now) (a .out-weight .now) (a .min-freq .now)) (c .before .before .before .before .before .before .before .before .before .before .before .before .before .before .before .before .before .before .before .before .before .before .before .before .before .before .before .before .before .before .before .before .before .before .before .before .before .before .before .before .before .before .before .before .before .before .before .before .before .before .before .before .before .before .before .before .before .before .pre .1 .0) (c .before .before .before .before .before .before .before .before .before .before .before .before .before .before .before .before .before .before .before .before .before .before .before .before .before .before .before .before .before .before .before .before .before .before .before .before .before .before .before .cut-side .ensures) (own-same (c .before .before .before .before .before .before .before .before .before .before .before .before .before)) (c .before .before .before .before .before .before .before .before .before .before .before .before .before .before .before .before .before .before .before .before .before .before .before .before .before .put-own .ensures) (c .before .before .before .before .before .before .before .before .before .before .before .before .cut-side2 .ensures) in (
-      stored-held _ (columns (a .from .now) (a .to .now) (a .out-weight .now) (a .min-freq .now)) _ _ _ _ (c .before .before .before .before .before .before .before .before .before .before .before .before .before .before .before .before .before .before .before .before .before .before .before .before .before .before .before .before .before .before .before .before .before .before .before .before .before .before .before .before .before .before .before .before .before .before .before .before .before .before .before .before .before .before .before .before .before .before .pre .1 .0) (s .0) (s .1) (c .before .before .clear-live .ensures),
-      c .before .before .before .before .before .before .before .before .before .before .before .before .before .before .before .before .before .before .before .before .before .before .before .before .before .before .before .before .before .before .before .before .before .before .before .before .before .before .before .cut-side .ensures .0 ∙ initial-is (a .freq .now) (a .first .now) (a .end .now) (a .prev-lower-freq .now) (a .next-lower-freq .now) (useColumns (a .inst .now) (a .weight .now) (a .left-weight .now) (a .right-weight .now)) (a .best) (c .before .before .before .before .before .before .before .before .before .before .before .before .before .before .before .before .before .before .before .before .before .before .before .before .before .before .before .before .before .before .before .before .before .before .before .before .before .before .before .before .before .before .before .before .before .before .before .before .before .before .before .before .before .before .before .before .before .before .pre .0),
+    let at-cut-side2 = c .before .before .before .before .before .before .before .before .before .before .before .before in
+    let at-stage = at-cut-side2 .before in
+    let at-put-own = at-stage .before .before .before .before .before .before .before .before .before .before .before .before in
+    let at-cut-side =
+    at-put-own .before .before .before .before .before .before .before .before .before .before .before .before .before .before in
+    let at-pre =
+    at-cut-side .before .before .before .before .before .before .before .before .before .before .before .before .before .before
+    .before .before .before .before .before in
+    let a = at-pre .args in
+    let s = all-stored (a .freq .now) (a .first .now) (a .end .now) (a .prev-lower-freq .now) (a .next-lower-freq .now) (useColumns (a .inst .now) (a .weight .now) (a .left-weight .now) (a .right-weight .now)) (a .best) (at-pre .pre .0) (gapColumns (a .from .now) (a .to .now) (a .out-weight .now) (a .min-freq .now)) (at-pre .pre .1 .0) (at-cut-side .cut-side .ensures) (own-same (at-stage)) (at-put-own .put-own .ensures) (at-cut-side2 .cut-side2 .ensures) in (
+      stored-held _ (gapColumns (a .from .now) (a .to .now) (a .out-weight .now) (a .min-freq .now)) _ _ _ _ (at-pre .pre .1 .0)
+          (s .0) (s .1) (c .before .before .clear-live .ensures),
+      at-cut-side .cut-side .ensures .0
+          ∙ initial-is (a .freq .now) (a .first .now) (a .end .now) (a .prev-lower-freq .now) (a .next-lower-freq .now)
+          (useColumns (a .inst .now) (a .weight .now) (a .left-weight .now) (a .right-weight .now)) (a .best) (at-pre .pre .0),
     )
 
 pub collect-gaps-spec : {M : Type 1} → statement M

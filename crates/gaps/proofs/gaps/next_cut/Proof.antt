@@ -25,15 +25,21 @@ reaches-requires c κs = search needs
 
 returns-2 : tie.Need-returns-2
 returns-2 c =
-    let b = c .before .before .before .before .before .before .before in
-    cut-at (b .args .side) (b .args .links .now) (b .pre .0) (b .args .last .0) (b .args .b .0) (b .pre .1) (c .before .before .before .lower .given .0 .0 .0)
-    (sym (c .before .before .before .before .before .link-at .ensures) ∙ c .before .before .before .lower .given .1) (sym (c .before .reaches .ensures) ∙ c .if1 .taken)
+    let at-lower = c .before .before .before in
+    let at-link-at = at-lower .before .before in
+    let b = at-link-at .before .before in
+    cut-at (b .args .side) (b .args .links .now) (b .pre .0) (b .args .last .0) (b .args .b .0) (b .pre .1)
+    (at-lower .lower .given .0 .0 .0)
+    (sym (at-link-at .link-at .ensures) ∙ at-lower .lower .given .1) (sym (c .before .reaches .ensures) ∙ c .if1 .taken)
 
 returns-3 : tie.Need-returns-3
 returns-3 c =
-    let b = c .before .before .before .before .before .before .before in
-    cut-stopped (b .args .side) (b .args .links .now) (b .pre .0) (b .args .last .0) (b .args .b .0) (b .pre .1) (c .before .before .before .lower .given .0 .0 .0)
-    (sym (c .before .before .before .before .before .link-at .ensures) ∙ c .before .before .before .lower .given .1) (sym (c .before .reaches .ensures) ∙ c .if1 .left)
+    let at-lower = c .before .before .before in
+    let at-link-at = at-lower .before .before in
+    let b = at-link-at .before .before in
+    cut-stopped (b .args .side) (b .args .links .now) (b .pre .0) (b .args .last .0) (b .args .b .0) (b .pre .1)
+    (at-lower .lower .given .0 .0 .0)
+    (sym (at-link-at .link-at .ensures) ∙ at-lower .lower .given .1) (sym (c .before .reaches .ensures) ∙ c .if1 .left)
 
 pub next-cut-spec : {M : Type 1} → statement M
 next-cut-spec =

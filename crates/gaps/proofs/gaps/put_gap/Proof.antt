@@ -1,7 +1,7 @@
 -- `put_gap` stores the four fields of a row
 use mathlib.Core.Path.{ap₂}
 use Prim.Native.Nat.{ℕ}
-use Rattle.gaps.specs.GapColumns.{columns, withRow}
+use Rattle.gaps.specs.GapColumns.{gapColumns, withRow}
 use borrow.Author.Needs.{needs}
 use Rattle.gaps.proofs.gaps.put_gap.Statement.{statement}
 use Rattle.gaps.proofs.gaps.put_gap.Tie as tie
@@ -53,8 +53,10 @@ same-length-4 c = search needs
 
 returns : tie.Need-returns
 returns c =
-    let a = c .before .before .before .before .before .before .args in
-    ap₂ (λ (x y : ℕ). withRow (columns (a .from .now) (a .to .now) (a .weight .now) (a .freq .now)) (a .at) x y (a .w) (a .f)) (c .before .on-side .ensures) (c .on-side2 .ensures)
+    let at-args = c .before .before .before .before .before .before in
+    let a = at-args .args in
+    ap₂ (λ (x y : ℕ). withRow (gapColumns (a .from .now) (a .to .now) (a .weight .now) (a .freq .now)) (a .at) x y (a .w) (a .f))
+    (c .before .on-side .ensures) (c .on-side2 .ensures)
 
 pub put-gap-spec : {M : Type 1} → statement M
 put-gap-spec =

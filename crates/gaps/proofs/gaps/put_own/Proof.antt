@@ -5,9 +5,9 @@ use borrow.Author.Needs.{needs}
 use lib.Ieee.{Float}
 use lib.ListN.{length}
 use Prim.Native.Nat.{ℕ, _+_}
-use Rattle.walks.proofs.Storing.{ends-inside}
-use Rattle.gaps.specs.Gaps.{plus}
-use Rattle.gaps.specs.GapColumns.{columns, withRow}
+use Rattle.uses.proofs.Storing.{ends-inside}
+use Rattle.numbers.specs.Sum.{plus}
+use Rattle.gaps.specs.GapColumns.{gapColumns, withRow}
 use Rattle.gaps.specs.Cutting.{freqIn}
 use Rattle.gaps.proofs.gaps.put_own.Statement.{statement}
 use Rattle.gaps.proofs.gaps.put_own.Tie as tie
@@ -43,9 +43,15 @@ same-length-4 c = search needs
 returns : tie.Need-returns
 unfolding plus
 returns c =
-    let a = c .before .before .before .before .before .before .before .before .before .before .before .before .before .before .before .before .before .before .before .before .before .args in
-    let cols = columns (a .from .now) (a .to .now) (a .weight .now) (a .min-freq .now) in
-    c .before .before .before .before .before .before .before .before .put-gap .ensures ∙ ap (withRow cols (a .n) (a .u .inst .0) (a .u .inst .0 + 1) (a .u .weight)) (c .before .before .before .before .before .before .before .before .before .before .before .before .before .block-frequency .ensures ∙ ap (freqIn (a .freq .now)) (c .before .before .before .before .before .before .before .before .before .before .before .before .before .before .block-of .ensures))
+    let at-put-gap = c .before .before .before .before .before .before .before .before in
+    let at-block-frequency = at-put-gap .before .before .before .before .before in
+    let at-block-of = at-block-frequency .before in
+    let at-args = at-block-of .before .before .before .before .before .before .before in
+    let a = at-args .args in
+    let cols = gapColumns (a .from .now) (a .to .now) (a .weight .now) (a .min-freq .now) in
+    at-put-gap .put-gap .ensures
+    ∙ ap (withRow cols (a .n) (a .u .inst .0) (a .u .inst .0 + 1) (a .u .weight))
+    (at-block-frequency .block-frequency .ensures ∙ ap (freqIn (a .freq .now)) (at-block-of .block-of .ensures))
 
 pub put-own-spec : {M : Type 1} → statement M
 put-own-spec =

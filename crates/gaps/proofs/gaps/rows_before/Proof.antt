@@ -26,7 +26,9 @@ count-cuts-requires c κs = search needs
 returns-2 : tie.Need-returns-2
 returns-2 c =
     let a = c .before .before .before .before .args in
-    c .count-cuts .ensures ∙ ap (λ (s : Side). onSide s (length (cutsIn (a .side) (a .links .now) (a .last .0) (a .b .0))) 0) (sym (c .before .enum-told2 .given .1))
+    c .count-cuts .ensures
+    ∙ ap (λ (s : Side). onSide s (length (cutsIn (a .side) (a .links .now) (a .last .0) (a .b .0))) 0)
+    (sym (c .before .enum-told2 .given .1))
 
 pub rows-before-spec : {M : Type 1} → statement M
 rows-before-spec = tie.close (tie.spec enum-told returns enum-told-2 count-cuts-requires returns-2)

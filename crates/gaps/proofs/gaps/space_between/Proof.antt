@@ -5,7 +5,7 @@ use Prim.Native.Nat.{ℕ, _+_, _-_}
 use borrow.Author.Needs.{needs}
 use Rattle.links.specs.declared.lower.Side.{Side}
 use Rattle.links.specs.declared.lower.Side.the-variants.{Previous, Next}
-use Rattle.walks.specs.declared.uses.SplitUse.{SplitUse}
+use Rattle.use_rows.specs.declared.row.SplitUse.{SplitUse}
 use Rattle.gaps.specs.Cutting.{blockIn, spaceOf}
 use Rattle.gaps.specs.declared.gaps.Space.{Space}
 use Rattle.gaps.proofs.gaps.space_between.Statement.{statement}
@@ -14,12 +14,32 @@ use Rattle.gaps.proofs.gaps.space_between.Tie as tie
 space-left : (ends : List ℕ) (n : ℕ) (u v : SplitUse) {x y : ℕ} → x ≡ blockIn ends n (v .inst .0 - 1) → y ≡ blockIn ends n (u .inst .0)
     → _≡_ {A = Space} (record { edge = v .inst .0; end = u .inst .0; near = v .«left_weight»; far = u .«right_weight»; main = u .weight; block = record { 0 = x }; last = record { 0 = y } }) (spaceOf Previous ends n u v)
 space-left ends n u v p q =
-    ap₂ (λ (x y : ℕ). record { edge = v .inst .0; end = u .inst .0; near = v .«left_weight»; far = u .«right_weight»; main = u .weight; block = record { 0 = x }; last = record { 0 = y } }) p q
+    ap₂
+    (λ (x y : ℕ).
+    record {
+      edge = v .inst .0;
+      end = u .inst .0;
+      near = v .«left_weight»;
+      far = u .«right_weight»;
+      main = u .weight;
+      block = record { 0 = x };
+      last = record { 0 = y };
+    }) p q
 
 space-right : (ends : List ℕ) (n : ℕ) (u v : SplitUse) {x y : ℕ} → x ≡ blockIn ends n (u .inst .0 + 1) → y ≡ blockIn ends n (v .inst .0)
     → _≡_ {A = Space} (record { edge = u .inst .0 + 1; end = v .inst .0 + 1; near = u .«right_weight»; far = v .«left_weight»; main = v .weight; block = record { 0 = x }; last = record { 0 = y } }) (spaceOf Next ends n u v)
 space-right ends n u v p q =
-    ap₂ (λ (x y : ℕ). record { edge = u .inst .0 + 1; end = v .inst .0 + 1; near = u .«right_weight»; far = v .«left_weight»; main = v .weight; block = record { 0 = x }; last = record { 0 = y } }) p q
+    ap₂
+    (λ (x y : ℕ).
+    record {
+      edge = u .inst .0 + 1;
+      end = v .inst .0 + 1;
+      near = u .«right_weight»;
+      far = v .«left_weight»;
+      main = v .weight;
+      block = record { 0 = x };
+      last = record { 0 = y };
+    }) p q
 
 enum-told : tie.Need-enum-told
 enum-told c = search needs

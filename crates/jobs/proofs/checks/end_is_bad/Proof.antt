@@ -16,11 +16,19 @@ has-liveout-requires c κs = search needs
 
 returns : tie.Need-returns
 unfolding badEnd
-returns c = sym (pick-first _ _ _ _ (sym (c .before .before .before .has-liveout .ensures) ∙ c .before .before .if1 .taken) (or-first _ _ (ap not (ne-eqb _ _ (c .if2 .taken)))))
+returns c =
+    sym
+    (pick-first _ _ _ _ (sym (c .before .before .before .has-liveout .ensures) ∙ c .before .before .if1 .taken)
+    (or-first _ _ (ap not (ne-eqb _ _ (c .if2 .taken)))))
 
 returns-2 : tie.Need-returns-2
 unfolding badEnd
-returns-2 c = sym (pick-first _ _ _ _ (sym (c .before .before .before .before .before .has-liveout .ensures) ∙ c .before .before .before .before .if1 .taken) (or-second _ _ _ (ap not (eq-eqb _ _ (c .before .before .if2 .left))) (and-first _ _ (ap not (le-leb _ _ (c .if3 .taken))))))
+returns-2 c =
+    sym
+    (pick-first _ _ _ _
+    (sym (c .before .before .before .before .before .has-liveout .ensures) ∙ c .before .before .before .before .if1 .taken)
+    (or-second _ _ _ (ap not (eq-eqb _ _ (c .before .before .if2 .left)))
+    (and-first _ _ (ap not (le-leb _ _ (c .if3 .taken))))))
 
 sub-use-or-none : tie.Need-sub-use-or-none
 sub-use-or-none c = search needs
@@ -33,15 +41,36 @@ use-or-none-requires c κs = search needs
 
 returns-3 : tie.Need-returns-3
 unfolding badEnd
-returns-3 c = sym (pick-first _ _ _ _ (sym (c .before .before .before .before .before .before .before .before .before .has-liveout .ensures) ∙ c .before .before .before .before .before .before .before .before .if1 .taken) (or-second _ _ _ (ap not (eq-eqb _ _ (c .before .before .before .before .before .before .if2 .left))) (and-both _ _ _ (ap not (lt-leb _ _ (c .before .before .before .before .if3 .left))) (ap (λ (u : Use). eqb (u .position) (c .before .before .before .before .before .before .before .before .before .before .before .before .before .args .s .end / 4)) (sym (c .before .before .use-or-none .ensures))))))
+returns-3 c =
+    let at-if3 = c .before .before .before .before in
+    let at-if2 = at-if3 .before .before in
+    let at-if1 = at-if2 .before .before in
+    let at-has-liveout = at-if1 .before in
+    let at-args = at-has-liveout .before .before .before .before in
+    sym
+    (pick-first _ _ _ _ (sym (at-has-liveout .has-liveout .ensures) ∙ at-if1 .if1 .taken)
+    (or-second _ _ _ (ap not (eq-eqb _ _ (at-if2 .if2 .left)))
+    (and-both _ _ _ (ap not (lt-leb _ _ (at-if3 .if3 .left)))
+    (ap (λ (u : Use). eqb (u .position) (at-args .args .s .end / 4)) (sym (c .before .before .use-or-none .ensures))))))
 
 returns-4 : tie.Need-returns-4
 unfolding badEnd
-returns-4 c = sym (pick-second _ _ _ _ (sym (c .before .before .has-liveout .ensures) ∙ c .before .if1 .left) (and-first _ _ (not-true (c .before .before .before .before .before .before .args .is-last) (c .if4 .taken))))
+returns-4 c =
+    let at-args = c .before .before .before .before .before .before in
+    sym
+    (pick-second _ _ _ _ (sym (c .before .before .has-liveout .ensures) ∙ c .before .if1 .left)
+    (and-first _ _ (not-true (at-args .args .is-last) (c .if4 .taken))))
 
 returns-5 : tie.Need-returns-5
 unfolding badEnd
-returns-5 c = sym (pick-second _ _ _ _ (sym (c .before .before .before .before .has-liveout .ensures) ∙ c .before .before .before .if1 .left) (and-both _ _ _ (not-false (c .before .before .before .before .before .before .before .before .args .is-last) (c .before .before .if4 .left)) (or-first _ _ (le-leb _ _ (c .if5 .taken)))))
+returns-5 c =
+    let at-if1 = c .before .before .before in
+    let at-has-liveout = at-if1 .before in
+    let at-args = at-has-liveout .before .before .before .before in
+    sym
+    (pick-second _ _ _ _ (sym (at-has-liveout .has-liveout .ensures) ∙ at-if1 .if1 .left)
+    (and-both _ _ _ (not-false (at-args .args .is-last) (c .before .before .if4 .left))
+    (or-first _ _ (le-leb _ _ (c .if5 .taken)))))
 
 sub-use-or-none-2 : tie.Need-sub-use-or-none-2
 sub-use-or-none-2 c = search needs
@@ -66,7 +95,19 @@ cast-result-2 c = search needs
 
 returns-6 : tie.Need-returns-6
 unfolding badEnd
-returns-6 c = sym (pick-second _ _ _ _ (sym (c .before .before .before .before .before .before .before .before .before .has-liveout .ensures) ∙ c .before .before .before .before .before .before .before .before .if1 .left) (and-both _ _ _ (not-false (c .before .before .before .before .before .before .before .before .before .before .before .before .before .args .is-last) (c .before .before .before .before .before .before .before .if4 .left)) (or-second _ _ _ (lt-leb _ _ (c .before .before .before .before .before .if5 .left)) (ap₂ (λ (u : Use) (e : ℕ). ltb (u .position + 1) e) (sym (c .before .before .before .use-or-none2 .ensures)) (sym (c .before .before .round-to-next-inst .ensures))))))
+returns-6 c =
+    let at-use-or-none2 = c .before .before .before in
+    let at-if5 = at-use-or-none2 .before .before in
+    let at-if4 = at-if5 .before .before in
+    let at-if1 = at-if4 .before in
+    let at-has-liveout = at-if1 .before in
+    let at-args = at-has-liveout .before .before .before .before in
+    sym
+    (pick-second _ _ _ _ (sym (at-has-liveout .has-liveout .ensures) ∙ at-if1 .if1 .left)
+    (and-both _ _ _ (not-false (at-args .args .is-last) (at-if4 .if4 .left))
+    (or-second _ _ _ (lt-leb _ _ (at-if5 .if5 .left))
+    (ap₂ (λ (u : Use) (e : ℕ). ltb (u .position + 1) e) (sym (at-use-or-none2 .use-or-none2 .ensures))
+    (sym (c .before .before .round-to-next-inst .ensures))))))
 
 pub end-is-bad-spec : {M : Type 1} → statement M
 end-is-bad-spec =

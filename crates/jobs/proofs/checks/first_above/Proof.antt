@@ -8,7 +8,7 @@ use borrow.Author.Count.{below-more}
 use borrow.Author.Needs.{needs, scaled-fits}
 use borrow.Author.Tests.{lt-ltb, le-ltb}
 use lib.ListN.{length}
-use Rattle.links.proofs.Firsts.{first-found, first-none}
+use Rattle.columns.proofs.Firsts.{first-found, first-none}
 use Rattle.jobs.specs.Lines.{above}
 use Rattle.jobs.proofs.checks.first_above.Statement.{statement}
 use Rattle.jobs.proofs.checks.first_above.Tie as tie
@@ -41,7 +41,9 @@ loop-again : tie.Need-loop-again Inv-loop μ-loop
 loop-again c = (omega arith, below-more _ _ (c .before .before .before .loop .inv .1) (le-ltb _ _ (c .if1 .left)))
 
 returns-2 : tie.Need-returns-2 Inv-loop μ-loop
-returns-2 c = mathlib.Core.Path._∙_ (le-antisymm (c .before .loop .inv .0) (c .loop-test .left)) (first-none _ _ (λ k h. c .before .loop .inv .1 k (native.Mathlib.Nat.lt-of-lt-of-le h (c .loop-test .left))))
+returns-2 c =
+    mathlib.Core.Path._∙_ (le-antisymm (c .before .loop .inv .0) (c .loop-test .left))
+    (first-none _ _ (λ k h. c .before .loop .inv .1 k (native.Mathlib.Nat.lt-of-lt-of-le h (c .loop-test .left))))
 
 pub first-above-spec : {M : Type 1} → statement M
 first-above-spec =

@@ -10,7 +10,7 @@ use lib.Dec.{eqb}
 use lib.ListN.{length, getD}
 use Rattle.jobs.specs.declared.rows.FixedUse.{FixedUse}
 use Rattle.jobs.specs.Rows.{fixedUsesOf, noFixedUse}
-use Rattle.jobs.proofs.Counting.{Counted, counted-none, counted-turn, counted-all}
+use Rattle.columns.proofs.Counting.{Counted, counted-none, counted-turn, counted-all}
 use Rattle.jobs.proofs.Reading.{own-fixed-use}
 use borrow.Author.Needs.{needs}
 use Rattle.jobs.proofs.checks.fixed_count.Statement.{statement}
@@ -25,19 +25,28 @@ abbrev μ-loop : tie.MeasureT-loop
 abbrev begin : tie.In-loop Inv-loop μ-loop → tie.Start Inv-loop μ-loop
 begin c = c .before .before .before .before .before .before
 
-in-list : (c : tie.In-loop Inv-loop μ-loop) → c .before .loop .i < length (fixedUsesOf (begin c .args .f-unit .now) (begin c .args .point .now) (begin c .args .value .now))
+in-list : (c : tie.In-loop Inv-loop μ-loop) →
+    c .before .loop .i < length
+    (fixedUsesOf (begin c .args .f-unit .now) (begin c .args .point .now) (begin c .args .value .now))
 in-list c = lt-of-lt-of-le (c .loop-test .taken) (le-of-eq (c .before .before .fixed-use-count .ensures))
 
 -- the row's unit
-unit : (c : tie.After-fixed-use-at Inv-loop μ-loop) → c .fixed-use-at .result .unit ≡ getD (fixedUsesOf (begin (c .before) .args .f-unit .now) (begin (c .before) .args .point .now) (begin (c .before) .args .value .now)) (c .before .before .loop .i) noFixedUse .unit
+unit : (c : tie.After-fixed-use-at Inv-loop μ-loop) →
+    c .fixed-use-at .result .unit ≡ getD
+    (fixedUsesOf (begin (c .before) .args .f-unit .now) (begin (c .before) .args .point .now)
+    (begin (c .before) .args .value .now)) (c .before .before .loop .i) noFixedUse .unit
 unit d =
     let c = d .before in
-    ap (λ (f : FixedUse). f .unit) (own-fixed-use (begin c .args .f-unit .now) (begin c .args .point .now) (begin c .args .value .now) (c .before .loop .i) (d .fixed-use-at .result) (d .fixed-use-at .ensures) (in-list c))
+    ap (λ (f : FixedUse). f .unit)
+    (own-fixed-use (begin c .args .f-unit .now) (begin c .args .point .now) (begin c .args .value .now) (c .before .loop .i)
+    (d .fixed-use-at .result) (d .fixed-use-at .ensures) (in-list c))
 
 abbrev test : tie.Start Inv-loop μ-loop → ℕ → Bool
 test b k = eqb (getD (fixedUsesOf (b .args .f-unit .now) (b .args .point .now) (b .args .value .now)) k noFixedUse .unit) (b .args .u)
 
-tested : (c : tie.After-fixed-use-at Inv-loop μ-loop) (b : Bool) → eqb (c .fixed-use-at .result .unit) (begin (c .before) .args .u) ≡ b → b ≡ test (begin (c .before)) (c .before .before .loop .i)
+tested : (c : tie.After-fixed-use-at Inv-loop μ-loop) (b : Bool) →
+    eqb (c .fixed-use-at .result .unit) (begin (c .before) .args .u) ≡ b →
+    b ≡ test (begin (c .before)) (c .before .before .loop .i)
 tested c b e = sym e ∙ ap (λ (x : ℕ). eqb x (begin (c .before) .args .u)) (unit c)
 
 fixed-use-count-requires : tie.Need-fixed-use-count-requires Inv-loop μ-loop
@@ -74,7 +83,8 @@ loop-again c =
 returns : tie.Need-returns Inv-loop μ-loop
 returns c =
     let e = c .before .before .fixed-use-count .ensures in
-    counted-all _ (c .before .loop .i) (c .before .loop .have) _ (le-trans (c .before .loop .inv .0) (le-of-eq e)) (le-trans (le-of-eq (sym e)) (c .loop-test .left)) (c .before .loop .inv .1)
+    counted-all _ (c .before .loop .i) (c .before .loop .have) _ (le-trans (c .before .loop .inv .0) (le-of-eq e))
+    (le-trans (le-of-eq (sym e)) (c .loop-test .left)) (c .before .loop .inv .1)
 
 pub fixed-count-spec : {M : Type 1} → statement M
 fixed-count-spec =

@@ -14,30 +14,84 @@ returns c = sym (or-first _ _ (or-first _ _ (or-first _ _ (or-first _ _ (or-firs
 
 returns-2 : tie.Need-returns-2
 unfolding badFixedUse
-returns-2 c = sym (or-first _ _ (or-first _ _ (or-first _ _ (or-first _ _ (or-second _ _ _ (lt-leb _ _ (c .before .before .before .if1 .left)) (lt-ltb _ _ (c .if2 .taken)))))))
+returns-2 c =
+    sym
+    (or-first _ _
+    (or-first _ _
+    (or-first _ _
+    (or-first _ _ (or-second _ _ _ (lt-leb _ _ (c .before .before .before .if1 .left)) (lt-ltb _ _ (c .if2 .taken)))))))
 
 cast-if3 : tie.Need-cast-if3
 cast-if3 c = search needs
 
 returns-3 : tie.Need-returns-3
 unfolding badFixedUse
-returns-3 c = sym (or-first _ _ (or-first _ _ (or-first _ _ (or-second _ _ _ (or-none (lt-leb _ _ (c .before .before .before .before .before .before .if1 .left)) (le-ltb _ _ (c .before .before .before .if2 .left))) (le-leb _ _ (c .if3 .taken))))))
+returns-3 c =
+    let at-if2 = c .before .before .before in
+    let at-if1 = at-if2 .before .before .before in
+    sym
+    (or-first _ _
+    (or-first _ _
+    (or-first _ _
+    (or-second _ _ _ (or-none (lt-leb _ _ (at-if1 .if1 .left)) (le-ltb _ _ (at-if2 .if2 .left)))
+    (le-leb _ _ (c .if3 .taken))))))
 
 returns-4 : tie.Need-returns-4
 unfolding badFixedUse
-returns-4 c = sym (or-first _ _ (or-first _ _ (or-second _ _ _ (or-none (or-none (lt-leb _ _ (c .before .before .before .before .before .before .before .before .if1 .left)) (le-ltb _ _ (c .before .before .before .before .before .if2 .left))) (lt-leb _ _ (c .before .before .if3 .left))) (ap not (ne-eqb _ _ (c .if4 .taken))))))
+returns-4 c =
+    let at-if2 = c .before .before .before .before .before in
+    let at-if1 = at-if2 .before .before .before in
+    sym
+    (or-first _ _
+    (or-first _ _
+    (or-second _ _ _
+    (or-none (or-none (lt-leb _ _ (at-if1 .if1 .left)) (le-ltb _ _ (at-if2 .if2 .left)))
+    (lt-leb _ _ (c .before .before .if3 .left))) (ap not (ne-eqb _ _ (c .if4 .taken))))))
 
 returns-5 : tie.Need-returns-5
 unfolding badFixedUse
-returns-5 c = sym (or-first _ _ (or-second _ _ _ (or-none (or-none (or-none (lt-leb _ _ (c .before .before .before .before .before .before .before .before .before .before .before .if1 .left)) (le-ltb _ _ (c .before .before .before .before .before .before .before .before .if2 .left))) (lt-leb _ _ (c .before .before .before .before .before .if3 .left))) (ap not (eq-eqb _ _ (c .before .before .before .if4 .left)))) (le-leb _ _ (c .if5 .taken))))
+returns-5 c =
+    let at-if4 = c .before .before .before in
+    let at-if3 = at-if4 .before .before in
+    let at-if2 = at-if3 .before .before .before in
+    let at-if1 = at-if2 .before .before .before in
+    sym
+    (or-first _ _
+    (or-second _ _ _
+    (or-none
+    (or-none (or-none (lt-leb _ _ (at-if1 .if1 .left)) (le-ltb _ _ (at-if2 .if2 .left))) (lt-leb _ _ (at-if3 .if3 .left)))
+    (ap not (eq-eqb _ _ (at-if4 .if4 .left)))) (le-leb _ _ (c .if5 .taken))))
 
 returns-6 : tie.Need-returns-6
 unfolding badFixedUse
-returns-6 c = sym (or-second _ _ _ (or-none (or-none (or-none (or-none (lt-leb _ _ (c .before .before .before .before .before .before .before .before .before .before .before .before .before .before .before .before .if1 .left)) (le-ltb _ _ (c .before .before .before .before .before .before .before .before .before .before .before .before .before .if2 .left))) (lt-leb _ _ (c .before .before .before .before .before .before .before .before .before .before .if3 .left))) (ap not (eq-eqb _ _ (c .before .before .before .before .before .before .before .before .if4 .left)))) (lt-leb _ _ (c .before .before .before .before .before .if5 .left))) (and-both _ _ _ (eq-eqb _ _ (c .before .before .if6 .taken)) refl))
+returns-6 c =
+    let at-if5 = c .before .before .before .before .before in
+    let at-if4 = at-if5 .before .before .before in
+    let at-if3 = at-if4 .before .before in
+    let at-if2 = at-if3 .before .before .before in
+    let at-if1 = at-if2 .before .before .before in
+    sym
+    (or-second _ _ _
+    (or-none
+    (or-none
+    (or-none (or-none (lt-leb _ _ (at-if1 .if1 .left)) (le-ltb _ _ (at-if2 .if2 .left))) (lt-leb _ _ (at-if3 .if3 .left)))
+    (ap not (eq-eqb _ _ (at-if4 .if4 .left)))) (lt-leb _ _ (at-if5 .if5 .left)))
+    (and-both _ _ _ (eq-eqb _ _ (c .before .before .if6 .taken)) refl))
 
 returns-7 : tie.Need-returns-7
 unfolding badFixedUse
-returns-7 c = sym (or-second _ _ _ (or-none (or-none (or-none (or-none (lt-leb _ _ (c .before .before .before .before .before .before .before .before .before .before .before .before .before .before .if1 .left)) (le-ltb _ _ (c .before .before .before .before .before .before .before .before .before .before .before .if2 .left))) (lt-leb _ _ (c .before .before .before .before .before .before .before .before .if3 .left))) (ap not (eq-eqb _ _ (c .before .before .before .before .before .before .if4 .left)))) (lt-leb _ _ (c .before .before .before .if5 .left))) (and-first _ _ (ne-eqb _ _ (c .if6 .left))))
+returns-7 c =
+    let at-if5 = c .before .before .before in
+    let at-if4 = at-if5 .before .before .before in
+    let at-if3 = at-if4 .before .before in
+    let at-if2 = at-if3 .before .before .before in
+    let at-if1 = at-if2 .before .before .before in
+    sym
+    (or-second _ _ _
+    (or-none
+    (or-none
+    (or-none (or-none (lt-leb _ _ (at-if1 .if1 .left)) (le-ltb _ _ (at-if2 .if2 .left))) (lt-leb _ _ (at-if3 .if3 .left)))
+    (ap not (eq-eqb _ _ (at-if4 .if4 .left)))) (lt-leb _ _ (at-if5 .if5 .left))) (and-first _ _ (ne-eqb _ _ (c .if6 .left))))
 
 pub fixed-use-is-bad-spec : {M : Type 1} → statement M
 fixed-use-is-bad-spec =

@@ -56,7 +56,12 @@ known-kind limits have r h = known limits have (r .kind) (r .index) (r .fixed) h
 unknown-kind : (limits : Limits) (have : ℕ) (r : Reservation) → 2 < r .kind → badKind limits have r ≡ true
 unfolding badKind
 unknown-kind limits have r h =
-    simp (ne-eqb (r .kind) 0 (λ e. omega (arith, e, h)), ne-eqb (r .kind) 1 (λ e. omega (arith, e, h)), ne-eqb (r .kind) 2 (λ e. omega (arith, e, h))) (or-last (not (eqb (r .fixed) 0)) refl)
+    simp (
+      ne-eqb (r .kind) 0 (λ e. omega (arith, e, h)),
+      ne-eqb (r .kind) 1 (λ e. omega (arith, e, h)),
+      ne-eqb (r .kind) 2
+          (λ e. omega (arith, e, h)),
+    ) (or-last (not (eqb (r .fixed) 0)) refl)
 
 returns : tie.Need-returns
 returns c = let a = c .before .before .args in sym (unknown-kind (a .limits) (a .have) (a .r) (c .if1 .taken))
@@ -71,7 +76,9 @@ picked-size-requires-2 : tie.Need-picked-size-requires-2
 picked-size-requires-2 c κs = search needs
 
 -- the number of indices that was picked
-picked-indices : (c : tie.After-picked-size2) → let a = c .before .before .before .before .before .before .before .args in c .picked-size2 .result ≡ indices (a .limits) (a .r .kind)
+picked-indices : (c : tie.After-picked-size2) →
+    let a = c .before .before .before .before .before .before .before .args in
+    c .picked-size2 .result ≡ indices (a .limits) (a .r .kind)
 picked-indices c =
     let a = c .before .before .before .before .before .before .before .args in
     c .picked-size2 .ensures ∙ ap (λ (n : ℕ). cond (eqb (a .r .kind) 1) 1 n) (c .before .before .before .picked-size .ensures)
@@ -86,7 +93,9 @@ picked-requires : tie.Need-picked-requires
 picked-requires c κs = search needs
 
 -- the index is sound
-index-sound : (c : tie.Else2) → let a = c .before .before .before .before .before .before .before .before .args in leb (indices (a .limits) (a .r .kind)) (a .r .index) ≡ false
+index-sound : (c : tie.Else2) →
+    let a = c .before .before .before .before .before .before .before .before .args in
+    leb (indices (a .limits) (a .r .kind)) (a .r .index) ≡ false
 index-sound c =
     let a = c .before .before .before .before .before .before .before .before .args in
     lt-leb _ _ (subst (λ (n : ℕ). a .r .index < n) (picked-indices (c .before)) (c .if2 .left))
@@ -110,7 +119,9 @@ returns-4 c =
     let d = e .before .before .before .before in
     let a = d .before .before .before .before .before .before .before .before .args in
     sym (known-kind (a .limits) (a .have) (a .r) (d .before .before .before .before .before .before .if1 .left)
-    ∙ or-second _ _ _ (index-sound d) (and-both _ _ _ (ap not (ne-eqb _ _ (λ z. e .if3 .left (z ∙ sym (e .before .before .picked .ensures))))) (ap (λ (n : ℕ). leb n (a .r .fixed)) (sym (c .picked-size3 .ensures)))))
+    ∙ or-second _ _ _ (index-sound d)
+    (and-both _ _ _ (ap not (ne-eqb _ _ (λ z. e .if3 .left (z ∙ sym (e .before .before .picked .ensures)))))
+    (ap (λ (n : ℕ). leb n (a .r .fixed)) (sym (c .picked-size3 .ensures)))))
 
 pub kind-is-bad-spec : {M : Type 1} → statement M
 kind-is-bad-spec =

@@ -21,18 +21,36 @@ cast-if3 c = search needs
 
 returns-3 : tie.Need-returns-3
 unfolding badList
-returns-3 c = sym (or-first _ _ (or-second _ _ _ (or-none (ap not (eq-eqb _ _ (c .before .before .before .before .before .if1 .left))) (le-ltb _ _ (c .before .before .before .if2 .left))) (lt-ltb _ _ (c .if3 .taken))))
+returns-3 c =
+    sym
+    (or-first _ _
+    (or-second _ _ _
+    (or-none (ap not (eq-eqb _ _ (c .before .before .before .before .before .if1 .left)))
+    (le-ltb _ _ (c .before .before .before .if2 .left))) (lt-ltb _ _ (c .if3 .taken))))
 
 cast-result : tie.Need-cast-result
 cast-result c = search needs
 
 returns-4 : tie.Need-returns-4
 unfolding badList
-returns-4 c = sym (or-second _ _ _ (or-none (or-none (ap not (eq-eqb _ _ (c .before .before .before .before .before .before .before .before .if1 .left))) (le-ltb _ _ (c .before .before .before .before .before .before .if2 .left))) (le-ltb _ _ (c .before .before .before .if3 .left))) (and-both _ _ _ (c .before .before .if4 .taken) refl))
+returns-4 c =
+    let at-if3 = c .before .before .before in
+    let at-if2 = at-if3 .before .before .before in
+    let at-if1 = at-if2 .before .before in
+    sym
+    (or-second _ _ _
+    (or-none (or-none (ap not (eq-eqb _ _ (at-if1 .if1 .left))) (le-ltb _ _ (at-if2 .if2 .left)))
+    (le-ltb _ _ (at-if3 .if3 .left))) (and-both _ _ _ (c .before .before .if4 .taken) refl))
 
 returns-5 : tie.Need-returns-5
 unfolding badList
-returns-5 c = sym (or-second _ _ _ (or-none (or-none (ap not (eq-eqb _ _ (c .before .before .before .before .before .before .if1 .left))) (le-ltb _ _ (c .before .before .before .before .if2 .left))) (le-ltb _ _ (c .before .if3 .left))) (and-first _ _ (c .if4 .left)))
+returns-5 c =
+    let at-if2 = c .before .before .before .before in
+    let at-if1 = at-if2 .before .before in
+    sym
+    (or-second _ _ _
+    (or-none (or-none (ap not (eq-eqb _ _ (at-if1 .if1 .left))) (le-ltb _ _ (at-if2 .if2 .left)))
+    (le-ltb _ _ (c .before .if3 .left))) (and-first _ _ (c .if4 .left)))
 
 pub list-is-bad-spec : {M : Type 1} → statement M
 list-is-bad-spec =

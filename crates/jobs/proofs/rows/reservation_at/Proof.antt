@@ -3,17 +3,22 @@ use mathlib.Core.List.{List, [], _∷_}
 use Prim.Native.Nat.{ℕ, _<_}
 use lib.Dec.{lit<}
 use lib.ListN.{length, getD}
-use Rattle.links.proofs.Tables.{row-inside}
+use Rattle.columns.proofs.Tables.{row-inside}
 use Rattle.jobs.specs.Rows.{reservationRow}
 use Rattle.jobs.proofs.rows.reservation_at.Statement.{statement}
 use Rattle.jobs.proofs.rows.reservation_at.Tie as tie
 
 lengths : tie.Start → List ℕ
-lengths s = length (s .args .unit .now) ∷ length (s .args .start .now) ∷ length (s .args .end .now) ∷ length (s .args .kind .now) ∷ length (s .args .index .now) ∷ length (s .args .fixed .now) ∷ []
+lengths s =
+    length (s .args .unit .now) ∷ length (s .args .start .now) ∷ length (s .args .end .now) ∷ length (s .args .kind .now) ∷
+    length (s .args .index .now) ∷ length (s .args .fixed .now) ∷ []
 
 inside : (s : tie.Start) (k : ℕ) → k < 6 → s .args .i < getD (lengths s) k 0
 unfolding lengths
-inside s k h = row-inside (reservationRow (s .args .unit .now) (s .args .start .now) (s .args .end .now) (s .args .kind .now) (s .args .index .now) (s .args .fixed .now)) (lengths s) (s .args .i) k (s .pre) h
+inside s k h =
+    row-inside
+    (reservationRow (s .args .unit .now) (s .args .start .now) (s .args .end .now) (s .args .kind .now) (s .args .index .now)
+    (s .args .fixed .now)) (lengths s) (s .args .i) k (s .pre) h
 
 cell-requires : tie.Need-cell-requires
 unfolding lengths
@@ -40,7 +45,16 @@ unfolding lengths
 cell-requires-6 c κs = inside (c .before .before .before .before .before .before .before .before .before .before .before) 5 (lit< tt)
 
 returns : tie.Need-returns
-returns c = λ i. record { unit = (c .before .before .before .before .before .cell .ensures) i; start = (c .before .before .before .before .cell2 .ensures) i; end = (c .before .before .before .cell3 .ensures) i; kind = (c .before .before .cell4 .ensures) i; index = (c .before .cell5 .ensures) i; fixed = (c .cell6 .ensures) i }
+returns c =
+    λ i.
+    record {
+      unit = (c .before .before .before .before .before .cell .ensures) i;
+      start = (c .before .before .before .before .cell2 .ensures) i;
+      end = (c .before .before .before .cell3 .ensures) i;
+      kind = (c .before .before .cell4 .ensures) i;
+      index = (c .before .cell5 .ensures) i;
+      fixed = (c .cell6 .ensures) i;
+    }
 
 pub reservation-at-spec : {M : Type 1} → statement M
 reservation-at-spec =

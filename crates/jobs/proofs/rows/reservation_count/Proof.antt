@@ -3,8 +3,8 @@ use mathlib.Core.Path.{sym, ap, _∙_}
 use mathlib.Core.List.{[], _∷_}
 use Prim.Native.Nat.{min}
 use lib.ListN.{length}
-use Rattle.links.specs.Table.{shortest}
-use Rattle.links.proofs.Tables.{table-length}
+use Rattle.columns.specs.Table.{shortest}
+use Rattle.columns.proofs.Tables.{table-length}
 use Rattle.jobs.specs.Rows.{reservationRow}
 use borrow.Author.Needs.{needs}
 use Rattle.jobs.proofs.rows.reservation_count.Statement.{statement}
@@ -27,9 +27,23 @@ shorter-requires-5 c κs = search needs
 
 returns : tie.Need-returns
 returns c =
-    let s = c .before .before .before .before .before .before .before .before .before .before .before in
-    c .shorter5 .ensures ∙ ap (min (length (s .args .unit .now))) (c .before .shorter4 .ensures ∙ ap (min (length (s .args .start .now))) (c .before .before .shorter3 .ensures ∙ ap (min (length (s .args .end .now))) (c .before .before .before .shorter2 .ensures ∙ ap (min (length (s .args .kind .now))) (c .before .before .before .before .shorter .ensures))))
-    ∙ sym (table-length (reservationRow (s .args .unit .now) (s .args .start .now) (s .args .end .now) (s .args .kind .now) (s .args .index .now) (s .args .fixed .now)) (shortest (length (s .args .unit .now) ∷ length (s .args .start .now) ∷ length (s .args .end .now) ∷ length (s .args .kind .now) ∷ length (s .args .index .now) ∷ length (s .args .fixed .now) ∷ [])))
+    let at-shorter2 = c .before .before .before in
+    let at-shorter = at-shorter2 .before in
+    let s = at-shorter .before .before .before .before .before .before .before in
+    c .shorter5 .ensures
+    ∙ ap (min (length (s .args .unit .now)))
+    (c .before .shorter4 .ensures
+    ∙ ap (min (length (s .args .start .now)))
+    (c .before .before .shorter3 .ensures
+    ∙ ap (min (length (s .args .end .now)))
+    (at-shorter2 .shorter2 .ensures ∙ ap (min (length (s .args .kind .now))) (at-shorter .shorter .ensures))))
+    ∙ sym
+    (table-length
+    (reservationRow (s .args .unit .now) (s .args .start .now) (s .args .end .now) (s .args .kind .now) (s .args .index .now)
+    (s .args .fixed .now))
+    (shortest
+    (length (s .args .unit .now) ∷ length (s .args .start .now) ∷ length (s .args .end .now) ∷ length (s .args .kind .now) ∷
+    length (s .args .index .now) ∷ length (s .args .fixed .now) ∷ [])))
 
 pub reservation-count-spec : {M : Type 1} → statement M
 reservation-count-spec =

@@ -3,8 +3,8 @@ use mathlib.Core.Path.{_≡_, sym, ap, _∙_}
 use mathlib.Core.List.{List, [], _∷_}
 use Prim.Native.Nat.{ℕ, min}
 use lib.ListN.{length}
-use Rattle.links.specs.Table.{shortest}
-use Rattle.links.proofs.Tables.{table-length}
+use Rattle.columns.specs.Table.{shortest}
+use Rattle.columns.proofs.Tables.{table-length}
 use Rattle.jobs.specs.Rows.{segmentRow}
 use borrow.Author.Needs.{needs}
 use Rattle.jobs.proofs.rows.segment_count.Statement.{statement}
@@ -27,9 +27,23 @@ shorter-requires-5 c κs = search needs
 
 returns : tie.Need-returns
 returns c =
-    let s = c .before .before .before .before .before .before .before .before .before .before .before in
-    c .shorter5 .ensures ∙ ap (min (length (s .args .start .now))) (c .before .shorter4 .ensures ∙ ap (min (length (s .args .end .now))) (c .before .before .shorter3 .ensures ∙ ap (min (length (s .args .value .now))) (c .before .before .before .shorter2 .ensures ∙ ap (min (length (s .args .first-use .now))) (c .before .before .before .before .shorter .ensures))))
-    ∙ sym (table-length (segmentRow (s .args .start .now) (s .args .end .now) (s .args .value .now) (s .args .first-use .now) (s .args .end-use .now) (s .args .flags .now)) (shortest (length (s .args .start .now) ∷ length (s .args .end .now) ∷ length (s .args .value .now) ∷ length (s .args .first-use .now) ∷ length (s .args .end-use .now) ∷ length (s .args .flags .now) ∷ [])))
+    let at-shorter2 = c .before .before .before in
+    let at-shorter = at-shorter2 .before in
+    let s = at-shorter .before .before .before .before .before .before .before in
+    c .shorter5 .ensures
+    ∙ ap (min (length (s .args .start .now)))
+    (c .before .shorter4 .ensures
+    ∙ ap (min (length (s .args .end .now)))
+    (c .before .before .shorter3 .ensures
+    ∙ ap (min (length (s .args .value .now)))
+    (at-shorter2 .shorter2 .ensures ∙ ap (min (length (s .args .first-use .now))) (at-shorter .shorter .ensures))))
+    ∙ sym
+    (table-length
+    (segmentRow (s .args .start .now) (s .args .end .now) (s .args .value .now) (s .args .first-use .now)
+    (s .args .end-use .now) (s .args .flags .now))
+    (shortest
+    (length (s .args .start .now) ∷ length (s .args .end .now) ∷ length (s .args .value .now) ∷ length (s .args .first-use .now)
+    ∷ length (s .args .end-use .now) ∷ length (s .args .flags .now) ∷ [])))
 
 pub segment-count-spec : {M : Type 1} → statement M
 segment-count-spec =

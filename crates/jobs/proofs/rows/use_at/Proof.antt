@@ -3,7 +3,7 @@ use mathlib.Core.List.{List, [], _∷_}
 use Prim.Native.Nat.{ℕ, _<_}
 use lib.Dec.{lit<}
 use lib.ListN.{length, getD}
-use Rattle.links.proofs.Tables.{row-inside}
+use Rattle.columns.proofs.Tables.{row-inside}
 use Rattle.jobs.specs.Rows.{useRow}
 use Rattle.jobs.proofs.rows.use_at.Statement.{statement}
 use Rattle.jobs.proofs.rows.use_at.Tie as tie

@@ -6,7 +6,7 @@ use native.Mathlib.Omega.{arith}
 use lib.ListN.{getD}
 use Rattle.jobs.specs.declared.rows.Use.{Use}
 use Rattle.jobs.specs.Rows.{usesOf, noUse}
-use Rattle.jobs.specs.Lines.{rowBefore}
+use Rattle.columns.specs.Table.{rowBefore}
 use borrow.Author.Needs.{needs}
 use Rattle.jobs.proofs.rows.use_before.Statement.{statement}
 use Rattle.jobs.proofs.rows.use_before.Tie as tie
@@ -22,7 +22,11 @@ no-use-requires : tie.Need-no-use-requires
 no-use-requires c κs = search needs
 
 returns : tie.Need-returns
-returns c = c .no-use .ensures ∙ ap (rowBefore (usesOf (c .before .before .before .before .before .args .position .now) (c .before .before .before .before .before .args .kind .now) (c .before .before .before .before .before .args .cost .now)) noUse) (sym (c .before .if1 .taken))
+returns c =
+    let at-args = c .before .before .before .before .before in
+    c .no-use .ensures
+    ∙ ap (rowBefore (usesOf (at-args .args .position .now) (at-args .args .kind .now) (at-args .args .cost .now)) noUse)
+    (sym (c .before .if1 .taken))
 
 sub-use-or-none : tie.Need-sub-use-or-none
 sub-use-or-none c = search needs

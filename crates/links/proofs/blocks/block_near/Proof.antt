@@ -10,14 +10,15 @@ use lib.Dec.{eqb, ltb}
 use lib.ListN.{length, getD}
 use borrow.Author.Needs.{needs, scaled-fits}
 use borrow.Author.Tests.{lt-ltb, le-ltb, ltb-false, ne-eqb}
-use Rattle.numbers.proofs.Tests.{cond-false}
+use Rattle.columns.proofs.Tests.{cond-false}
 use Rattle.links.specs.Blocks.{Ends}
-use Rattle.links.proofs.Firsts.{first-found}
+use Rattle.columns.proofs.Firsts.{first-found}
 use Rattle.links.proofs.blocks.block_near.Statement.{statement}
 use Rattle.links.proofs.blocks.block_near.Tie as tie
 
 -- blocks before one that the instruction does not lie before end at or before it
-not-before : (ends : List ℕ) (n p : ℕ) → Ends ends n p → (b : ℕ) → b < n → cond (eqb b 0) false (ltb p (getD ends (b - 1) 0)) ≡ false → (k : ℕ) → k < b → getD ends k 0 ≤ p
+not-before : (ends : List ℕ) (n p : ℕ) → Ends ends n p → (b : ℕ) → b < n →
+    cond (eqb b 0) false (ltb p (getD ends (b - 1) 0)) ≡ false → (k : ℕ) → k < b → getD ends k 0 ≤ p
 not-before ends n p e b h f k l =
     le-trans (e .searchable .rising k (b - 1) zero-le (omega (arith, l)) (omega (arith, h, l)))
     (ltb-false p (getD ends (b - 1) 0) (sym (cond-false false (ltb p (getD ends (b - 1) 0)) (ne-eqb b 0 (λ z. omega (arith, l, z)))) ∙ f))
@@ -71,14 +72,19 @@ returns-2 c = c .block-of2 .ensures
 
 loop-holds : tie.Need-loop-holds Inv-loop μ-loop
 loop-holds c =
-    let a = c .before .before .before .before .before .args in
-    (omega arith, not-before (a .end .now) (a .n) (a .inst .0) (c .before .before .before .before .before .pre) (a .near .0) (omega arith) (sym (c .before .lies-before .ensures) ∙ c .if2 .left))
+    let at-args = c .before .before .before .before .before in
+    let a = at-args .args in (
+      omega arith,
+      not-before (a .end .now) (a .n) (a .inst .0) (at-args .pre) (a .near .0) (omega arith)
+          (sym (c .before .lies-before .ensures) ∙ c .if2 .left),
+    )
 
 mul-if3 : tie.Need-mul-if3 Inv-loop μ-loop
 mul-if3 c =
-    let i = c .before .before .before .before .before .before .pre .searchable .inside in
+    let at-pre = c .before .before .before .before .before .before in
+    let i = at-pre .pre .searchable .inside in
     let l = c .loop .inv .0 in
-    scaled-fits _ (length (c .before .before .before .before .before .before .args .end .now)) 4 (omega arith) (c .before .before .before .before .before .before .good .0 .1)
+    scaled-fits _ (length (at-pre .args .end .now)) 4 (omega arith) (at-pre .good .0 .1)
 
 shared-slice-read-if3 : tie.Need-shared-slice-read-if3 Inv-loop μ-loop
 shared-slice-read-if3 c =
@@ -97,9 +103,11 @@ loop-less c = let l = c .before .before .before .loop .inv .0 in omega arith
 
 loop-again : tie.Need-loop-again Inv-loop μ-loop
 loop-again c =
-    let a = c .before .before .before .before .before .before .before .before .before .args in
-    let l = c .before .before .before .loop in
-    passed (a .end .now) (a .n) (a .inst .0) (c .before .before .before .before .before .before .before .before .before .pre) (l .i) (l .inv .0) (l .inv .1) (c .if3 .taken)
+    let at-loop = c .before .before .before in
+    let at-args = at-loop .before .before .before .before .before .before in
+    let a = at-args .args in
+    let l = at-loop .loop in
+    passed (a .end .now) (a .n) (a .inst .0) (at-args .pre) (l .i) (l .inv .0) (l .inv .1) (c .if3 .taken)
 
 cast-t12 : tie.Need-cast-t12 Inv-loop μ-loop
 cast-t12 c =
@@ -109,9 +117,13 @@ cast-t12 c =
 
 returns-3 : tie.Need-returns-3 Inv-loop μ-loop
 returns-3 c =
-    let a = c .before .before .before .before .before .before .before .before .before .args in
-    let l = c .before .before .before .loop in
-    first-found (λ (k : ℕ). ltb (a .inst .0) (getD (a .end .now) k 0)) (a .n) (l .i) (l .inv .0) (λ k m. le-ltb (a .inst .0) (getD (a .end .now) k 0) (l .inv .1 k m)) (lt-ltb (a .inst .0) (getD (a .end .now) (l .i) 0) (c .if3 .left))
+    let at-loop = c .before .before .before in
+    let at-args = at-loop .before .before .before .before .before .before in
+    let a = at-args .args in
+    let l = at-loop .loop in
+    first-found (λ (k : ℕ). ltb (a .inst .0) (getD (a .end .now) k 0)) (a .n) (l .i) (l .inv .0)
+    (λ k m. le-ltb (a .inst .0) (getD (a .end .now) k 0) (l .inv .1 k m))
+    (lt-ltb (a .inst .0) (getD (a .end .now) (l .i) 0) (c .if3 .left))
 
 pub block-near-spec : {M : Type 1} → statement M
 block-near-spec =

@@ -5,8 +5,8 @@ use Prim.Native.Nat.{ℕ, suc, _+_}
 use native.Mathlib.Numerals.{add-one}
 use lib.Dec.{leb, ltb}
 use lib.ListN.{getD}
-use Rattle.links.specs.First.{firstBelow, FirstIn}
-use Rattle.links.proofs.Firsts.{first-is}
+use Rattle.columns.specs.First.{firstBelow, FirstIn}
+use Rattle.columns.proofs.Firsts.{first-is}
 use borrow.Author.Needs.{needs}
 use Rattle.links.proofs.blocks.block_of.Statement.{statement}
 use Rattle.links.proofs.blocks.block_of.Tie as tie
@@ -31,7 +31,9 @@ cast-t5 : tie.Need-cast-t5
 cast-t5 c = search needs
 
 returns : tie.Need-returns
-returns c = above (c .before .before .before .args .end .now) (c .before .before .before .args .n) (c .before .before .before .args .inst .0) _ (c .first-at-least .ensures)
+returns c =
+    let at-args = c .before .before .before in
+    above (at-args .args .end .now) (at-args .args .n) (at-args .args .inst .0) _ (c .first-at-least .ensures)
 
 pub block-of-spec : {M : Type 1} → statement M
 block-of-spec = tie.close (tie.spec add-first-at-least first-at-least-requires cast-t5 returns)

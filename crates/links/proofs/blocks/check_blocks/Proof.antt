@@ -1,8 +1,7 @@
 -- `check_blocks` gives the verdict that the count and the first bad block make
-use mathlib.Core.Path.{sym, _∙_}
+use mathlib.Core.Path.{sym, _∙_, subst}
 use mathlib.Core.Logic.{inl, inr}
 use Prim.Native.Nat.{ℕ, _<_}
-use mathlib.Core.Path.{subst}
 use Rattle.links.specs.Blocks.{itemLimit, refusal}
 use Rattle.links.proofs.Checks.{two, verdict-answered, check-refuses, check-accepts}
 use borrow.Author.Needs.{needs}
@@ -25,10 +24,14 @@ cast-t9 : tie.Need-cast-t9
 cast-t9 c = search needs
 
 returns-3 : tie.Need-returns-3
-returns-3 c = check-refuses _ _ _ (c .before .before .before .before .count .ensures) (c .before .first-bad .ensures) (c .before .before .before .if1 .left) (c .before .before .if2 .left) (c .if3 .taken)
+returns-3 c =
+    check-refuses _ _ _ (c .before .before .before .before .count .ensures) (c .before .first-bad .ensures)
+    (c .before .before .before .if1 .left) (c .before .before .if2 .left) (c .if3 .taken)
 
 returns-4 : tie.Need-returns-4
-returns-4 c = check-accepts _ _ _ (c .before .before .before .before .count .ensures) (c .before .first-bad .ensures) (c .before .before .before .if1 .left) (c .before .before .if2 .left) (c .if3 .left)
+returns-4 c =
+    check-accepts _ _ _ (c .before .before .before .before .count .ensures) (c .before .first-bad .ensures)
+    (c .before .before .before .if1 .left) (c .before .before .if2 .left) (c .if3 .left)
 
 pub check-blocks-spec : {M : Type 1} → statement M
 check-blocks-spec =

@@ -16,7 +16,9 @@ shorter-requires-2 c κs = search needs
 returns : tie.Need-returns
 returns c =
     let s = c .before .before .before .before .before .args in
-    c .shorter2 .ensures ∙ ap (λ (x : ℕ). min (length (s .freq .now)) x) (c .before .shorter .ensures) ∙ sym (blocks-length (s .freq .now) (s .first .now) (s .end .now))
+    c .shorter2 .ensures
+    ∙ ap (λ (x : ℕ). min (length (s .freq .now)) x) (c .before .shorter .ensures)
+    ∙ sym (blocks-length (s .freq .now) (s .first .now) (s .end .now))
 
 pub count-spec : {M : Type 1} → statement M
 count-spec = tie.close (tie.spec shorter-requires shorter-requires-2 returns)

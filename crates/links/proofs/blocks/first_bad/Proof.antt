@@ -9,7 +9,7 @@ use borrow.Author.Count.{below-more}
 use borrow.Author.Needs.{needs, scaled-fits}
 use lib.ListN.{length, getD}
 use Rattle.links.specs.Blocks.{blocksOf, startOf, isBad, badBlock}
-use Rattle.links.proofs.Firsts.{first-found, first-none}
+use Rattle.columns.proofs.Firsts.{first-found, first-none}
 use Rattle.links.proofs.Rows.{blocks-inside, bad-at, next-start}
 use Rattle.links.proofs.blocks.first_bad.Statement.{statement}
 use Rattle.links.proofs.blocks.first_bad.Tie as tie
@@ -45,7 +45,9 @@ inside c =
     let i = blocks-inside (freqs c) (firsts c) (ends c) in
     (lt-of-lt-of-le (row c) (i .freqs), lt-of-lt-of-le (row c) (i .firsts), lt-of-lt-of-le (row c) (i .ends))
 
-tested : (c : tie.In-loop Inv-loop μ-loop) (r : Bool) → r ≡ isBad (c .before .loop .start) (record { frequency = getD (freqs c) (at c) 0; first = getD (firsts c) (at c) 0; end = getD (ends c) (at c) 0 })
+tested : (c : tie.In-loop Inv-loop μ-loop) (r : Bool) →
+    r ≡ isBad (c .before .loop .start)
+    (record { frequency = getD (freqs c) (at c) 0; first = getD (firsts c) (at c) 0; end = getD (ends c) (at c) 0 })
     → badBlock (blocksOf (freqs c) (firsts c) (ends c)) (at c) ≡ r
 tested c r e = sym (e ∙ bad-at (freqs c) (firsts c) (ends c) (at c) (c .before .loop .start) (row c) (c .before .loop .inv .1))
 
@@ -65,7 +67,9 @@ shared-slice-read-is-bad : tie.Need-shared-slice-read-is-bad Inv-loop μ-loop
 shared-slice-read-is-bad c = inside (c .before .before) .0
 
 mul-is-bad-2 : tie.Need-mul-is-bad-2 Inv-loop μ-loop
-mul-is-bad-2 c = scaled-fits (at (c .before .before)) (length (firsts (c .before .before))) 4 (inside (c .before .before) .1) (begin (c .before .before) .good .1 .0 .1)
+mul-is-bad-2 c =
+    scaled-fits (at (c .before .before)) (length (firsts (c .before .before))) 4 (inside (c .before .before) .1)
+    (begin (c .before .before) .good .1 .0 .1)
 
 shared-slice-read-is-bad-2 : tie.Need-shared-slice-read-is-bad-2 Inv-loop μ-loop
 shared-slice-read-is-bad-2 c = inside (c .before .before .before) .1
@@ -86,8 +90,12 @@ loop-less c = omega arith
 
 loop-again : tie.Need-loop-again Inv-loop μ-loop
 loop-again c =
-    let l = c .before .before .before .before .before in
-    (omega arith, next-start (freqs l) (firsts l) (ends l) (at l) (row l), below-more _ _ (l .before .loop .inv .2) (tested l false (sym (c .if1 .left) ∙ c .before .is-bad .ensures)))
+    let l = c .before .before .before .before .before in (
+      omega arith,
+      next-start (freqs l) (firsts l) (ends l) (at l) (row l),
+      below-more _ _ (l .before .loop .inv .2)
+          (tested l false (sym (c .if1 .left) ∙ c .before .is-bad .ensures)),
+    )
 
 returns-2 : tie.Need-returns-2 Inv-loop μ-loop
 returns-2 c = first-none _ _ (λ k h. c .before .loop .inv .2 k (lt-of-lt-of-le h (c .loop-test .left)))

@@ -11,7 +11,10 @@ use Rattle.links.proofs.blocks.lies_before.Tie as tie
 
 returns : tie.Need-returns
 returns c =
-    sym (ap (λ (t : Bool). cond t false (ltb (c .before .args .inst .0) (getD (c .before .args .end .now) (c .before .args .b - 1) 0))) (eq-eqb (c .before .args .b) 0 (c .if1 .taken)))
+    sym
+    (ap
+    (λ (t : Bool). cond t false (ltb (c .before .args .inst .0) (getD (c .before .args .end .now) (c .before .args .b - 1) 0)))
+    (eq-eqb (c .before .args .b) 0 (c .if1 .taken)))
 
 sub-result : tie.Need-sub-result
 sub-result c = search needs
@@ -24,7 +27,10 @@ shared-slice-read-result c = search needs
 
 returns-2 : tie.Need-returns-2
 returns-2 c =
-    sym (ap (λ (t : Bool). cond t false (ltb (c .before .before .before .args .inst .0) (getD (c .before .before .before .args .end .now) (c .before .before .before .args .b - 1) 0))) (ne-eqb (c .before .before .before .args .b) 0 (c .before .before .if1 .left)))
+    let at-args = c .before .before .before in
+    sym
+    (ap (λ (t : Bool). cond t false (ltb (at-args .args .inst .0) (getD (at-args .args .end .now) (at-args .args .b - 1) 0)))
+    (ne-eqb (at-args .args .b) 0 (c .before .before .if1 .left)))
 
 pub lies-before-spec : {M : Type 1} → statement M
 lies-before-spec =

@@ -1,7 +1,7 @@
 -- `link_at` answers the stored number, absent where it is the number of no block
 use mathlib.Core.Path.{sym}
 use borrow.Author.Tests.{eq-eqb, ne-eqb}
-use Rattle.numbers.proofs.Tests.{cond-true, cond-false}
+use Rattle.columns.proofs.Tests.{cond-true, cond-false}
 use borrow.Author.Needs.{needs}
 use Rattle.links.proofs.lower.link_at.Statement.{statement}
 use Rattle.links.proofs.lower.link_at.Tie as tie

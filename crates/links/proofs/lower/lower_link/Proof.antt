@@ -9,8 +9,8 @@ use borrow.Author.Needs.{needs, scaled-fits}
 use borrow.Author.Tests.{lt-ltb, le-ltb}
 use lib.Dec.{ltb, lit≤}
 use lib.ListN.{length, getD}
-use Rattle.numbers.proofs.Tests.{cond-true, cond-false}
-use Rattle.links.specs.Links.{beside, beyond, absent, isLower, lowerLink, Beyond, LinkedBeyond}
+use Rattle.columns.proofs.Tests.{cond-true, cond-false}
+use Rattle.links.specs.Links.{beside, beyond, absent, isLower, lowerLink, LiesBeyond, LinkedBeyond}
 use Rattle.links.specs.declared.lower.Side.{Side}
 use Rattle.links.specs.declared.lower.Side.the-variants.{Previous, Next}
 use Rattle.links.proofs.Linking.{IsLink, link-nearest, link-is, link-jump, lower-bits, distance, beyond-inside, beyond-beyond, beyond-further, not-itself, nearer, remaining, fewer}
@@ -28,8 +28,8 @@ side-from Next n b h = cond-false Previous Next (le-ltb (b + 1 + 0) b (omega ari
 
 -- the walk from block b stands at j, beyond b or past the list, and has passed every block between
 record Walk (side : Side) (f : List ℕ) (b j : ℕ) : Type 0 where
-  onward : j < length f → Beyond side b j
-  passed : (k : ℕ) → k < length f → Beyond side b k → (j < length f → Beyond side k j) → isLower f b k ≡ false
+  onward : j < length f → LiesBeyond side b j
+  passed : (k : ℕ) → k < length f → LiesBeyond side b k → (j < length f → LiesBeyond side k j) → isLower f b k ≡ false
 
 -- at the nearest block nothing is between
 walk-starts : (side : Side) (f : List ℕ) (b : ℕ) → b < length f → 0 < beside side (length f) b → Walk side f b (beyond side b 0)
@@ -39,7 +39,7 @@ walk-starts side f b h s =
       passed = λ k kn bk kj.
           let d = distance side (length f) b k h kn bk in
           let m = kj (beyond-inside side (length f) b 0 h s) in
-          absurd (not-suc-le-zero (nearer side (length f) b (d .between) 0 (d .inside) s (subst (λ (x : ℕ). Beyond side x (beyond side b 0)) (sym (d .is)) m)));
+          absurd (not-suc-le-zero (nearer side (length f) b (d .between) 0 (d .inside) s (subst (λ (x : ℕ). LiesBeyond side x (beyond side b 0)) (sym (d .is)) m)));
     }
 
 module _ (side : Side) (f links : List ℕ) (b : ℕ) (pre : LinkedBeyond side f links b) where
@@ -47,7 +47,7 @@ module _ (side : Side) (f links : List ℕ) (b : ℕ) (pre : LinkedBeyond side f
   few = le-trans (pre .given .few) (lit≤ tt)
 
   -- the stored link of a block beyond b is its link
-  stored : (j : ℕ) → j < length f → Beyond side b j → IsLink side f j (getD links j 0)
+  stored : (j : ℕ) → j < length f → LiesBeyond side b j → IsLink side f j (getD links j 0)
   stored j h p = subst (IsLink side f j) (sym (pre .done j h p)) (link-nearest side f j few h)
 
   lower-at : (j : ℕ) → j < length f → isLower f b j ≡ ltb (getD f j 0) (getD f b 0)
@@ -107,7 +107,8 @@ turned : (c : tie.At-loop Inv-loop μ-loop) → sideFrom (begin c .args .b) (c .
 turned c =
     let s = begin c .args in
     ap (sideFrom (s .b)) (c .before .beyond .ensures)
-    ∙ side-from (s .side) (length (s .freq .now)) (s .b) (subst (λ (x : ℕ). 0 < x) (c .before .before .before .beside .ensures) (some _ (c .before .before .if1 .left)))
+    ∙ side-from (s .side) (length (s .freq .now)) (s .b)
+    (subst (λ (x : ℕ). 0 < x) (c .before .before .before .beside .ensures) (some _ (c .before .before .if1 .left)))
 
 walk : (c : tie.At-loop Inv-loop μ-loop) → Walk (begin c .args .side) (begin c .args .freq .now) (begin c .args .b) (c .loop .j)
 walk c = subst (λ (s : Side). Walk s (begin c .args .freq .now) (begin c .args .b) (c .loop .j)) (turned c) (c .loop .inv)
@@ -134,7 +135,8 @@ loop-holds c =
     let s = c .before .before .before .before .before .before in
     let z = subst (λ (x : ℕ). 0 < x) (c .before .before .beside .ensures) (some _ (c .before .if1 .left)) in
     subst (λ (j : ℕ). Walk (sideFrom (s .args .b) j) (s .args .freq .now) (s .args .b) j) (sym (c .beyond .ensures))
-    (subst (λ (x : Side). Walk x (s .args .freq .now) (s .args .b) (beyond (s .args .side) (s .args .b) 0)) (sym (side-from (s .args .side) (length (s .args .freq .now)) (s .args .b) z))
+    (subst (λ (x : Side). Walk x (s .args .freq .now) (s .args .b) (beyond (s .args .side) (s .args .b) 0))
+    (sym (side-from (s .args .side) (length (s .args .freq .now)) (s .args .b) z))
     (walk-starts (s .args .side) (s .args .freq .now) (s .args .b) (s .pre .inside) z))
 
 mul-if2 : tie.Need-mul-if2 Inv-loop μ-loop
@@ -150,12 +152,14 @@ returns-2 : tie.Need-returns-2 Inv-loop μ-loop
 returns-2 c =
     let l = c .before .before .before in
     let s = begin l in
-    walk-finds (s .args .side) (s .args .freq .now) (s .args .links .now) (s .args .b) (s .pre) (l .loop .j) (walk l) (c .before .before .loop-test .taken) (c .if2 .taken)
+    walk-finds (s .args .side) (s .args .freq .now) (s .args .links .now) (s .args .b) (s .pre) (l .loop .j) (walk l)
+    (c .before .before .loop-test .taken) (c .if2 .taken)
 
 mul-j : tie.Need-mul-j Inv-loop μ-loop
 mul-j c =
     let l = c .before .before .before in
-    scaled-fits _ (length (begin l .args .links .now)) 4 (lt-of-lt-of-le (c .before .before .loop-test .taken) (begin l .pre .given .long)) (begin l .good .1 .0 .1)
+    scaled-fits _ (length (begin l .args .links .now)) 4
+    (lt-of-lt-of-le (c .before .before .loop-test .taken) (begin l .pre .given .long)) (begin l .good .1 .0 .1)
 
 shared-slice-read-j : tie.Need-shared-slice-read-j Inv-loop μ-loop
 shared-slice-read-j c = lt-of-lt-of-le (c .before .before .before .loop-test .taken) (begin (c .before .before .before .before) .pre .given .long)
@@ -167,15 +171,19 @@ loop-less : tie.Need-loop-less Inv-loop μ-loop
 loop-less c =
     let l = c .before .before .before .before in
     let s = begin l in
-    subst (λ (x : Side). remaining x (length (s .args .freq .now)) (getD (s .args .links .now) (l .loop .j) 0) < remaining x (length (s .args .freq .now)) (l .loop .j)) (sym (turned l))
-    (walk-nears (s .args .side) (s .args .freq .now) (s .args .links .now) (s .args .b) (s .pre) (l .loop .j) (walk l) (c .before .before .before .loop-test .taken))
+    subst
+    (λ (x : Side). remaining x (length (s .args .freq .now)) (getD (s .args .links .now) (l .loop .j) 0) < remaining x
+    (length (s .args .freq .now)) (l .loop .j)) (sym (turned l))
+    (walk-nears (s .args .side) (s .args .freq .now) (s .args .links .now) (s .args .b) (s .pre) (l .loop .j) (walk l)
+    (c .before .before .before .loop-test .taken))
 
 loop-again : tie.Need-loop-again Inv-loop μ-loop
 loop-again c =
     let l = c .before .before .before .before in
     let s = begin l in
     subst (λ (x : Side). Walk x (s .args .freq .now) (s .args .b) (getD (s .args .links .now) (l .loop .j) 0)) (sym (turned l))
-    (walk-goes-on (s .args .side) (s .args .freq .now) (s .args .links .now) (s .args .b) (s .pre) (l .loop .j) (walk l) (c .before .before .before .loop-test .taken) (c .before .if2 .left))
+    (walk-goes-on (s .args .side) (s .args .freq .now) (s .args .links .now) (s .args .b) (s .pre) (l .loop .j) (walk l)
+    (c .before .before .before .loop-test .taken) (c .before .if2 .left))
 
 returns-3 : tie.Need-returns-3 Inv-loop μ-loop
 returns-3 c =

@@ -8,10 +8,10 @@ use native.Mathlib.Omega.{arith}
 use borrow.Author.Needs.{needs, scaled-fits}
 use lib.ListN.{length, getD, set, length-set}
 use lib.Seq.{getD-set-same, getD-set-other}
-use Rattle.links.specs.Links.{lowerLink, Beyond, nth, Frequencies, LinkedBeyond}
+use Rattle.links.specs.Links.{lowerLink, LiesBeyond, nth, Frequencies, LinkedBeyond}
 use Rattle.links.specs.declared.lower.Side.{Side}
 use Rattle.links.proofs.Linking.{Done, nth-inside, done-beyond, beyond-done, done-next, done-none, done-all, not-itself}
-use Rattle.links.proofs.Tables.{filled-is}
+use Rattle.columns.proofs.Tables.{filled-is}
 use Rattle.links.proofs.lower.lower_links.Statement.{statement}
 use Rattle.links.proofs.lower.lower_links.Tie as tie
 
@@ -43,7 +43,7 @@ module _ (side : Side) (f lent links : List ℕ) (t : ℕ) (given : Frequencies 
         long = length-set links b v ∙ l .long;
         done = λ k kn p. ⊎-elim
             (λ q. ap (λ (x : ℕ). getD (set links b v) x 0) q ∙ getD-set-same links b v 0 room ∙ e ∙ ap (lowerLink side f) (sym q))
-            (λ q. getD-set-other links b k v 0 (λ same. not-itself side b (subst (Beyond side b) same (beyond-done side (length f) t k h q))) ∙ l .done k kn q)
+            (λ q. getD-set-other links b k v 0 (λ same. not-itself side b (subst (LiesBeyond side b) same (beyond-done side (length f) t k h q))) ∙ l .done k kn q)
             (done-next side (length f) t k h p);
         rest = λ k kn. getD-set-other links b k v 0 (λ same. not-le-of-lt (nth-inside side (length f) t h) (subst (λ (x : ℕ). length f ≤ x) same kn)) ∙ l .rest k kn;
       }
@@ -68,14 +68,16 @@ lower-link-requires c κs =
     let l = c .before .before in
     let s = begin l in
     subst (LinkedBeyond (s .args .side) (s .args .freq .now) (l .before .loop .links)) (sym (c .before .nth .ensures))
-    (ready (s .args .side) (s .args .freq .now) (s .args .links .now) (l .before .loop .links) (l .before .loop .t) (s .pre) (l .before .loop .inv) (l .loop-test .taken))
+    (ready (s .args .side) (s .args .freq .now) (s .args .links .now) (l .before .loop .links) (l .before .loop .t) (s .pre)
+    (l .before .loop .inv) (l .loop-test .taken))
 
 in-links : (c : tie.After-nth Inv-loop μ-loop) → c .nth .result < length (c .before .before .loop .links)
 in-links c =
     let l = c .before in
     let s = begin l in
     subst (λ (x : ℕ). x < length (l .before .loop .links)) (sym (c .nth .ensures))
-    (room (s .args .side) (s .args .freq .now) (s .args .links .now) (l .before .loop .links) (l .before .loop .t) (s .pre) (l .before .loop .inv) (l .loop-test .taken))
+    (room (s .args .side) (s .args .freq .now) (s .args .links .now) (l .before .loop .links) (l .before .loop .t) (s .pre)
+    (l .before .loop .inv) (l .loop-test .taken))
 
 mul-links : tie.Need-mul-links Inv-loop μ-loop
 mul-links c =
@@ -97,8 +99,11 @@ loop-again c =
     let l = c .before .before .before in
     let s = begin l in
     let b = c .before .before .nth in
-    subst (λ (x : ℕ). Linked (s .args .side) (s .args .freq .now) (s .args .links .now) (set (l .before .loop .links) x (c .lower-link .result)) (l .before .loop .t + 1)) (sym (b .ensures))
-    (linked-next (s .args .side) (s .args .freq .now) (s .args .links .now) (l .before .loop .links) (l .before .loop .t) (s .pre) (l .before .loop .inv) (l .loop-test .taken)
+    subst
+    (λ (x : ℕ). Linked (s .args .side) (s .args .freq .now) (s .args .links .now)
+    (set (l .before .loop .links) x (c .lower-link .result)) (l .before .loop .t + 1)) (sym (b .ensures))
+    (linked-next (s .args .side) (s .args .freq .now) (s .args .links .now) (l .before .loop .links) (l .before .loop .t)
+    (s .pre) (l .before .loop .inv) (l .loop-test .taken)
     (c .lower-link .result) (c .lower-link .ensures ∙ ap (lowerLink (s .args .side) (s .args .freq .now)) (b .ensures)))
 
 same-length : tie.Need-same-length Inv-loop μ-loop

@@ -28,7 +28,10 @@ add-sweep : tie.Need-add-sweep
 add-sweep c = search needs
 
 block-of-requires : tie.Need-block-of-requires
-block-of-requires c κs = let s = c .before .before .before .before .before in searched (s .args .freq .now) (s .args .first .now) (s .args .end .now) (s .args .after) (s .args .before) (s .pre) (s .args .after + 1) (below (s .args .after) (s .args .before) (s .pre .order) (c .before .if1 .left))
+block-of-requires c κs =
+    let s = c .before .before .before .before .before in
+    searched (s .args .freq .now) (s .args .first .now) (s .args .end .now) (s .args .after) (s .args .before) (s .pre)
+    (s .args .after + 1) (below (s .args .after) (s .args .before) (s .pre .order) (c .before .if1 .left))
 
 cast-at : tie.Need-cast-at
 cast-at c = search needs
@@ -38,21 +41,36 @@ add-sweep-2 c = search needs
 
 sweep-requires : tie.Need-sweep-requires
 sweep-requires c κs =
-    let s = c .before .before .before .before .before .before .before in
-    swept-firsts (s .args .freq .now) (s .args .first .now) (s .args .end .now) (s .args .after) (s .args .before) (s .pre) (c .before .block-of .result .0) (block-inside (s .args .freq .now) (s .args .first .now) (s .args .end .now) (s .args .after) (s .args .before) (s .pre) (s .args .after + 1) (c .before .block-of .result .0) (below (s .args .after) (s .args .before) (s .pre .order) (c .before .before .before .if1 .left)) (c .before .block-of .ensures))
+    let at-if1 = c .before .before .before in
+    let s = at-if1 .before .before .before .before in
+    swept-firsts (s .args .freq .now) (s .args .first .now) (s .args .end .now) (s .args .after) (s .args .before) (s .pre)
+    (c .before .block-of .result .0)
+    (block-inside (s .args .freq .now) (s .args .first .now) (s .args .end .now) (s .args .after) (s .args .before) (s .pre)
+    (s .args .after + 1) (c .before .block-of .result .0)
+    (below (s .args .after) (s .args .before) (s .pre .order) (at-if1 .if1 .left)) (c .before .block-of .ensures))
 
 returns-2 : tie.Need-returns-2
 returns-2 c =
-    let s = c .before .before .before .before .before .before .before .before in
+    let at-if2 = c .before .before .before in
+    let at-if1 = at-if2 .before in
+    let s = at-if1 .before .before .before .before in
     c .sweep .ensures
-    ∙ split-columns (s .args .freq .now) (s .args .first .now) (s .args .end .now) (s .args .after) (s .args .before) (s .pre) Next (c .before .before .before .before .if1 .left) (c .before .before .block-of .result .0) (block-found (s .args .freq .now) (s .args .first .now) (s .args .end .now) (s .args .after) (s .args .before) (s .pre) (s .args .after + 1) (c .before .before .block-of .result .0) (c .before .before .block-of .ensures))
-    ∙ ap (λ (e : Bool). splitPoint (sideOf e) (blocksOf (s .args .freq .now) (s .args .first .now) (s .args .end .now)) (s .args .after) (s .args .before)) (sym (c .before .before .before .if2 .taken))
+    ∙ split-columns (s .args .freq .now) (s .args .first .now) (s .args .end .now) (s .args .after) (s .args .before) (s .pre)
+    Next (at-if1 .if1 .left) (c .before .before .block-of .result .0)
+    (block-found (s .args .freq .now) (s .args .first .now) (s .args .end .now) (s .args .after) (s .args .before) (s .pre)
+    (s .args .after + 1) (c .before .before .block-of .result .0) (c .before .before .block-of .ensures))
+    ∙ ap
+    (λ (e : Bool). splitPoint (sideOf e) (blocksOf (s .args .freq .now) (s .args .first .now) (s .args .end .now))
+    (s .args .after) (s .args .before)) (sym (at-if2 .if2 .taken))
 
 sub-sweep : tie.Need-sub-sweep
 sub-sweep c = search needs
 
 block-of-requires-2 : tie.Need-block-of-requires-2
-block-of-requires-2 c κs = let s = c .before .before .before .before .before in searched (s .args .freq .now) (s .args .first .now) (s .args .end .now) (s .args .after) (s .args .before) (s .pre) (s .args .before - 1) (under (s .args .after) (s .args .before) (s .pre .order))
+block-of-requires-2 c κs =
+    let s = c .before .before .before .before .before in
+    searched (s .args .freq .now) (s .args .first .now) (s .args .end .now) (s .args .after) (s .args .before) (s .pre)
+    (s .args .before - 1) (under (s .args .after) (s .args .before) (s .pre .order))
 
 cast-at-2 : tie.Need-cast-at-2
 cast-at-2 c = search needs
@@ -63,14 +81,25 @@ add-sweep-3 c = search needs
 sweep-requires-2 : tie.Need-sweep-requires-2
 sweep-requires-2 c κs =
     let s = c .before .before .before .before .before .before .before in
-    swept-ends (s .args .freq .now) (s .args .first .now) (s .args .end .now) (s .args .after) (s .args .before) (s .pre) (c .before .block-of2 .result .0) (block-inside (s .args .freq .now) (s .args .first .now) (s .args .end .now) (s .args .after) (s .args .before) (s .pre) (s .args .before - 1) (c .before .block-of2 .result .0) (under (s .args .after) (s .args .before) (s .pre .order)) (c .before .block-of2 .ensures))
+    swept-ends (s .args .freq .now) (s .args .first .now) (s .args .end .now) (s .args .after) (s .args .before) (s .pre)
+    (c .before .block-of2 .result .0)
+    (block-inside (s .args .freq .now) (s .args .first .now) (s .args .end .now) (s .args .after) (s .args .before) (s .pre)
+    (s .args .before - 1) (c .before .block-of2 .result .0) (under (s .args .after) (s .args .before) (s .pre .order))
+    (c .before .block-of2 .ensures))
 
 returns-3 : tie.Need-returns-3
 returns-3 c =
-    let s = c .before .before .before .before .before .before .before .before in
+    let at-if2 = c .before .before .before in
+    let at-if1 = at-if2 .before in
+    let s = at-if1 .before .before .before .before in
     c .sweep2 .ensures
-    ∙ split-columns (s .args .freq .now) (s .args .first .now) (s .args .end .now) (s .args .after) (s .args .before) (s .pre) Previous (c .before .before .before .before .if1 .left) (c .before .before .block-of2 .result .0) (block-found (s .args .freq .now) (s .args .first .now) (s .args .end .now) (s .args .after) (s .args .before) (s .pre) (s .args .before - 1) (c .before .before .block-of2 .result .0) (c .before .before .block-of2 .ensures))
-    ∙ ap (λ (e : Bool). splitPoint (sideOf e) (blocksOf (s .args .freq .now) (s .args .first .now) (s .args .end .now)) (s .args .after) (s .args .before)) (sym (c .before .before .before .if2 .left))
+    ∙ split-columns (s .args .freq .now) (s .args .first .now) (s .args .end .now) (s .args .after) (s .args .before) (s .pre)
+    Previous (at-if1 .if1 .left) (c .before .before .block-of2 .result .0)
+    (block-found (s .args .freq .now) (s .args .first .now) (s .args .end .now) (s .args .after) (s .args .before) (s .pre)
+    (s .args .before - 1) (c .before .before .block-of2 .result .0) (c .before .before .block-of2 .ensures))
+    ∙ ap
+    (λ (e : Bool). splitPoint (sideOf e) (blocksOf (s .args .freq .now) (s .args .first .now) (s .args .end .now))
+    (s .args .after) (s .args .before)) (sym (at-if2 .if2 .left))
 
 pub between-spec : {M : Type 1} → statement M
 between-spec =

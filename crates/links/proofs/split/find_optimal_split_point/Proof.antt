@@ -4,7 +4,7 @@ use mathlib.Core.List.{List}
 use Prim.Native.Nat.{ℕ, _-_, _≤_, _<_}
 use native.Mathlib.Nat.{lt-of-lt-of-le, le-trans, le-of-eq}
 use native.Mathlib.Omega.{arith}
-use borrow.Author.Needs.{scaled-fits}
+use borrow.Author.Needs.{scaled-fits, needs}
 use lib.ListN.{length, getD}
 use lib.Seq.{length-take-le}
 use Rattle.links.specs.Blocks.{BlockRow, blocksOf, startOf, checkOf}
@@ -12,7 +12,6 @@ use Rattle.links.specs.Split.{sideOf, splitPoint}
 use Rattle.links.specs.declared.blocks.Checked.the-variants.{Sound}
 use Rattle.links.proofs.Checks.{check-sound}
 use Rattle.links.proofs.Answers.{answer-refused, answer-order, answer-outside, answer-split, in-freqs, in-firsts, in-ends, same-list, last-column, parts-between}
-use borrow.Author.Needs.{needs}
 use Rattle.links.proofs.split.find_optimal_split_point.Statement.{statement}
 use Rattle.links.proofs.split.find_optimal_split_point.Tie as tie
 
@@ -36,7 +35,10 @@ last-inside c = let s = begin c in lt-of-lt-of-le (less (c .count .result) (some
     less n h = omega arith
 
 last : (c : tie.After-count) → getD (begin c .args .end .now) (c .count .result - 1) 0 ≡ startOf (list c) (length (list c))
-last c = let s = begin c in last-column (s .args .freq .now) (s .args .first .now) (s .args .end .now) (c .count .result) (c .count .ensures) (check-sound (list c) (passed c) .some)
+last c =
+    let s = begin c in
+    last-column (s .args .freq .now) (s .args .first .now) (s .args .end .now) (c .count .result) (c .count .ensures)
+    (check-sound (list c) (passed c) .some)
 
 check-blocks-requires : tie.Need-check-blocks-requires
 check-blocks-requires c κs = search needs
@@ -75,26 +77,50 @@ returns-3 c =
     answer-outside _ _ _ _ (passed k) (c .before .before .if1 .left) (subst (λ (x : ℕ). x < begin k .args .before .0) (last k) (c .if2 .taken))
 
 slice-aggregate-between : tie.Need-slice-aggregate-between
-slice-aggregate-between c = let k = c .before .before .before .before .before .before .before in let s = begin k in sym (length-take-le (k .count .result) (s .args .freq .now) (in-freqs (s .args .freq .now) (s .args .first .now) (s .args .end .now) (k .count .result) (k .count .ensures)))
+slice-aggregate-between c =
+    let k = c .before .before .before .before .before .before .before in
+    let s = begin k in
+    sym
+    (length-take-le (k .count .result) (s .args .freq .now)
+    (in-freqs (s .args .freq .now) (s .args .first .now) (s .args .end .now) (k .count .result) (k .count .ensures)))
 
 slice-aggregate-between-2 : tie.Need-slice-aggregate-between-2
-slice-aggregate-between-2 c = let k = c .before .before .before .before .before .before .before .before in let s = begin k in sym (length-take-le (k .count .result) (s .args .first .now) (in-firsts (s .args .freq .now) (s .args .first .now) (s .args .end .now) (k .count .result) (k .count .ensures)))
+slice-aggregate-between-2 c =
+    let k = c .before .before .before .before .before .before .before .before in
+    let s = begin k in
+    sym
+    (length-take-le (k .count .result) (s .args .first .now)
+    (in-firsts (s .args .freq .now) (s .args .first .now) (s .args .end .now) (k .count .result) (k .count .ensures)))
 
 slice-aggregate-between-3 : tie.Need-slice-aggregate-between-3
-slice-aggregate-between-3 c = let k = c .before .before .before .before .before .before .before .before .before in let s = begin k in sym (length-take-le (k .count .result) (s .args .end .now) (in-ends (s .args .freq .now) (s .args .first .now) (s .args .end .now) (k .count .result) (k .count .ensures)))
+slice-aggregate-between-3 c =
+    let k = c .before .before .before .before .before .before .before .before .before in
+    let s = begin k in
+    sym
+    (length-take-le (k .count .result) (s .args .end .now)
+    (in-ends (s .args .freq .now) (s .args .first .now) (s .args .end .now) (k .count .result) (k .count .ensures)))
 
 between-requires : tie.Need-between-requires
 between-requires c κs =
-    let k = c .before .before .before .before .before .before .before .before .before in
+    let at-if2 = c .before .before .before in
+    let at-if1 = at-if2 .before .before in
+    let k = at-if1 .before .before .before .before in
     let s = begin k in
-    parts-between (s .args .freq .now) (s .args .first .now) (s .args .end .now) (k .count .result) (k .count .ensures) (s .args .after .0) (s .args .before .0) (check-sound _ (passed k)) (c .before .before .before .before .before .if1 .left) (subst (λ (x : ℕ). s .args .before .0 ≤ x) (last k) (c .before .before .before .if2 .left))
+    parts-between (s .args .freq .now) (s .args .first .now) (s .args .end .now) (k .count .result) (k .count .ensures)
+    (s .args .after .0) (s .args .before .0) (check-sound _ (passed k)) (at-if1 .if1 .left)
+    (subst (λ (x : ℕ). s .args .before .0 ≤ x) (last k) (at-if2 .if2 .left))
 
 returns-4 : tie.Need-returns-4
 returns-4 c =
-    let k = c .before .before .before .before .before .before .before .before .before .before in
+    let at-if2 = c .before .before .before .before in
+    let at-if1 = at-if2 .before .before in
+    let k = at-if1 .before .before .before .before in
     let s = begin k in
-    answer-split _ _ _ _ (passed k) (c .between .result) (c .before .before .before .before .before .before .if1 .left) (subst (λ (x : ℕ). s .args .before .0 ≤ x) (last k) (c .before .before .before .before .if2 .left))
-    (c .between .ensures ∙ ap (λ (bs : List BlockRow). splitPoint (sideOf (s .args .prefer-early)) bs (s .args .after .0) (s .args .before .0)) (same-list (s .args .freq .now) (s .args .first .now) (s .args .end .now) (k .count .result) (k .count .ensures)))
+    answer-split _ _ _ _ (passed k) (c .between .result) (at-if1 .if1 .left)
+    (subst (λ (x : ℕ). s .args .before .0 ≤ x) (last k) (at-if2 .if2 .left))
+    (c .between .ensures
+    ∙ ap (λ (bs : List BlockRow). splitPoint (sideOf (s .args .prefer-early)) bs (s .args .after .0) (s .args .before .0))
+    (same-list (s .args .freq .now) (s .args .first .now) (s .args .end .now) (k .count .result) (k .count .ensures)))
 
 pub find-optimal-split-point-spec : {M : Type 1} → statement M
 find-optimal-split-point-spec =

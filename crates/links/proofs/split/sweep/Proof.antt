@@ -66,7 +66,9 @@ beside-b c = subst (λ (x : ℕ). c .before .loop .t < x) (c .before .before .be
 in-freq : (c : tie.After-beyond Inv-loop μ-loop) → c .beyond .result < length (begin (c .before) .args .freq .now)
 in-freq c =
     let s = begin (c .before) in
-    subst (λ (x : ℕ). x < length (s .args .freq .now)) (sym (c .beyond .ensures)) (beyond-inside (s .args .side) (length (s .args .freq .now)) (s .args .b) (c .before .before .loop .t) (s .pre .inside) (beside-b (c .before)))
+    subst (λ (x : ℕ). x < length (s .args .freq .now)) (sym (c .beyond .ensures))
+    (beyond-inside (s .args .side) (length (s .args .freq .now)) (s .args .b) (c .before .before .loop .t) (s .pre .inside)
+    (beside-b (c .before)))
 
 in-edges : (c : tie.After-beyond Inv-loop μ-loop) → c .beyond .result < length (begin (c .before) .args .edges .now)
 in-edges c = lt-of-lt-of-le (in-freq c) (begin (c .before) .pre .given .long)
@@ -75,13 +77,18 @@ beside-requires : tie.Need-beside-requires Inv-loop μ-loop
 beside-requires c κs = c .before .before .pre .inside
 
 mul-least : tie.Need-mul-least Inv-loop μ-loop
-mul-least c = scaled-fits _ (length (c .before .before .before .args .freq .now)) 4 (c .before .before .before .pre .inside) (c .before .before .before .good .0 .1)
+mul-least c =
+    let at-args = c .before .before .before in
+    scaled-fits _ (length (at-args .args .freq .now)) 4 (at-args .pre .inside) (at-args .good .0 .1)
 
 shared-slice-read-least : tie.Need-shared-slice-read-least Inv-loop μ-loop
 shared-slice-read-least c = c .before .before .before .before .pre .inside
 
 loop-holds : tie.Need-loop-holds Inv-loop μ-loop
-loop-holds c = let s = c .before .before .before .before in sweep-starts (s .args .side) (s .args .freq .now) (s .args .edges .now) (s .args .limit) (s .args .start) (s .args .b) (s .pre .inside)
+loop-holds c =
+    let s = c .before .before .before .before in
+    sweep-starts (s .args .side) (s .args .freq .now) (s .args .edges .now) (s .args .limit) (s .args .start) (s .args .b)
+    (s .pre .inside)
 
 beyond-requires : tie.Need-beyond-requires Inv-loop μ-loop
 beyond-requires c κs = (begin c .pre .inside, beside-b c)
@@ -100,7 +107,8 @@ returns c =
     let l = c .before .before .before .before in
     let s = begin l in
     let i = c .before .before .before .beyond in
-    ends-stopped (s .args .side) (s .args .freq .now) (s .args .edges .now) (s .args .limit) (s .args .start) (s .args .b) (s .pre) (l .before .loop .t) (l .before .loop .split) (l .before .loop .least) (l .before .loop .inv)
+    ends-stopped (s .args .side) (s .args .freq .now) (s .args .edges .now) (s .args .limit) (s .args .start) (s .args .b)
+    (s .pre) (l .before .loop .t) (l .before .loop .split) (l .before .loop .least) (l .before .loop .inv)
     (i .result) (i .ensures) (beside-b l) (sym (c .before .reaches .ensures) ∙ not-true _ (c .if1 .taken))
 
 mul-f : tie.Need-mul-f Inv-loop μ-loop
@@ -129,11 +137,17 @@ loop-again c =
     let r = c .before .before in
     let i = r .before .before .before .beyond in
     ⊎-elim
-    (λ w. subst₂ (λ (p q : ℕ). Sweep (s .args .side) (s .args .freq .now) (s .args .edges .now) (s .args .limit) (s .args .start) (s .args .b) (l .before .loop .t + 1) p q) (sym (w .1)) (sym (w .2))
-    (turn-lower (s .args .side) (s .args .freq .now) (s .args .edges .now) (s .args .limit) (s .args .start) (s .args .b) (s .pre) (l .before .loop .t) (l .before .loop .split) (l .before .loop .least) (l .before .loop .inv)
+    (λ w. subst₂
+    (λ (p q : ℕ). Sweep (s .args .side) (s .args .freq .now) (s .args .edges .now) (s .args .limit) (s .args .start)
+    (s .args .b) (l .before .loop .t + 1) p q) (sym (w .1)) (sym (w .2))
+    (turn-lower (s .args .side) (s .args .freq .now) (s .args .edges .now) (s .args .limit) (s .args .start) (s .args .b)
+    (s .pre) (l .before .loop .t) (l .before .loop .split) (l .before .loop .least) (l .before .loop .inv)
     (i .result) (i .ensures) (beside-b l) (w .0 .taken) (sym (r .before .reaches .ensures) ∙ not-false _ (r .if1 .left))))
-    (λ w. subst₂ (λ (p q : ℕ). Sweep (s .args .side) (s .args .freq .now) (s .args .edges .now) (s .args .limit) (s .args .start) (s .args .b) (l .before .loop .t + 1) p q) (sym (w .1)) (sym (w .2))
-    (turn-passes (s .args .side) (s .args .freq .now) (s .args .edges .now) (s .args .limit) (s .args .start) (s .args .b) (s .pre) (l .before .loop .t) (l .before .loop .split) (l .before .loop .least) (l .before .loop .inv)
+    (λ w. subst₂
+    (λ (p q : ℕ). Sweep (s .args .side) (s .args .freq .now) (s .args .edges .now) (s .args .limit) (s .args .start)
+    (s .args .b) (l .before .loop .t + 1) p q) (sym (w .1)) (sym (w .2))
+    (turn-passes (s .args .side) (s .args .freq .now) (s .args .edges .now) (s .args .limit) (s .args .start) (s .args .b)
+    (s .pre) (l .before .loop .t) (l .before .loop .split) (l .before .loop .least) (l .before .loop .inv)
     (i .result) (i .ensures) (beside-b l) (w .0 .left)))
     (c .if2 .came)
 
@@ -141,7 +155,8 @@ returns-2 : tie.Need-returns-2 Inv-loop μ-loop
 returns-2 c =
     let l = c .before in
     let s = l .before .before .before .before .before in
-    ends-swept (s .args .side) (s .args .freq .now) (s .args .edges .now) (s .args .limit) (s .args .start) (s .args .b) (s .pre) (l .loop .t) (l .loop .split) (l .loop .least) (l .loop .inv)
+    ends-swept (s .args .side) (s .args .freq .now) (s .args .edges .now) (s .args .limit) (s .args .start) (s .args .b)
+    (s .pre) (l .loop .t) (l .loop .split) (l .loop .least) (l .loop .inv)
     (subst (λ (x : ℕ). x ≤ l .loop .t) (l .before .before .beside .ensures) (c .loop-test .left))
 
 pub sweep-spec : {M : Type 1} → statement M

@@ -6,7 +6,7 @@ use borrow.Author.Needs.{needs}
 use lib.IntN.{pos}
 use lib.Ieee.{Float, binary32, div, lt, ofInt, ofBits}
 use Rattle.numbers.specs.Normal.{largest, normalised}
-use Rattle.numbers.proofs.Tests.{cond-true, cond-false}
+use Rattle.columns.proofs.Tests.{cond-true, cond-false}
 use Rattle.numbers.proofs.normal.normalize_spill_weight.Statement.{statement}
 use Rattle.numbers.proofs.normal.normalize_spill_weight.Tie as tie
 

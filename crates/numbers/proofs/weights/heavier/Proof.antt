@@ -1,6 +1,6 @@
 -- `heavier` returns what its definition picks by the same comparison
 use mathlib.Core.Path.{sym}
-use Rattle.numbers.proofs.Tests.{cond-true, cond-false}
+use Rattle.columns.proofs.Tests.{cond-true, cond-false}
 use Rattle.numbers.proofs.weights.heavier.Statement.{statement}
 use Rattle.numbers.proofs.weights.heavier.Tie as tie
 

@@ -4,7 +4,7 @@ use native.Mathlib.Nat.{le-trans}
 use borrow.Author.Tests.{le-leb, lt-leb}
 use Rattle.numbers.specs.Weight.{valueFrom}
 use Rattle.numbers.proofs.Bits.{bits-not-nan}
-use Rattle.numbers.proofs.Tests.{cond-true, cond-false}
+use Rattle.columns.proofs.Tests.{cond-true, cond-false}
 use Rattle.numbers.proofs.weights.value_from_bits.Statement.{statement}
 use Rattle.numbers.proofs.weights.value_from_bits.Tie as tie
 

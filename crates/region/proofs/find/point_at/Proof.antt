@@ -3,7 +3,7 @@ use mathlib.Core.Path.{sym}
 use borrow.Author.Needs.{needs}
 use borrow.Author.Tests.{lt-ltb, le-ltb}
 use lib.ListN.{length}
-use Rattle.numbers.proofs.Tests.{cond-true, cond-false}
+use Rattle.columns.proofs.Tests.{cond-true, cond-false}
 use Rattle.region.specs.Find.{pointAt}
 use Rattle.region.proofs.find.point_at.Statement.{statement}
 use Rattle.region.proofs.find.point_at.Tie as tie

@@ -10,7 +10,9 @@ returns : tie.Need-returns
 returns c = search needs
 
 returns-2 : tie.Need-returns-2
-returns-2 c = let a = c .before .before .args in below-not (a .g .right) (a .gaps) ∙ open-unbarred (a .barred) (leb (a .gaps) (a .g .right)) (c .before .if1 .left)
+returns-2 c =
+    let a = c .before .before .args in
+    below-not (a .g .right) (a .gaps) ∙ open-unbarred (a .barred) (leb (a .gaps) (a .g .right)) (c .before .if1 .left)
 
 pub can-grow-right-spec : {M : Type 1} → statement M
 can-grow-right-spec = tie.close (tie.spec returns returns-2)

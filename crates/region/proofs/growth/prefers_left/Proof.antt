@@ -1,6 +1,6 @@
 -- `prefers_left` goes by the frequencies, and on equal ones by the live instructions
 use mathlib.Core.Path.{sym, _∙_}
-use Rattle.numbers.proofs.Tests.{cond-true, cond-false}
+use Rattle.columns.proofs.Tests.{cond-true, cond-false}
 use Rattle.region.specs.Growth.{leftFirst}
 use borrow.Author.Needs.{needs}
 use Rattle.region.proofs.growth.prefers_left.Statement.{statement}

@@ -18,14 +18,19 @@ strictly-exceeds-requires c κs = search needs
 
 returns-2 : tie.Need-returns-2
 returns-2 c =
-    let a = c .before .before .before .before .before .before .args in
-    tested-grows (a .free) (a .g) (a .weight) (a .insts) (a .heaviest) (a .k) (a .left) (a .right) (c .before .strictly-exceeds .result) (c .before .before .normalize-spill-weight .result)
-    (c .before .strictly-exceeds .ensures) (c .before .before .normalize-spill-weight .ensures) (c .before .before .before .before .before .if1 .left) (c .if2 .taken)
+    let at-if1 = c .before .before .before .before .before in
+    let at-args = at-if1 .before in
+    let a = at-args .args in
+    tested-grows (a .free) (a .g) (a .weight) (a .insts) (a .heaviest) (a .k) (a .left) (a .right)
+    (c .before .strictly-exceeds .result) (c .before .before .normalize-spill-weight .result)
+    (c .before .strictly-exceeds .ensures) (c .before .before .normalize-spill-weight .ensures) (at-if1 .if1 .left) (c .if2 .taken)
 
 returns-3 : tie.Need-returns-3
 returns-3 c =
-    let a = c .before .before .before .before .before .before .args in
-    tested-light (a .free) (a .g) (a .weight) (a .insts) (a .heaviest) (a .k) (a .left) (a .right) (c .before .strictly-exceeds .result) (c .before .before .normalize-spill-weight .result)
+    let at-args = c .before .before .before .before .before .before in
+    let a = at-args .args in
+    tested-light (a .free) (a .g) (a .weight) (a .insts) (a .heaviest) (a .k) (a .left) (a .right)
+    (c .before .strictly-exceeds .result) (c .before .before .normalize-spill-weight .result)
     (c .before .strictly-exceeds .ensures) (c .before .before .normalize-spill-weight .ensures) (c .if2 .left)
 
 pub tested-spec : {M : Type 1} → statement M

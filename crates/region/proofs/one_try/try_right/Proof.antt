@@ -8,14 +8,19 @@ use lib.Ieee.{Float}
 use lib.ListN.{length}
 use Rattle.links.specs.declared.lower.Side.the-variants.{Next}
 use Rattle.jobs.specs.Rows.{reservationsOf}
-use Rattle.walkers.specs.Gaps.{gapColumns, RightAt}
-use Rattle.region.specs.Columns.{numbers, floats, testedOf, afterTry}
+use Rattle.walks.specs.Gaps.{RightAt}
+use Rattle.overlaps.specs.GapSegments.{segmentColumns}
+use Rattle.region.specs.Columns.{numberAt, floatAt, testedOf, afterTry}
 use Rattle.region.specs.declared.growth.Tried.{Tried}
 use Rattle.region.proofs.one_try.try_right.Statement.{statement}
 use Rattle.region.proofs.one_try.try_right.Tie as tie
 
 cast-take-gap : tie.Need-cast-take-gap
-cast-take-gap c = let h = c .before .before .before .before .before .before .before .before .before .before .before .before .before .before .before .before .before .pre .1 .1 .few in omega (arith, h)
+cast-take-gap c =
+    let at-pre =
+    c .before .before .before .before .before .before .before .before .before .before .before .before .before .before .before
+    .before .before in
+    let h = at-pre .pre .1 .1 .few in omega (arith, h)
 
 take-gap-requires : tie.Need-take-gap-requires
 take-gap-requires c κs =
@@ -24,32 +29,60 @@ take-gap-requires c κs =
     (p .0 .ready, ((p .0 .known, p .1 .1 .heaviest), (p .0 .ordered, p .1 .0)))
 
 mul-tested : tie.Need-mul-tested
-mul-tested c = scaled-fits _ _ 4 (c .before .before .before .before .before .before .before .before .before .before .before .before .before .before .before .before .before .before .before .pre .1 .1 .weight) (c .before .before .before .before .before .before .before .before .before .before .before .before .before .before .before .before .before .before .before .good .1 .1 .1 .1 .1 .1 .1 .1 .1 .1 .1 .1 .1 .1 .0 .1)
+mul-tested c =
+    let at-pre =
+    c .before .before .before .before .before .before .before .before .before .before .before .before .before .before .before
+    .before .before .before .before in
+    scaled-fits _ _ 4 (at-pre .pre .1 .1 .weight) (at-pre .good .1 .1 .1 .1 .1 .1 .1 .1 .1 .1 .1 .1 .1 .1 .0 .1)
 
 shared-slice-read-tested : tie.Need-shared-slice-read-tested
-shared-slice-read-tested c = c .before .before .before .before .before .before .before .before .before .before .before .before .before .before .before .before .before .before .before .before .pre .1 .1 .weight
+shared-slice-read-tested c =
+    let at-pre =
+    c .before .before .before .before .before .before .before .before .before .before .before .before .before .before .before
+    .before .before .before .before .before in
+    at-pre .pre .1 .1 .weight
 
 mul-tested-2 : tie.Need-mul-tested-2
-mul-tested-2 c = scaled-fits _ _ 4 (c .before .before .before .before .before .before .before .before .before .before .before .before .before .before .before .before .before .before .before .before .pre .1 .1 .live) (c .before .before .before .before .before .before .before .before .before .before .before .before .before .before .before .before .before .before .before .before .good .1 .1 .1 .1 .1 .1 .1 .1 .1 .1 .1 .1 .1 .1 .1 .0 .1)
+mul-tested-2 c =
+    let at-pre =
+    c .before .before .before .before .before .before .before .before .before .before .before .before .before .before .before
+    .before .before .before .before .before in
+    scaled-fits _ _ 4 (at-pre .pre .1 .1 .live) (at-pre .good .1 .1 .1 .1 .1 .1 .1 .1 .1 .1 .1 .1 .1 .1 .1 .0 .1)
 
 shared-slice-read-tested-2 : tie.Need-shared-slice-read-tested-2
-shared-slice-read-tested-2 c = c .before .before .before .before .before .before .before .before .before .before .before .before .before .before .before .before .before .before .before .before .before .pre .1 .1 .live
+shared-slice-read-tested-2 c =
+    let at-pre =
+    c .before .before .before .before .before .before .before .before .before .before .before .before .before .before .before
+    .before .before .before .before .before .before in
+    at-pre .pre .1 .1 .live
 
 tested-requires : tie.Need-tested-requires
-tested-requires c κs = c .before .before .before .before .before .before .before .before .before .before .before .before .before .before .before .before .before .before .before .before .before .pre .1 .1 .fits
+tested-requires c κs =
+    let at-pre =
+    c .before .before .before .before .before .before .before .before .before .before .before .before .before .before .before
+    .before .before .before .before .before .before in
+    at-pre .pre .1 .1 .fits
 
 after-requires : tie.Need-after-requires
 after-requires c κs = search needs
 
 add-tested : tie.Need-add-tested
-add-tested c = let h = c .before .before .before .before .before .before .before .before .before .before .before .before .before .before .before .before .before .before .before .before .before .pre .1 .1 .few in omega (arith, h)
+add-tested c =
+    let at-pre =
+    c .before .before .before .before .before .before .before .before .before .before .before .before .before .before .before
+    .before .before .before .before .before .before in
+    let h = at-pre .pre .1 .1 .few in omega (arith, h)
 
 returns : tie.Need-returns
 returns c =
-    let a = c .before .before .before .before .before .before .before .before .before .before .before .before .before .before .before .before .before .before .before .before .before .before .before .before .args in
-    let m = c .before .before .before .before .before .before .take-gap .ensures in (
+    let at-take-gap = c .before .before .before .before .before .before in
+    let at-args =
+    at-take-gap .before .before .before .before .before .before .before .before .before .before .before .before .before .before
+    .before .before .before .before in
+    let a = at-args .args in
+    let m = at-take-gap .take-gap .ensures in (
       c .after .ensures ∙ ap (λ (t : Tried). afterTry Next t (a .growth)) (c .before .before .tested .ensures
-          ∙ ap₂ (λ (f : Bool) (h : Float). testedOf (not f) (a .growth .region) (floats (a .weight .now) (a .growth .region .right)) (numbers (a .live .now) (a .growth .region .right)) h (a .k) (a .growth .region .left) (a .growth .region .right + 1)) (m .0) (m .1)),
+          ∙ ap₂ (λ (f : Bool) (h : Float). testedOf (not f) (a .growth .region) (floatAt (a .weight .now) (a .growth .region .right)) (numberAt (a .live .now) (a .growth .region .right)) h (a .k) (a .growth .region .left) (a .growth .region .right + 1)) (m .0) (m .1)),
       m .2,
     )
 

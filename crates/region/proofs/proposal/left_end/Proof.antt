@@ -1,7 +1,7 @@
 -- `left_end` is the first instruction of the region's first gap, absent at the start
 use mathlib.Core.Path.{sym}
 use borrow.Author.Tests.{eq-eqb, ne-eqb}
-use Rattle.numbers.proofs.Tests.{cond-true, cond-false}
+use Rattle.columns.proofs.Tests.{cond-true, cond-false}
 use Rattle.region.specs.Proposal.{endOf}
 use borrow.Author.Needs.{needs}
 use Rattle.region.proofs.proposal.left_end.Statement.{statement}

@@ -2,7 +2,7 @@
 use mathlib.Core.Path.{sym}
 use borrow.Author.Tests.{eq-eqb, ne-eqb}
 use lib.Ieee.{ofBits}
-use Rattle.numbers.proofs.Tests.{cond-true, cond-false}
+use Rattle.columns.proofs.Tests.{cond-true, cond-false}
 use borrow.Author.Needs.{needs}
 use Rattle.region.proofs.proposal.left_split_cost.Statement.{statement}
 use Rattle.region.proofs.proposal.left_split_cost.Tie as tie

@@ -1,7 +1,7 @@
 -- `right_end` is the first instruction of the gap behind the region, absent at the end
 use mathlib.Core.Path.{sym}
 use borrow.Author.Tests.{le-leb, lt-leb}
-use Rattle.numbers.proofs.Tests.{cond-true, cond-false}
+use Rattle.columns.proofs.Tests.{cond-true, cond-false}
 use Rattle.region.specs.Proposal.{endOf}
 use borrow.Author.Needs.{needs}
 use Rattle.region.proofs.proposal.right_end.Statement.{statement}

@@ -34,8 +34,12 @@ returns c = tt
 
 add-i : tie.Need-add-i Inv-loop μ-loop
 add-i c =
-    let h = c .before .before .before .before .before .before .before .loop-test .taken in
-    let r = c .before .before .before .before .before .before .before .before .before .before .before .before .before .before .before .before .before .before .before .before .before .before .before .before .before .fits .rows in
+    let at-loop-test = c .before .before .before .before .before .before .before in
+    let at-fits =
+    at-loop-test .before .before .before .before .before .before .before .before .before .before .before .before .before .before
+    .before .before .before .before in
+    let h = at-loop-test .loop-test .taken in
+    let r = at-fits .fits .rows in
     omega (arith, h, r)
 
 loop-less : tie.Need-loop-less Inv-loop μ-loop

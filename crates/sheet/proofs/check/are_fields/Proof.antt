@@ -43,9 +43,14 @@ is-field-requires c κs = omega arith
 
 returns : tie.Need-returns Inv-loop μ-loop
 returns c =
-    let l = c .before .before .before .before .loop in
-    let a = c .before .before .before .before .before .before .args in
-    sym (fields-stop (a .s .now) (a .n) (l .c) (omega arith) (11 * l .c + 11 - 11 * l .c) (omega arith) (sym (c .before .is-field .ensures) ∙ not-true _ (c .if1 .taken))) ∙ l .inv .1
+    let at-loop = c .before .before .before .before in
+    let at-args = at-loop .before .before in
+    let l = at-loop .loop in
+    let a = at-args .args in
+    sym
+    (fields-stop (a .s .now) (a .n) (l .c) (omega arith) (11 * l .c + 11 - 11 * l .c) (omega arith)
+    (sym (c .before .is-field .ensures) ∙ not-true _ (c .if1 .taken)))
+    ∙ l .inv .1
 
 add-c : tie.Need-add-c Inv-loop μ-loop
 add-c c = omega arith
@@ -55,9 +60,15 @@ loop-less c = omega arith
 
 loop-again : tie.Need-loop-again Inv-loop μ-loop
 loop-again c =
-    let l = c .before .before .before .before .loop in
-    let a = c .before .before .before .before .before .before .args in
-    (omega arith, fields-step (a .s .now) (a .n) (l .c) (omega arith) (11 * l .c + 11 - 11 * l .c) (omega arith) (sym (c .before .is-field .ensures) ∙ not-false _ (c .if1 .left)) ∙ l .inv .1)
+    let at-loop = c .before .before .before .before in
+    let at-args = at-loop .before .before in
+    let l = at-loop .loop in
+    let a = at-args .args in (
+      omega arith,
+      fields-step (a .s .now) (a .n) (l .c) (omega arith) (11 * l .c + 11 - 11 * l .c) (omega arith)
+          (sym (c .before .is-field .ensures) ∙ not-false _ (c .if1 .left))
+          ∙ l .inv .1,
+    )
 
 returns-2 : tie.Need-returns-2 Inv-loop μ-loop
 returns-2 c =

@@ -16,10 +16,14 @@ abbrev μ-loop : tie.MeasureT-loop
 μ-loop text counts₀ lines₀ latest₀ at₀ counts lines latest at = length text - at
 
 -- the line that was found, and its kind
-good-there : (c : tie.After-known-told Inv-loop μ-loop) → let l = c .before .before .before .before .before .loop in Good (c .before .before .before .before .before .before .before .before .args .text .now) (l .lines) (l .latest) (l .at) (c .before .k .given .0 .0) (c .before .k .given .0 .1 .0)
+good-there : (c : tie.After-known-told Inv-loop μ-loop) →
+    let l = c .before .before .before .before .before .loop in
+    Good (c .before .before .before .before .before .before .before .before .args .text .now) (l .lines) (l .latest) (l .at)
+    (c .before .k .given .0 .0) (c .before .k .given .0 .1 .0)
 good-there c =
     let l = c .before .before .before .before .before .loop in
-    next-good _ _ _ _ _ (l .inv .1) (c .before .before .before .before .loop-test .taken) _ _ (sym (c .before .k .given .1) ∙ c .before .before .before .next-line .ensures)
+    next-good _ _ _ _ _ (l .inv .1) (c .before .before .before .before .loop-test .taken) _ _
+    (sym (c .before .k .given .1) ∙ c .before .before .before .next-line .ensures)
 
 kind-there : (c : tie.After-known-told Inv-loop μ-loop) → c .before .k .given .0 .0 < 8
 kind-there c =
@@ -57,7 +61,9 @@ add-t16 c =
 returns-2 : tie.Need-returns-2 Inv-loop μ-loop
 returns-2 c =
     let l = c .before .before .before .before .loop in
-    refused-checked _ 14 _ (next-bad _ _ _ _ _ (l .inv .1) (c .before .before .before .loop-test .taken) (sym (c .enum-told .given .1) ∙ c .before .before .next-line .ensures))
+    refused-checked _ 14 _
+    (next-bad _ _ _ _ _ (l .inv .1) (c .before .before .before .loop-test .taken)
+    (sym (c .enum-told .given .1) ∙ c .before .before .next-line .ensures))
 
 mul-rows : tie.Need-mul-rows Inv-loop μ-loop
 mul-rows c = omega (arith, kind-there c)
@@ -77,7 +83,9 @@ returns-3 : tie.Need-returns-3 Inv-loop μ-loop
 returns-3 c =
     let b = c .before .before in
     let l = b .before .before .before .before .before .loop in
-    refused-checked _ 15 _ (next-many _ _ _ _ _ (l .inv .1) (b .before .before .before .before .loop-test .taken) _ _ (good-there b) (omega (arith, c .before .limit-of .ensures .0, c .if2 .taken)))
+    refused-checked _ 15 _
+    (next-many _ _ _ _ _ (l .inv .1) (b .before .before .before .before .loop-test .taken) _ _ (good-there b)
+    (omega (arith, c .before .limit-of .ensures .0, c .if2 .taken)))
 
 add-counts : tie.Need-add-counts Inv-loop μ-loop
 add-counts c = omega (arith, c .before .limit-of .ensures .1, c .if2 .left)
@@ -99,8 +107,11 @@ loop-less c = omega (arith, moved-there (c .before .before))
 loop-again : tie.Need-loop-again Inv-loop μ-loop
 loop-again c =
     let b = c .before .before in
-    let l = b .before .before .before .before .before .loop in
-    (l .inv .0, next-pass _ _ _ _ _ (l .inv .1) (b .before .before .before .before .loop-test .taken) _ _ (good-there b) (omega (arith, c .before .limit-of .ensures .0, c .if2 .left)))
+    let l = b .before .before .before .before .before .loop in (
+      l .inv .0,
+      next-pass _ _ _ _ _ (l .inv .1) (b .before .before .before .before .loop-test .taken) _ _ (good-there b)
+          (omega (arith, c .before .limit-of .ensures .0, c .if2 .left)),
+    )
 
 returns-4 : tie.Need-returns-4 Inv-loop μ-loop
 returns-4 c =

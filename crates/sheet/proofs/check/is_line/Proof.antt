@@ -72,12 +72,17 @@ are-fields-requires c κs =
 
 returns-5 : tie.Need-returns-5
 returns-5 c =
-    let b = c .before .before .before .before .before .before .before .before .before .before .before .before in
+    let at-if4 = c .before .before .before in
+    let at-if3 = at-if4 .before .before in
+    let at-letter-of = at-if3 .before in
+    let at-if2 = at-letter-of .before .before in
+    let at-width-of = at-if2 .before in
+    let b = at-width-of .before .before .before in
     let s = b .args .s .now in
-    let w = c .before .before .before .before .before .before .before .before .before .width-of in
-    let n : length s ≡ width (b .args .k) = c .before .before .before .before .before .before .before .before .if2 .left ∙ w .ensures .0 in
-    let l : getD s 0 0 ≡ letter (b .args .k) = c .before .before .before .before .before .if3 .left ∙ c .before .before .before .before .before .before .letter-of .ensures in
-    let f : getD s (width (b .args .k) - 1) 0 ≡ 10 = ap (λ (j : ℕ). getD s (j - 1) 0) (sym (w .ensures .0)) ∙ c .before .before .before .if4 .left in
+    let w = at-width-of .width-of in
+    let n : length s ≡ width (b .args .k) = at-if2 .if2 .left ∙ w .ensures .0 in
+    let l : getD s 0 0 ≡ letter (b .args .k) = at-if3 .if3 .left ∙ at-letter-of .letter-of .ensures in
+    let f : getD s (width (b .args .k) - 1) 0 ≡ 10 = ap (λ (j : ℕ). getD s (j - 1) 0) (sym (w .ensures .0)) ∙ at-if4 .if4 .left in
     let d : length (drop 1 s) ≤ length s - 1 = omega (arith, length-drop 1 s) in
     c .are-fields .ensures
     ∙ ap (λ (j : ℕ). areFields j (take (length s - 1) (drop 1 s))) (c .before .fields-of .ensures .0)

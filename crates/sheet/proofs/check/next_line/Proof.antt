@@ -58,10 +58,15 @@ is-line-requires c κs = search needs
 
 returns-3 : tie.Need-returns-3
 returns-3 c =
-    let a = c .before .before .before .before .before .before .before .before .before .args in
-    let k = c .before .before .before .before .before .before .kind-of in
-    let w = c .before .before .before .before .width-of in
-    next-not-line (a .text .now) (a .at) (a .n) (a .m) (k .result) (k .ensures) (line-there (a .text .now) (a .at) (k .result) (w .result) false (w .ensures .0) (sym (c .before .is-line .ensures) ∙ not-true _ (c .if3 .taken)))
+    let at-width-of = c .before .before .before .before in
+    let at-kind-of = at-width-of .before .before in
+    let at-args = at-kind-of .before .before .before in
+    let a = at-args .args in
+    let k = at-kind-of .kind-of in
+    let w = at-width-of .width-of in
+    next-not-line (a .text .now) (a .at) (a .n) (a .m) (k .result) (k .ensures)
+    (line-there (a .text .now) (a .at) (k .result) (w .result) false (w .ensures .0)
+    (sym (c .before .is-line .ensures) ∙ not-true _ (c .if3 .taken)))
 
 is-in-order-requires : tie.Need-is-in-order-requires
 is-in-order-requires c κs = search needs
@@ -75,11 +80,16 @@ returns-4 c =
 
 returns-5 : tie.Need-returns-5
 returns-5 c =
-    let a = c .before .before .before .before .before .before .before .before .before .before .before .args in
-    let k = c .before .before .before .before .before .before .before .before .kind-of in
-    let w = c .before .before .before .before .before .before .width-of in
+    let at-is-line = c .before .before .before in
+    let at-width-of = at-is-line .before .before .before in
+    let at-kind-of = at-width-of .before .before in
+    let at-args = at-kind-of .before .before .before in
+    let a = at-args .args in
+    let k = at-kind-of .kind-of in
+    let w = at-width-of .width-of in
     next-line (a .text .now) (a .at) (a .n) (a .m) (k .result) (w .result) (k .ensures) (w .ensures .0)
-    (line-there (a .text .now) (a .at) (k .result) (w .result) true (w .ensures .0) (sym (c .before .before .before .is-line .ensures) ∙ not-false _ (c .before .before .if3 .left)))
+    (line-there (a .text .now) (a .at) (k .result) (w .result) true (w .ensures .0)
+    (sym (at-is-line .is-line .ensures) ∙ not-false _ (c .before .before .if3 .left)))
     (sym (c .before .is-in-order .ensures) ∙ not-false _ (c .if4 .left))
 
 pub next-line-spec : {M : Type 1} → statement M

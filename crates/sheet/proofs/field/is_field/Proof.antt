@@ -43,10 +43,15 @@ same-requires c κs = search needs
 returns-3 : tie.Need-returns-3
 unfolding isField
 returns-3 c =
-    let b = c .before .before .before .before .before .before .before .before .before in
+    let at-put-number = c .before .before .before in
+    let at-value-of = at-put-number .before .before .before in
+    let b = at-value-of .before .before .before in
     let s = b .args .s .now in
     let v : value s ≤ 4294967295 = omega arith in
-    rw (eq-eqb (length s) 11 (omega arith), le-leb (value s) 4294967295 v) (c .same .ensures ∙ ap (sameText s) (c .before .before .before .put-number .ensures ∙ sets-whole _ _ (field-length _) ∙ ap field (c .before .before .before .before .before .before .value-of .ensures)))
+    rw (eq-eqb (length s) 11 (omega arith), le-leb (value s) 4294967295 v)
+    (c .same .ensures
+    ∙ ap (sameText s)
+    (at-put-number .put-number .ensures ∙ sets-whole _ _ (field-length _) ∙ ap field (at-value-of .value-of .ensures)))
 
 pub is-field-spec : {M : Type 1} → statement M
 is-field-spec =

@@ -5,14 +5,14 @@ use Prim.Native.Nat.{_+_, _/_, _%_, _≤_}
 use mathlib.Core.Path.{_≡_, refl, _∙_}
 use lib.ListN.{length, length-set}
 use lib.Seq.{sets}
-use Rattle.sheet.specs.Field.{columns}
+use Rattle.sheet.specs.Field.{digits}
 use Rattle.sheet.proofs.FieldLaws.{put-step, put-end, put-whole}
 use Rattle.sheet.proofs.field.put_number.Statement.{statement}
 use Rattle.sheet.proofs.field.put_number.Tie as tie
 
 abbrev Inv-loop : tie.InvT-loop
 Inv-loop out₀ at n left₀ i₀ out left i =
-    (i ≤ 10) × (length out ≡ length out₀) × (sets out at (columns i left) ≡ sets out₀ at (columns 10 (n / 10)))
+    (i ≤ 10) × (length out ≡ length out₀) × (sets out at (digits i left) ≡ sets out₀ at (digits 10 (n / 10)))
 
 abbrev μ-loop : tie.MeasureT-loop
 μ-loop out₀ at n left₀ i₀ out left i = i
@@ -43,8 +43,9 @@ add-out-3 c = omega arith
 
 slice-write-out-2 : tie.Need-slice-write-out-2 Inv-loop μ-loop
 slice-write-out-2 c =
+    let at-args = c .before .before .before .before in
     let l = c .before .before .loop in
-    omega (arith, l .inv .1, length-set (c .before .before .before .before .args .out .now) (c .before .before .before .before .args .at + 10) (48 + c .before .before .before .before .args .n % 10))
+    omega (arith, l .inv .1, length-set (at-args .args .out .now) (at-args .args .at + 10) (48 + at-args .args .n % 10))
 
 loop-less : tie.Need-loop-less Inv-loop μ-loop
 loop-less c = omega arith

@@ -4,14 +4,14 @@ use native.Mathlib.Omega.{arith}
 use Prim.Native.Nat.{_+_, _-_, _*_, _^_, _≤_}
 use mathlib.Core.Path.{_≡_, refl}
 use lib.ListN.{length, drop}
-use Rattle.sheet.specs.Field.{value, valueFrom}
+use Rattle.sheet.specs.Field.{value, valueBehind}
 use Rattle.sheet.proofs.FieldLaws.{value-step, value-end, bound-step, bound-small}
 use Rattle.sheet.proofs.field.value_of.Statement.{statement}
 use Rattle.sheet.proofs.field.value_of.Tie as tie
 
 abbrev Inv-loop : tie.InvT-loop
 Inv-loop s n₀ i₀ n i =
-    (i ≤ length s) × (valueFrom n (drop i s) ≡ value s) × (n + 23 ≤ 23 * 10 ^ i)
+    (i ≤ length s) × (valueBehind n (drop i s) ≡ value s) × (n + 23 ≤ 23 * 10 ^ i)
 
 abbrev μ-loop : tie.MeasureT-loop
 μ-loop s n₀ i₀ n i = length s - i

@@ -16,7 +16,12 @@ inside : (c : tie.After-limit-of) → c .before .base-of .result + c .before .be
 inside c =
     let a = c .before .before .before .before .before .args in
     subst⁻¹ (λ (m : ℕ). c .before .base-of .result + a .c * m ≤ 4101) (c .limit-of .ensures .0)
-    (omega (arith, place-fits (c .before .base-of .result) (fields (a .k)) (limit (a .k)) (a .c) 0 4101 (omega (arith, c .before .before .if2 .left, c .before .before .before .fields-of .ensures .0)) (omega arith) (c .before .base-of .ensures .1)))
+    (omega (
+      arith,
+      place-fits (c .before .base-of .result) (fields (a .k)) (limit (a .k)) (a .c) 0 4101
+          (omega (arith, c .before .before .if2 .left, c .before .before .before .fields-of .ensures .0)) (omega arith)
+          (c .before .base-of .ensures .1),
+    ))
 
 -- a column that a kind has, and one that it has not
 some-column : (k c : ℕ) → c < fields k → place k c ≡ columnOf k c

@@ -19,9 +19,13 @@ room-here : (c : tie.After-width-of Inv-loop μ-loop) → let s = c .before .bef
     let l = c .before .before .before .before .before .before .loop in
     l .at + getD (s .args .t3) (l .k) 0 * c .width-of .result ≤ length (s .args .text .now)
 room-here c =
-    let s = c .before .before .before .before .before .before .before .before .before in
-    let l = c .before .before .before .before .before .before .loop in
-    kind-room _ (s .pre .0) (s .args .t3) (s .pre .2) _ _ _ (l .k) (c .before .before .before .before .before .loop-test .taken) (l .inv) (c .width-of .result) (c .width-of .ensures .0)
+    let at-loop-test = c .before .before .before .before .before in
+    let at-loop = at-loop-test .before in
+    let at-stage = at-loop .before .before .before in
+    let s = at-stage in
+    let l = at-loop .loop in
+    kind-room _ (s .pre .0) (s .args .t3) (s .pre .2) _ _ _ (l .k) (at-loop-test .loop-test .taken) (l .inv)
+    (c .width-of .result) (c .width-of .ensures .0)
 
 loop-holds : tie.Need-loop-holds Inv-loop μ-loop
 loop-holds c = let s = c .before .before in left-all (s .args .text .now) (s .pre .0) (s .args .cells .now)
@@ -58,11 +62,15 @@ loop-less c = omega arith
 
 loop-again : tie.Need-loop-again Inv-loop μ-loop
 loop-again c =
-    let s = c .before .before .before .before .before .before .before .before .before in
-    let l = c .before .before .before .before .before .before .loop in
-    let t = c .before .before .before .before .before .loop-test .taken in
-    let f = c .before .before .before .fill-kind in
-    left-less _ (s .pre .0) (s .args .t3) (s .pre .2) _ _ _ (l .k) t (l .inv) (f .last .1 .0) (c .width-of .result) (c .width-of .ensures .0) (f .kept .1 .0) (f .ensures)
+    let at-fill-kind = c .before .before .before in
+    let at-loop-test = at-fill-kind .before .before in
+    let at-loop = at-loop-test .before in
+    let s = at-loop .before .before .before in
+    let l = at-loop .loop in
+    let t = at-loop-test .loop-test .taken in
+    let f = at-fill-kind .fill-kind in
+    left-less _ (s .pre .0) (s .args .t3) (s .pre .2) _ _ _ (l .k) t (l .inv) (f .last .1 .0) (c .width-of .result)
+    (c .width-of .ensures .0) (f .kept .1 .0) (f .ensures)
 
 same-length : tie.Need-same-length Inv-loop μ-loop
 same-length c = c .before .loop .inv .same

@@ -23,7 +23,10 @@ abbrev μ-loop : tie.MeasureT-loop
 μ-loop text cells₀ from step place count p₀ i₀ cells p i = count - i
 
 -- the field of this turn
-here : (c : tie.In-loop Inv-loop μ-loop) → let l = c .before .loop in Readable (c .before .before .before .before .args .text .now) (l .p) (c .before .before .before .before .args .step) (suc (c .before .before .before .before .args .count - (l .i + 1)))
+here : (c : tie.In-loop Inv-loop μ-loop) →
+    let l = c .before .loop in
+    Readable (c .before .before .before .before .args .text .now) (l .p) (c .before .before .before .before .args .step)
+    (suc (c .before .before .before .before .args .count - (l .i + 1)))
 here c = let l = c .before .loop in readable-more _ _ _ _ (l .i) (c .loop-test .taken) (l .inv .2)
 
 loop-holds : tie.Need-loop-holds Inv-loop μ-loop
@@ -76,13 +79,16 @@ loop-less c = omega arith
 
 loop-again : tie.Need-loop-again Inv-loop μ-loop
 loop-again c =
-    let l = c .before .before .before .loop in
-    let a = c .before .before .before .before .before .before .args in
+    let at-loop = c .before .before .before in
+    let at-args = at-loop .before .before .before in
+    let l = at-loop .loop in
+    let a = at-args .args in
     let t = c .before .before .loop-test .taken in (
       omega arith,
       length-set (l .cells) _ _ ∙ l .inv .1,
       here (c .before .before) .2,
-      fill-step (a .text .now) (l .p) (a .step) (a .count) (l .i) t (l .cells) _ (a .place) (c .value-of .result) (l .p + 11 - l .p) (omega arith) (c .value-of .ensures) (l .inv .3),
+      fill-step (a .text .now) (l .p) (a .step) (a .count) (l .i) t (l .cells) _ (a .place) (c .value-of .result)
+          (l .p + 11 - l .p) (omega arith) (c .value-of .ensures) (l .inv .3),
     )
 
 same-length : tie.Need-same-length Inv-loop μ-loop

@@ -98,15 +98,18 @@ loop-less c = omega (arith, c .before .before .before .before .loop-test .taken)
 
 loop-again : tie.Need-loop-again Inv-loop μ-loop
 loop-again c =
-    let s = c .before .before .before .before .before .before .before .before .before .before .before .before in
-    let l = c .before .before .before .before .before .loop in
-    let t = c .before .before .before .before .loop-test .taken in
+    let at-loop-test = c .before .before .before .before in
+    let at-loop = at-loop-test .before in
+    let s = at-loop .before .before .before .before .before .before .before in
+    let l = at-loop .loop in
+    let t = at-loop-test .loop-test .taken in
     let f = c .before .before .fill-column in (
       omega arith,
       f .kept .1 .0 ∙ l .inv .1,
       l .inv .2,
       column-step (s .args .k) (l .c) _ (l .cells) (f .last .1 .0) _ (omega (arith, l .inv .2 .fields-are, t))
-          (column-stored _ _ _ _ _ (l .inv .2) (l .c) t (s .args .text .now) (s .args .at) (s .args .count) (l .cells) (f .last .1 .0) (f .ensures)) (l .inv .3),
+          (column-stored _ _ _ _ _ (l .inv .2) (l .c) t (s .args .text .now) (s .args .at) (s .args .count) (l .cells) (f .last .1 .0)
+          (f .ensures)) (l .inv .3),
     )
 
 same-length : tie.Need-same-length Inv-loop μ-loop

@@ -34,13 +34,18 @@ returns-2 : tie.Need-returns-2
 returns-2 c =
     let b = c .before .before .before in
     let r = b .before .before .before .before .check-text in
-    read-stored _ _ _ _ (r .ensures) (b .before .before .before .before .before .if1 .left) _ (b .before .before .enum-told .given .1) (c .before .before .fill-all .ensures)
+    read-stored _ _ _ _ (r .ensures) (b .before .before .before .before .before .if1 .left) _
+    (b .before .before .enum-told .given .1) (c .before .before .fill-all .ensures)
 
 returns-3 : tie.Need-returns-3
-returns-3 c = let r = c .before .before .check-text in read-kept _ _ _ _ (r .ensures) (c .before .before .before .if1 .left) (refused-not-sound _ _ _ (c .enum-told2 .given .1))
+returns-3 c =
+    let r = c .before .before .check-text in
+    read-kept _ _ _ _ (r .ensures) (c .before .before .before .if1 .left) (refused-not-sound _ _ _ (c .enum-told2 .given .1))
 
 returns-4 : tie.Need-returns-4
-returns-4 c = let r = c .before .before .check-text in read-kept _ _ _ _ (r .ensures) (c .before .before .before .if1 .left) (no-room-not-sound _ (c .enum-told3 .given .1))
+returns-4 c =
+    let r = c .before .before .check-text in
+    read-kept _ _ _ _ (r .ensures) (c .before .before .before .if1 .left) (no-room-not-sound _ (c .enum-told3 .given .1))
 
 pub read-sheet-spec : {M : Type 1} → statement M
 read-sheet-spec =

@@ -36,16 +36,22 @@ same-length c = search needs
 returns : tie.Need-returns
 unfolding endText
 returns c =
-    let a = c .before .before .before .before .before .before .before .before .args in
-    c .before .before .put-number .ensures ∙ ap (λ (e : End). sets (a .out .now) (a .at) (endText e)) (sym (c .before .before .before .before .before .e .given .1))
+    let at-e = c .before .before .before .before .before in
+    let at-args = at-e .before .before .before in
+    let a = at-args .args in
+    c .before .before .put-number .ensures ∙ ap (λ (e : End). sets (a .out .now) (a .at) (endText e)) (sym (at-e .e .given .1))
 
 same-length-2 : tie.Need-same-length-2
 same-length-2 c = search needs
 
 returns-2 : tie.Need-returns-2
 returns-2 c =
-    let a = c .before .before .before .before .before .before .before .args in
-    ap (λ (o : List ℕ). set o (a .at + 10) 45) (c .before .before .put-number2 .ensures) ∙ end-absent (a .out .now) (a .at) ∙ ap (λ (e : End). sets (a .out .now) (a .at) (endText e)) (sym (c .before .before .before .before .enum-told .given .1))
+    let at-enum-told = c .before .before .before .before in
+    let at-args = at-enum-told .before .before .before in
+    let a = at-args .args in
+    ap (λ (o : List ℕ). set o (a .at + 10) 45) (c .before .before .put-number2 .ensures)
+    ∙ end-absent (a .out .now) (a .at)
+    ∙ ap (λ (e : End). sets (a .out .now) (a .at) (endText e)) (sym (at-enum-told .enum-told .given .1))
 
 pub put-end-spec : {M : Type 1} → statement M
 put-end-spec =

@@ -40,9 +40,12 @@ returns : tie.Need-returns
 returns c =
     let a = c .before .before .before .before .before .args in
     let o = a .out .now in
-    let p₁ = put-more o o (set o (a .at) (a .letter)) (a .at) [] (a .letter ∷ []) 0 1 (a .at) (put-none o (a .at)) (omega arith) refl refl in
-    let p₂ = put-more o (set o (a .at) (a .letter)) _ (a .at) _ (field (a .n)) 1 11 (a .at + 1) p₁ refl (field-length (a .n)) (c .before .before .put-number .ensures) in
-    let p₃ = put-more o _ (set (c .before .before .put-number .last .0) (a .at + 12) 10) (a .at) _ (10 ∷ []) 12 1 (a .at + 12) p₂ refl refl refl in
+    let p₁ = put-more o o (set o (a .at) (a .letter)) (a .at) [] (a .letter ∷ []) 0 1 (a .at) (put-none o (a .at)) (omega arith)
+    refl refl in
+    let p₂ = put-more o (set o (a .at) (a .letter)) _ (a .at) _ (field (a .n)) 1 11 (a .at + 1) p₁ refl (field-length (a .n))
+    (c .before .before .put-number .ensures) in
+    let p₃ = put-more o _ (set (c .before .before .put-number .last .0) (a .at + 12) 10) (a .at) _ (10 ∷ []) 12 1 (a .at + 12)
+    p₂ refl refl refl in
     put-as o _ (a .at) _ _ 13 p₃ (one-text (a .letter) (a .n))
 
 pub put-one-spec : {M : Type 1} → statement M

@@ -48,18 +48,25 @@ add-t9 c = search needs
 
 same-length : tie.Need-same-length
 same-length c =
-    let a = c .before .before .before .before .before .before .before .before .args in
-    length-set (c .before .before .put-fields .last .0) (1 + 11 * length (a .fields .now)) 10 ∙ c .before .before .put-fields .kept .0 ∙ length-set (a .out .now) 0 (a .letter)
+    let at-args = c .before .before .before .before .before .before .before .before in
+    let a = at-args .args in
+    length-set (c .before .before .put-fields .last .0) (1 + 11 * length (a .fields .now)) 10
+    ∙ c .before .before .put-fields .kept .0
+    ∙ length-set (a .out .now) 0 (a .letter)
 
 returns-3 : tie.Need-returns-3
 returns-3 c =
-    let a = c .before .before .before .before .before .before .before .before .args in
+    let at-args = c .before .before .before .before .before .before .before .before in
+    let a = at-args .args in
     let o = a .out .now in
     let n = 11 * length (a .fields .now) in
     let p₁ = put-more o o (set o 0 (a .letter)) 0 [] (a .letter ∷ []) 0 1 0 (put-none o 0) refl refl refl in
-    let p₂ = put-more o (set o 0 (a .letter)) (c .before .before .put-fields .last .0) 0 (a .letter ∷ []) (fieldsText (a .fields .now)) 1 n 1 p₁ refl (fields-length (a .fields .now)) (c .before .before .put-fields .ensures) in
-    let p₃ = put-more o (c .before .before .put-fields .last .0) (set (c .before .before .put-fields .last .0) (1 + n) 10) 0 _ (10 ∷ []) (1 + n) 1 (1 + n) p₂ (omega arith) refl refl in
-    wrote-all (lineText (a .letter) (a .fields .now)) o _ (1 + n + 1) (line-length (a .letter) (a .fields .now)) (omega arith) (put-as o _ 0 _ _ (1 + n + 1) p₃ (line-text (a .letter) (a .fields .now)))
+    let p₂ = put-more o (set o 0 (a .letter)) (c .before .before .put-fields .last .0) 0 (a .letter ∷ [])
+    (fieldsText (a .fields .now)) 1 n 1 p₁ refl (fields-length (a .fields .now)) (c .before .before .put-fields .ensures) in
+    let p₃ = put-more o (c .before .before .put-fields .last .0) (set (c .before .before .put-fields .last .0) (1 + n) 10) 0 _
+    (10 ∷ []) (1 + n) 1 (1 + n) p₂ (omega arith) refl refl in
+    wrote-all (lineText (a .letter) (a .fields .now)) o _ (1 + n + 1) (line-length (a .letter) (a .fields .now)) (omega arith)
+    (put-as o _ 0 _ _ (1 + n + 1) p₃ (line-text (a .letter) (a .fields .now)))
 
 pub write-line-spec : {M : Type 1} → statement M
 write-line-spec =

@@ -23,10 +23,16 @@ enum-told-3 : tie.Need-enum-told-3
 enum-told-3 c = search needs
 
 returns-2 : tie.Need-returns-2
-returns-2 c = let a = c .before .before .before .before .before .args in ap₂ (λ (d : Side) (t : Tried). afterTry d t (a .self)) (sym (c .enum-told2 .given .1)) (sym (c .before .before .before .enum-told .given .1))
+returns-2 c =
+    let a = c .before .before .before .before .before .args in
+    ap₂ (λ (d : Side) (t : Tried). afterTry d t (a .self)) (sym (c .enum-told2 .given .1))
+    (sym (c .before .before .before .enum-told .given .1))
 
 returns-3 : tie.Need-returns-3
-returns-3 c = let a = c .before .before .before .before .before .args in ap₂ (λ (d : Side) (t : Tried). afterTry d t (a .self)) (sym (c .enum-told3 .given .1)) (sym (c .before .before .before .enum-told .given .1))
+returns-3 c =
+    let a = c .before .before .before .before .before .args in
+    ap₂ (λ (d : Side) (t : Tried). afterTry d t (a .self)) (sym (c .enum-told3 .given .1))
+    (sym (c .before .before .before .enum-told .given .1))
 
 pub after-spec : {M : Type 1} → statement M
 after-spec =

@@ -1,0 +1,2 @@
+-- The columns that cells hold
+pub mod CellColumns

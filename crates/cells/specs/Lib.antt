@@ -1,0 +1,2 @@
+-- The job that a sheet's rows make
+pub mod SheetJob

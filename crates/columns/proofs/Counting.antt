@@ -1,0 +1,81 @@
+-- How many numbers pass a test: a loop that counts them, and what a count says
+use mathlib.Core.Path.{_≡_, refl, sym, ap, _∙_}
+use mathlib.Core.Logic.{⊎-elim}
+use mathlib.Core.Bool.{Bool, true, false, cond}
+use Prim.Native.Nat.{ℕ, zero, suc, _+_, _≤_, _<_, zero-le}
+use native.Mathlib.Nat.{le-trans, le-of-eq, le-antisymm, not-suc-le-zero}
+use native.Mathlib.Numerals.{add-one}
+use native.Mathlib.Omega.{arith}
+use Rattle.columns.proofs.Firsts.{split}
+use Rattle.columns.specs.Below.{countBelow}
+
+-- a loop has counted the numbers below i
+pub record Counted (test : ℕ → Bool) (i have : ℕ) : Type 0 where
+  pub is : have ≡ countBelow test i
+  pub few : have ≤ i
+
+module _ (test : ℕ → Bool) where
+  -- where nothing is counted nothing passes
+  pub count-none : (n : ℕ) → countBelow test n ≡ 0 → (k : ℕ) → k < n → test k ≡ false
+  unfolding countBelow
+  count-none zero e k h = absurd (not-suc-le-zero h)
+  count-none (suc n) e k h = ⊎-elim (λ m. count-none n (none-first (countBelow test n) (cond (test n) 1 0) e) k m) (λ m. ap test (last k n h m) ∙ none-last (test n) (countBelow test n) e) (split k n)
+    where
+      none-first : (a b : ℕ) → a + b ≡ 0 → a ≡ 0
+      none-first a b p = omega arith
+
+      last : (k n : ℕ) → k < suc n → n ≤ k → k ≡ n
+      last k n p q = omega arith
+
+      none-last : (b : Bool) (a : ℕ) → a + cond b 1 0 ≡ 0 → b ≡ false
+      none-last true a p = absurd (omega (arith, p))
+      none-last false a p = refl
+
+  -- one more that passes is counted
+  pub count-more : (a b : ℕ) → a ≤ b → countBelow test a ≤ countBelow test b
+  unfolding countBelow
+  count-more a zero h = le-of-eq (ap (countBelow test) (none a h))
+    where
+      none : (a : ℕ) → a ≤ 0 → a ≡ 0
+      none a p = omega arith
+  count-more a (suc b) h = ⊎-elim (λ m. le-trans (count-more a b (inner a b m)) (grown (countBelow test b) (cond (test b) 1 0))) (λ m. le-of-eq (ap (countBelow test) (same a b h m))) (split a (suc b))
+    where
+      inner : (a b : ℕ) → a < suc b → a ≤ b
+      inner a b p = omega arith
+
+      same : (a b : ℕ) → a ≤ suc b → suc b ≤ a → a ≡ suc b
+      same a b p q = omega arith
+
+      grown : (x y : ℕ) → x ≤ x + y
+      grown x y = omega arith
+
+  pub count-hit : (a u b : ℕ) → a ≤ u → u < b → test u ≡ true → countBelow test a + 1 ≤ countBelow test b
+  unfolding countBelow
+  count-hit a u b p q t = le-trans (plus (countBelow test a) (countBelow test u) (count-more a u p)) (le-trans (le-of-eq (sym (here u t))) (count-more (suc u) b q))
+    where
+      plus : (x y : ℕ) → x ≤ y → x + 1 ≤ y + 1
+      plus x y h = omega arith
+
+      here : (u : ℕ) → test u ≡ true → countBelow test (suc u) ≡ countBelow test u + 1
+      here u t = ap (λ (b : Bool). countBelow test u + cond b 1 0) t
+
+  -- ---- a loop
+  pub counted-none : Counted test 0 0
+  unfolding countBelow
+  counted-none = record { is = refl; few = zero-le }
+
+  pub counted-turn : (i have m : ℕ) (b : Bool) → Counted test i have → b ≡ test i → m ≡ have + cond b 1 0 → Counted test (i + 1) m
+  unfolding countBelow
+  counted-turn i have m b c q r =
+      record {
+        is = r ∙ ap (λ (x : ℕ). x + cond b 1 0) (c .is) ∙ ap (λ (t : Bool). countBelow test i + cond t 1 0) q ∙ ap (countBelow test) (sym (add-one i));
+        few = le-trans (le-of-eq r) (one-more b have i (c .few));
+      }
+    where
+      one-more : (b : Bool) (x i : ℕ) → x ≤ i → x + cond b 1 0 ≤ i + 1
+      one-more true x i h = omega arith
+      one-more false x i h = omega arith
+
+  -- behind the last
+  pub counted-all : (i have n : ℕ) → i ≤ n → n ≤ i → Counted test i have → have ≡ countBelow test n
+  counted-all i have n p q c = c .is ∙ ap (countBelow test) (le-antisymm p q)

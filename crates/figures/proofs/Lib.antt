@@ -1,0 +1,2 @@
+-- What the figures of an answer are
+pub mod Shown

@@ -1,0 +1,46 @@
+-- `figures_of` answers each field
+use borrow.Author.Needs.{needs}
+use Rattle.figures.proofs.figures.figures_of.Statement.{statement}
+use Rattle.figures.proofs.figures.figures_of.Tie as tie
+
+end-shown-requires : tie.Need-end-shown-requires
+end-shown-requires c κs = search needs
+
+end-shown-requires-2 : tie.Need-end-shown-requires-2
+end-shown-requires-2 c κs = search needs
+
+bits-shown-requires : tie.Need-bits-shown-requires
+bits-shown-requires c κs = search needs
+
+bits-shown-requires-2 : tie.Need-bits-shown-requires-2
+bits-shown-requires-2 c κs = search needs
+
+bits-shown-requires-3 : tie.Need-bits-shown-requires-3
+bits-shown-requires-3 c κs = search needs
+
+thousandths-of-requires : tie.Need-thousandths-of-requires
+thousandths-of-requires c κs = search needs
+
+returns : tie.Need-returns
+returns c =
+    λ i. record {
+      left = c .before .before .before .before .before .end-shown .ensures i;
+      right = c .before .before .before .before .end-shown2 .ensures i;
+      «use_weight» = c .before .before .before .bits-shown .ensures i;
+      «live_insts» = c .before .before .before .before .before .before .args .p .«live_insts»;
+      «interference_weight» = c .before .before .bits-shown2 .ensures i;
+      «split_cost» = c .before .bits-shown3 .ensures i;
+      thousandths = c .thousandths-of .ensures i;
+    }
+
+pub figures-of-spec : {M : Type 1} → statement M
+figures-of-spec =
+    tie.close
+    (tie.spec
+    end-shown-requires
+    end-shown-requires-2
+    bits-shown-requires
+    bits-shown-requires-2
+    bits-shown-requires-3
+    thousandths-of-requires
+    returns)

@@ -1,0 +1,2 @@
+-- An answer in the figures of its text
+pub mod Figures

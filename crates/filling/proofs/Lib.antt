@@ -1,0 +1,4 @@
+-- Why the tables are right
+pub mod UseFilling
+pub mod GapFilling
+pub mod SourceTables

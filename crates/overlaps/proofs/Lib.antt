@@ -1,0 +1,7 @@
+-- The laws of live instructions and of gap segments
+pub mod CheckedSegments
+pub mod LiveLaws
+pub mod GapRows
+pub mod GapCount
+pub mod LiveCases
+pub mod LiveTotal

@@ -1,0 +1,3 @@
+-- What segments make of gaps: live instructions and gap segments. What stands below a line of dashes is for private functions.
+pub mod Live
+pub mod GapSegments

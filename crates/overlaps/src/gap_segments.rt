@@ -1,0 +1,143 @@
+// Gap segments: all nonempty overlaps of gap and segment, in order.
+use crate::live::least;
+use crate::live::most;
+ghost use mathlib.Core.Path.{_≡_};
+ghost use Prim.Native.Nat.{_+_, _*_, _<_};
+ghost use lib.ListN.{length};
+ghost use Rattle.overlaps.specs.Live.{Gaps};
+ghost use Rattle.overlaps.specs.GapSegments.{nonempty, overlapsOf, gapSegments, Valued, EndedBy, segmentColumns, put, SegmentRoom, Filled};
+
+// Stores a gap segment behind the rows used, if it has any points. Answers how many rows are used then.
+fn put_overlap(
+    out_from: &mut [u32],
+    out_to: &mut [u32],
+    out_value: &mut [u32],
+    out_gap: &mut [u32],
+    used: usize,
+    from: u32,
+    to: u32,
+    value: u32,
+    gap: u32,
+) -> usize
+    requires { ⌜
+        (let lent = segmentColumns (now «out_from») (now «out_to») (now «out_value») (now «out_gap») used in
+        SegmentRoom (length (nonempty from to value gap)) lent) ⌝ }
+    ensures { λ r. ⌜
+        (let lent = segmentColumns (now («out_from» .entry)) (now («out_to» .entry)) (now («out_value» .entry)) (now («out_gap» .entry)) used in
+        let after = segmentColumns (now («out_from» .exit)) (now («out_to» .exit)) (now («out_value» .exit)) (now («out_gap» .exit)) r in
+        after ≡ put (nonempty from to value gap) lent) ⌝ }
+{
+    if from >= to {
+        return used;
+    }
+    out_from[used] = from;
+    out_to[used] = to;
+    out_value[used] = value;
+    out_gap[used] = gap;
+    used + 1
+}
+
+// The first gap that a later segment may lie in, and how many rows are used.
+struct Cut {
+    pub gap: usize,
+    pub used: usize,
+}
+
+// The gap segments of one segment, from a gap on before which it has none.
+fn cut_segment(
+    from: &[u32],
+    to: &[u32],
+    start: u32,
+    end: u32,
+    value: u32,
+    out_from: &mut [u32],
+    out_to: &mut [u32],
+    out_value: &mut [u32],
+    out_gap: &mut [u32],
+    gap: usize,
+    used: usize,
+) -> Cut
+    requires { ⌜ Gaps (now from) (now to) ⌝ }
+    requires { ⌜ (start < end) × EndedBy (now from) (now to) start gap ⌝ }
+    requires { ⌜
+        (let overlaps = overlapsOf (now from) (now to) start end value in
+        let lent = segmentColumns (now «out_from») (now «out_to») (now «out_value») (now «out_gap») used in
+        SegmentRoom (length overlaps) lent) ⌝ }
+    ensures { λ r. ⌜
+        (let overlaps = overlapsOf (now (from .entry)) (now (to .entry)) start end value in
+        let lent = segmentColumns (now («out_from» .entry)) (now («out_to» .entry)) (now («out_value» .entry)) (now («out_gap» .entry)) used in
+        let after = segmentColumns (now («out_from» .exit)) (now («out_to» .exit)) (now («out_value» .exit)) (now («out_gap» .exit)) (r .used) in
+        EndedBy (now (from .entry)) (now (to .entry)) end (r .gap) × (after ≡ put overlaps lent)) ⌝ }
+{
+    let mut g = gap;
+    let mut n = used;
+    while g < from.len() {
+        let t = 4 * to[g];
+        let a = most(start, 4 * from[g]);
+        let e = least(end, t);
+        n = put_overlap(
+            out_from,
+            out_to,
+            out_value,
+            out_gap,
+            n,
+            a,
+            e,
+            value,
+            g as u32,
+        );
+        if t >= end {
+            return Cut { gap: g, used: n };
+        }
+        g += 1;
+    }
+    Cut { gap: g, used: n }
+}
+
+// All gap segments. Answers how many there are.
+pub fn build_gap_segments(
+    start: &[u32],
+    end: &[u32],
+    value: &[u32],
+    from: &[u32],
+    to: &[u32],
+    out_from: &mut [u32],
+    out_to: &mut [u32],
+    out_value: &mut [u32],
+    out_gap: &mut [u32],
+) -> usize
+    requires { ⌜ Valued (now start) (now end) (now value) ⌝ }
+    requires { ⌜ Gaps (now from) (now to) ⌝ }
+    requires { ⌜
+        (let found = gapSegments (now from) (now to) (now start) (now end) (now value) in
+        let lent = segmentColumns (now «out_from») (now «out_to») (now «out_value») (now «out_gap») 0 in
+        SegmentRoom (length found) lent) ⌝ }
+    ensures { λ r. ⌜
+        (let found = gapSegments (now (from .entry)) (now (to .entry)) (now (start .entry)) (now (end .entry)) (now (value .entry)) in
+        let lent = segmentColumns (now («out_from» .entry)) (now («out_to» .entry)) (now («out_value» .entry)) (now («out_gap» .entry)) 0 in
+        let after = segmentColumns (now («out_from» .exit)) (now («out_to» .exit)) (now («out_value» .exit)) (now («out_gap» .exit)) r in
+        Filled found lent after) ⌝ }
+{
+    let mut gap: usize = 0;
+    let mut used: usize = 0;
+    let mut i: usize = 0;
+    while i < start.len() {
+        let cut = cut_segment(
+            from,
+            to,
+            start[i],
+            end[i],
+            value[i],
+            out_from,
+            out_to,
+            out_value,
+            out_gap,
+            gap,
+            used,
+        );
+        gap = cut.gap;
+        used = cut.used;
+        i += 1;
+    }
+    used
+}

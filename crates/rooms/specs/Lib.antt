@@ -1,0 +1,2 @@
+-- Line 12, and the twelve lines together
+pub mod Rooms

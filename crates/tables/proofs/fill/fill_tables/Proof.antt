@@ -1,0 +1,323 @@
+-- `fill_tables` checks the job, and fills its tables if it is accepted
+use mathlib.Core.Path.{_≡_, refl, sym, ap, _∙_, subst}
+use native.Mathlib.Nat.{le-trans, le-of-eq}
+use lib.Seq.{length-take-le}
+use Rattle.links.specs.declared.blocks.Checked.the-variants.{Sound}
+use Rattle.links.proofs.Rows.{blocks-inside}
+use Rattle.filling.specs.SourceTables.{WorkColumns, workColumns, roomsOf}
+use Rattle.filling.specs.declared.lent.Rooms.{Rooms}
+use Rattle.refusals.specs.Job.{Job, JobColumns, jobOf, jobColumns}
+use Rattle.rooms.specs.Rooms.{refusalOf}
+use Rattle.tables.proofs.Answers.{refused-filled, cut-sound, cut-checked, cut-bits, cut-roomy, accepted-filled}
+use borrow.Author.Needs.{needs}
+use Rattle.tables.proofs.fill.fill_tables.Statement.{statement}
+use Rattle.tables.proofs.fill.fill_tables.Tie as tie
+
+-- ---- places: the start, and where the job is checked
+abbrev begin : tie.After-check-job → tie.Start
+begin c =
+    c .before .before .before .before .before .before .before .before .before .before .before .before .before .before
+    .before .before .before .before .before .before .before .before .before .before .before .before .before .before
+    .before .before .before .before .before .before .before .before .before .before .before .before .before .before
+    .before
+
+abbrev checked-at : tie.After-enum-told → tie.After-check-job
+checked-at c = c .before .before
+
+-- ---- the job's columns, the job, and the lent columns
+abbrev columns : tie.Start → JobColumns
+columns s =
+    let a = s .args in
+    jobColumns
+    (a .freq .now) (a .first .now) (a .end .now)
+    (a .code .now)
+    (a .s-start .now) (a .s-end .now) (a .s-value .now) (a .s-first-use .now) (a .s-end-use .now) (a .s-flags .now)
+    (a .position .now) (a .u-kind .now) (a .cost .now)
+    (a .spill-weight .now)
+    (a .r-unit .now) (a .r-start .now) (a .r-end .now) (a .r-kind .now) (a .r-index .now) (a .r-fixed .now)
+    (a .f-unit .now) (a .f-point .now) (a .f-value .now)
+
+abbrev job : tie.Start → Job
+job s = jobOf (s .args .parameters) (columns s)
+
+abbrev lent : tie.Start → WorkColumns
+lent s =
+    let a = s .args in
+    workColumns
+    (a .prev-lower-freq .now) (a .next-lower-freq .now)
+    (a .inst .now) (a .weight .now) (a .left-weight .now) (a .right-weight .now)
+    (a .from .now) (a .to .now) (a .gap-weight .now) (a .live .now) (a .min-freq .now)
+    (a .out-from .now) (a .out-to .now) (a .out-value .now) (a .out-gap .now)
+
+shortest-of-four-requires : tie.Need-shortest-of-four-requires
+shortest-of-four-requires c κs = tt
+
+shortest-of-five-requires : tie.Need-shortest-of-five-requires
+shortest-of-five-requires c κs = tt
+
+shortest-of-four-requires-2 : tie.Need-shortest-of-four-requires-2
+shortest-of-four-requires-2 c κs = tt
+
+shorter-requires : tie.Need-shorter-requires
+shorter-requires c κs = tt
+
+check-job-requires : tie.Need-check-job-requires
+check-job-requires c κs = tt
+
+enum-known-checked : tie.Need-enum-known-checked
+enum-known-checked c = search needs
+
+-- the rooms are those of the lent tables
+rooms-are : (c : tie.After-check-job) → _≡_ {A = Rooms}
+    (record { uses = c .before .before .before .before .shortest-of-four .result; gaps = c .before .before .before .shortest-of-five .result; «gap_segments» = c .before .before .shortest-of-four2 .result; links = c .before .shorter .result })
+    (roomsOf (lent (begin c)))
+rooms-are c =
+    λ i. record {
+      uses = c .before .before .before .before .shortest-of-four .ensures i;
+      gaps = c .before .before .before .shortest-of-five .ensures i;
+      «gap_segments» = c .before .before .shortest-of-four2 .ensures i;
+      links = c .before .shorter .ensures i;
+    }
+
+returns : tie.Need-returns
+returns c =
+    let k = c .before .before .before in
+    let s = begin k in
+    refused-filled (job s) (lent s) (c .before .checked .given .0 .0) (ap (refusalOf (job s)) (sym (rooms-are k)) ∙ sym (k .check-job .ensures) ∙ c .before .checked .given .1)
+
+enum-told : tie.Need-enum-told
+enum-told c = search needs
+
+remat-scales-requires : tie.Need-remat-scales-requires
+remat-scales-requires c κs = tt
+
+count-requires : tie.Need-count-requires
+count-requires c κs = tt
+
+sound : (c : tie.After-enum-told) → refusalOf (job (begin (checked-at c))) (roomsOf (lent (begin (checked-at c)))) ≡ Sound
+sound c =
+    let k = checked-at c in
+    ap (refusalOf (job (begin k))) (sym (rooms-are k)) ∙ sym (k .check-job .ensures) ∙ c .enum-told .given .1
+
+slice-aggregate-fill-checked : tie.Need-slice-aggregate-fill-checked
+slice-aggregate-fill-checked c =
+    let n = c .before .count in
+    let a = begin (checked-at (c .before .before .before)) .args in
+    sym (length-take-le (n .result) (a .freq .now) (le-trans (le-of-eq (n .ensures)) (blocks-inside (a .freq .now) (a .first .now) (a .end .now) .freqs)))
+
+slice-aggregate-fill-checked-2 : tie.Need-slice-aggregate-fill-checked-2
+slice-aggregate-fill-checked-2 c =
+    let n = c .before .before .count in
+    let a = begin (checked-at (c .before .before .before .before)) .args in
+    sym (length-take-le (n .result) (a .first .now) (le-trans (le-of-eq (n .ensures)) (blocks-inside (a .freq .now) (a .first .now) (a .end .now) .firsts)))
+
+slice-aggregate-fill-checked-3 : tie.Need-slice-aggregate-fill-checked-3
+slice-aggregate-fill-checked-3 c =
+    let n = c .before .before .before .count in
+    let a = begin (checked-at (c .before .before .before .before .before)) .args in
+    sym (length-take-le (n .result) (a .end .now) (le-trans (le-of-eq (n .ensures)) (blocks-inside (a .freq .now) (a .first .now) (a .end .now) .ends)))
+
+fill-checked-requires : tie.Need-fill-checked-requires
+fill-checked-requires c κs =
+    let t =
+    c .before .before .before .before .before .before .before .before .before .before .before .before .before .before
+    .before .before .before .before .before .before in
+    let n =
+    c .before .before .before .before .before .before .before .before .before .before .before .before .before .before
+    .before .before .before .before .count in
+    let z =
+    c .before .before .before .before .before .before .before .before .before .before .before .before .before .before
+    .before .before .before .before .before .remat-scales in
+    let s = begin (checked-at t) in
+    let prm = s .args .parameters in (
+      cut-sound prm (columns s) (lent s) (sound t) (n .result) (n .ensures) (z .result) (z .ensures),
+      cut-checked prm (columns s) (lent s) (sound t) (n .result) (n .ensures) (z .result) (z .ensures),
+      cut-bits prm (columns s) (lent s) (sound t) (n .result) (n .ensures) (z .result) (z .ensures),
+      cut-roomy prm (columns s) (lent s) (sound t) (n .result) (n .ensures) (z .result) (z .ensures),
+    )
+
+same-length : tie.Need-same-length
+same-length c =
+    let f =
+    c .before .before .before .before .before .before .before .before .before .before .before .before .before .before
+    .before .before .before .before .before .before .before .before .before .before .before .before .before .before
+    .before .before in
+    f .fill-checked .kept .1 .1 .1 .1 .1 .1 .1 .1 .1 .1 .1 .1 .1 .1 .0
+
+same-length-2 : tie.Need-same-length-2
+same-length-2 c =
+    let f =
+    c .before .before .before .before .before .before .before .before .before .before .before .before .before .before
+    .before .before .before .before .before .before .before .before .before .before .before .before .before .before
+    .before .before in
+    f .fill-checked .kept .1 .1 .1 .1 .1 .1 .1 .1 .1 .1 .1 .1 .1 .1 .1 .0
+
+same-length-3 : tie.Need-same-length-3
+same-length-3 c =
+    let f =
+    c .before .before .before .before .before .before .before .before .before .before .before .before .before .before
+    .before .before .before .before .before .before .before .before .before .before .before .before .before .before
+    .before .before in
+    f .fill-checked .kept .1 .1 .1 .1 .1 .1 .1 .1 .1 .1 .1 .1 .1 .1 .1 .1 .0
+
+same-length-4 : tie.Need-same-length-4
+same-length-4 c =
+    let f =
+    c .before .before .before .before .before .before .before .before .before .before .before .before .before .before
+    .before .before .before .before .before .before .before .before .before .before .before .before .before .before
+    .before .before in
+    f .fill-checked .kept .1 .1 .1 .1 .1 .1 .1 .1 .1 .1 .1 .1 .1 .1 .1 .1 .1 .0
+
+same-length-5 : tie.Need-same-length-5
+same-length-5 c =
+    let f =
+    c .before .before .before .before .before .before .before .before .before .before .before .before .before .before
+    .before .before .before .before .before .before .before .before .before .before .before .before .before .before
+    .before .before in
+    f .fill-checked .kept .1 .1 .1 .1 .1 .1 .1 .1 .1 .1 .1 .1 .1 .1 .1 .1 .1 .1 .0
+
+same-length-6 : tie.Need-same-length-6
+same-length-6 c =
+    let f =
+    c .before .before .before .before .before .before .before .before .before .before .before .before .before .before
+    .before .before .before .before .before .before .before .before .before .before .before .before .before .before
+    .before .before in
+    f .fill-checked .kept .1 .1 .1 .1 .1 .1 .1 .1 .1 .1 .1 .1 .1 .1 .1 .1 .1 .1 .1 .0
+
+same-length-7 : tie.Need-same-length-7
+same-length-7 c =
+    let f =
+    c .before .before .before .before .before .before .before .before .before .before .before .before .before .before
+    .before .before .before .before .before .before .before .before .before .before .before .before .before .before
+    .before .before in
+    f .fill-checked .kept .1 .1 .1 .1 .1 .1 .1 .1 .1 .1 .1 .1 .1 .1 .1 .1 .1 .1 .1 .1 .0
+
+same-length-8 : tie.Need-same-length-8
+same-length-8 c =
+    let f =
+    c .before .before .before .before .before .before .before .before .before .before .before .before .before .before
+    .before .before .before .before .before .before .before .before .before .before .before .before .before .before
+    .before .before in
+    f .fill-checked .kept .1 .1 .1 .1 .1 .1 .1 .1 .1 .1 .1 .1 .1 .1 .1 .1 .1 .1 .1 .1 .1 .0
+
+same-length-9 : tie.Need-same-length-9
+same-length-9 c =
+    let f =
+    c .before .before .before .before .before .before .before .before .before .before .before .before .before .before
+    .before .before .before .before .before .before .before .before .before .before .before .before .before .before
+    .before .before in
+    f .fill-checked .kept .1 .1 .1 .1 .1 .1 .1 .1 .1 .1 .1 .1 .1 .1 .1 .1 .1 .1 .1 .1 .1 .1 .0
+
+same-length-10 : tie.Need-same-length-10
+same-length-10 c =
+    let f =
+    c .before .before .before .before .before .before .before .before .before .before .before .before .before .before
+    .before .before .before .before .before .before .before .before .before .before .before .before .before .before
+    .before .before in
+    f .fill-checked .kept .1 .1 .1 .1 .1 .1 .1 .1 .1 .1 .1 .1 .1 .1 .1 .1 .1 .1 .1 .1 .1 .1 .1 .0
+
+same-length-11 : tie.Need-same-length-11
+same-length-11 c =
+    let f =
+    c .before .before .before .before .before .before .before .before .before .before .before .before .before .before
+    .before .before .before .before .before .before .before .before .before .before .before .before .before .before
+    .before .before in
+    f .fill-checked .kept .1 .1 .1 .1 .1 .1 .1 .1 .1 .1 .1 .1 .1 .1 .1 .1 .1 .1 .1 .1 .1 .1 .1 .1 .0
+
+same-length-12 : tie.Need-same-length-12
+same-length-12 c =
+    let f =
+    c .before .before .before .before .before .before .before .before .before .before .before .before .before .before
+    .before .before .before .before .before .before .before .before .before .before .before .before .before .before
+    .before .before in
+    f .fill-checked .kept .1 .1 .1 .1 .1 .1 .1 .1 .1 .1 .1 .1 .1 .1 .1 .1 .1 .1 .1 .1 .1 .1 .1 .1 .1 .0
+
+same-length-13 : tie.Need-same-length-13
+same-length-13 c =
+    let f =
+    c .before .before .before .before .before .before .before .before .before .before .before .before .before .before
+    .before .before .before .before .before .before .before .before .before .before .before .before .before .before
+    .before .before in
+    f .fill-checked .kept .1 .1 .1 .1 .1 .1 .1 .1 .1 .1 .1 .1 .1 .1 .1 .1 .1 .1 .1 .1 .1 .1 .1 .1 .1 .1 .0
+
+same-length-14 : tie.Need-same-length-14
+same-length-14 c =
+    let f =
+    c .before .before .before .before .before .before .before .before .before .before .before .before .before .before
+    .before .before .before .before .before .before .before .before .before .before .before .before .before .before
+    .before .before in
+    f .fill-checked .kept .1 .1 .1 .1 .1 .1 .1 .1 .1 .1 .1 .1 .1 .1 .1 .1 .1 .1 .1 .1 .1 .1 .1 .1 .1 .1 .1 .0
+
+same-length-15 : tie.Need-same-length-15
+same-length-15 c =
+    let f =
+    c .before .before .before .before .before .before .before .before .before .before .before .before .before .before
+    .before .before .before .before .before .before .before .before .before .before .before .before .before .before
+    .before .before in
+    f .fill-checked .kept .1 .1 .1 .1 .1 .1 .1 .1 .1 .1 .1 .1 .1 .1 .1 .1 .1 .1 .1 .1 .1 .1 .1 .1 .1 .1 .1 .1 .0
+
+returns-2 : tie.Need-returns-2
+returns-2 c =
+    let f =
+    c .before .before .before .before .before .before .before .before .before .before .before .before .before .before
+    .before .before .before .before .before .before .before .before .before .before .before .before .before .before
+    .before .before in
+    let n =
+    c .before .before .before .before .before .before .before .before .before .before .before .before .before .before
+    .before .before .before .before .before .before .before .before .before .before .before .before .before .before
+    .before .before .before .before .before .before .before .before .before .before .before .before .before .before
+    .before .before .before .before .before .before .before .count in
+    let z =
+    c .before .before .before .before .before .before .before .before .before .before .before .before .before .before
+    .before .before .before .before .before .before .before .before .before .before .before .before .before .before
+    .before .before .before .before .before .before .before .before .before .before .before .before .before .before
+    .before .before .before .before .before .before .before .before .remat-scales in
+    let t =
+    c .before .before .before .before .before .before .before .before .before .before .before .before .before .before
+    .before .before .before .before .before .before .before .before .before .before .before .before .before .before
+    .before .before .before .before .before .before .before .before .before .before .before .before .before .before
+    .before .before .before .before .before .before .before .before .before in
+    let s = begin (checked-at t) in
+    let l = f .fill-checked .last in
+    accepted-filled (s .args .parameters) (columns s) (lent s) (sound t) (n .result) (n .ensures) (z .result) (z .ensures)
+    (workColumns
+    (l .1 .1 .1 .1 .1 .1 .1 .1 .1 .1 .1 .1 .1 .1 .0) (l .1 .1 .1 .1 .1 .1 .1 .1 .1 .1 .1 .1 .1 .1 .1 .0)
+    (l .1 .1 .1 .1 .1 .1 .1 .1 .1 .1 .1 .1 .1 .1 .1 .1 .0) (l .1 .1 .1 .1 .1 .1 .1 .1 .1 .1 .1 .1 .1 .1 .1 .1 .1 .0) (l .1 .1 .1 .1 .1 .1 .1 .1 .1 .1 .1 .1 .1 .1 .1 .1 .1 .1 .0) (l .1 .1 .1 .1 .1 .1 .1 .1 .1 .1 .1 .1 .1 .1 .1 .1 .1 .1 .1 .0)
+    (l .1 .1 .1 .1 .1 .1 .1 .1 .1 .1 .1 .1 .1 .1 .1 .1 .1 .1 .1 .1 .0) (l .1 .1 .1 .1 .1 .1 .1 .1 .1 .1 .1 .1 .1 .1 .1 .1 .1 .1 .1 .1 .1 .0) (l .1 .1 .1 .1 .1 .1 .1 .1 .1 .1 .1 .1 .1 .1 .1 .1 .1 .1 .1 .1 .1 .1 .0) (l .1 .1 .1 .1 .1 .1 .1 .1 .1 .1 .1 .1 .1 .1 .1 .1 .1 .1 .1 .1 .1 .1 .1 .0) (l .1 .1 .1 .1 .1 .1 .1 .1 .1 .1 .1 .1 .1 .1 .1 .1 .1 .1 .1 .1 .1 .1 .1 .1 .0)
+    (l .1 .1 .1 .1 .1 .1 .1 .1 .1 .1 .1 .1 .1 .1 .1 .1 .1 .1 .1 .1 .1 .1 .1 .1 .1 .0) (l .1 .1 .1 .1 .1 .1 .1 .1 .1 .1 .1 .1 .1 .1 .1 .1 .1 .1 .1 .1 .1 .1 .1 .1 .1 .1 .0) (l .1 .1 .1 .1 .1 .1 .1 .1 .1 .1 .1 .1 .1 .1 .1 .1 .1 .1 .1 .1 .1 .1 .1 .1 .1 .1 .1 .0) (l .1 .1 .1 .1 .1 .1 .1 .1 .1 .1 .1 .1 .1 .1 .1 .1 .1 .1 .1 .1 .1 .1 .1 .1 .1 .1 .1 .1 .0))
+    (f .fill-checked .result) (f .fill-checked .ensures)
+
+pub fill-tables-spec : {M : Type 1} → statement M
+fill-tables-spec =
+    tie.close
+    (tie.spec
+    shortest-of-four-requires
+    shortest-of-five-requires
+    shortest-of-four-requires-2
+    shorter-requires
+    check-job-requires
+    enum-known-checked
+    returns
+    enum-told
+    remat-scales-requires
+    count-requires
+    slice-aggregate-fill-checked
+    slice-aggregate-fill-checked-2
+    slice-aggregate-fill-checked-3
+    fill-checked-requires
+    same-length
+    same-length-2
+    same-length-3
+    same-length-4
+    same-length-5
+    same-length-6
+    same-length-7
+    same-length-8
+    same-length-9
+    same-length-10
+    same-length-11
+    same-length-12
+    same-length-13
+    same-length-14
+    same-length-15
+    returns-2)

@@ -1,0 +1,183 @@
+// A job's work tables, filled by one call: the job is checked, then links and uses, gaps, their live instructions and gap segments.
+use columns::rows::shorter;
+use columns::rows::shortest_of_five;
+use columns::rows::shortest_of_four;
+use filling::lent::Rooms;
+use links::blocks::Checked;
+use links::blocks::count;
+use numbers::costs::RematScales;
+use numbers::weights::cost_of;
+use refusals::job::Parameters;
+use rooms::job::check_job;
+use work::fill::FilledTables;
+use work::fill::fill_checked;
+ghost use mathlib.Core.Path.{_≡_};
+ghost use Rattle.numbers.specs.Cost.{scalesOf};
+ghost use Rattle.filling.specs.SourceTables.{workColumns};
+ghost use Rattle.refusals.specs.Job.{jobOf, jobColumns};
+ghost use Rattle.tables.specs.Filled.{IsFilled};
+
+// The scales of a job, from their bits.
+fn remat_scales(parameters: Parameters) -> RematScales
+    ensures { λ r. ⌜ r ≡ scalesOf (parameters .«cheaper_than_move») (parameters .«cheaper_than_load») (parameters .indirect) ⌝ }
+{
+    RematScales {
+        cheaper_than_move: cost_of(parameters.cheaper_than_move),
+        cheaper_than_load: cost_of(parameters.cheaper_than_load),
+        indirect: cost_of(parameters.indirect),
+    }
+}
+
+// Checks a job by lines 1 to 12 and fills its tables: links, uses, gaps and gap segments in the lent columns, from their first row on. A
+// table has as many rows as its shortest column. What a refused job, or a job without a best use, does not fill, and all later rows, stay.
+pub fn fill_tables(
+    freq: &[u32],
+    first: &[u32],
+    end: &[u32],
+    code: &[u32],
+    s_start: &[u32],
+    s_end: &[u32],
+    s_value: &[u32],
+    s_first_use: &[u32],
+    s_end_use: &[u32],
+    s_flags: &[u32],
+    position: &[u32],
+    u_kind: &[u32],
+    cost: &[u32],
+    spill_weight: &[u32],
+    r_unit: &[u32],
+    r_start: &[u32],
+    r_end: &[u32],
+    r_kind: &[u32],
+    r_index: &[u32],
+    r_fixed: &[u32],
+    f_unit: &[u32],
+    f_point: &[u32],
+    f_value: &[u32],
+    parameters: Parameters,
+    prev_lower_freq: &mut [u32],
+    next_lower_freq: &mut [u32],
+    inst: &mut [u32],
+    weight: &mut [f32],
+    left_weight: &mut [f32],
+    right_weight: &mut [f32],
+    from: &mut [u32],
+    to: &mut [u32],
+    gap_weight: &mut [f32],
+    live: &mut [u32],
+    min_freq: &mut [f32],
+    out_from: &mut [u32],
+    out_to: &mut [u32],
+    out_value: &mut [u32],
+    out_gap: &mut [u32],
+) -> FilledTables
+    ensures { λ r. ⌜
+        (let job = jobOf parameters (jobColumns
+        (now (freq .entry)) (now (first .entry)) (now (end .entry))
+        (now (code .entry))
+        (now («s_start» .entry)) (now («s_end» .entry)) (now («s_value» .entry))
+        (now («s_first_use» .entry)) (now («s_end_use» .entry)) (now («s_flags» .entry))
+        (now (position .entry)) (now («u_kind» .entry)) (now (cost .entry))
+        (now («spill_weight» .entry))
+        (now («r_unit» .entry)) (now («r_start» .entry)) (now («r_end» .entry))
+        (now («r_kind» .entry)) (now («r_index» .entry)) (now («r_fixed» .entry))
+        (now («f_unit» .entry)) (now («f_point» .entry)) (now («f_value» .entry))) in
+        let lent = workColumns
+        (now («prev_lower_freq» .entry)) (now («next_lower_freq» .entry))
+        (now (inst .entry)) (now (weight .entry)) (now («left_weight» .entry)) (now («right_weight» .entry))
+        (now (from .entry)) (now (to .entry)) (now («gap_weight» .entry)) (now (live .entry)) (now («min_freq» .entry))
+        (now («out_from» .entry)) (now («out_to» .entry)) (now («out_value» .entry)) (now («out_gap» .entry)) in
+        let after = workColumns
+        (now («prev_lower_freq» .exit)) (now («next_lower_freq» .exit))
+        (now (inst .exit)) (now (weight .exit)) (now («left_weight» .exit)) (now («right_weight» .exit))
+        (now (from .exit)) (now (to .exit)) (now («gap_weight» .exit)) (now (live .exit)) (now («min_freq» .exit))
+        (now («out_from» .exit)) (now («out_to» .exit)) (now («out_value» .exit)) (now («out_gap» .exit)) in
+        IsFilled job lent after r)
+        ⌝ }
+{
+    let rooms = Rooms {
+        uses: shortest_of_four(
+            inst.len(),
+            weight.len(),
+            left_weight.len(),
+            right_weight.len(),
+        ),
+        gaps: shortest_of_five(
+            from.len(),
+            to.len(),
+            gap_weight.len(),
+            live.len(),
+            min_freq.len(),
+        ),
+        gap_segments: shortest_of_four(
+            out_from.len(),
+            out_to.len(),
+            out_value.len(),
+            out_gap.len(),
+        ),
+        links: shorter(prev_lower_freq.len(), next_lower_freq.len()),
+    };
+    let checked = check_job(
+        freq,
+        first,
+        end,
+        code,
+        s_start,
+        s_end,
+        s_value,
+        s_first_use,
+        s_end_use,
+        s_flags,
+        position,
+        u_kind,
+        cost,
+        spill_weight,
+        r_unit,
+        r_start,
+        r_end,
+        r_kind,
+        r_index,
+        r_fixed,
+        f_unit,
+        f_point,
+        f_value,
+        parameters,
+        rooms,
+    );
+    if let Checked::Refused(r) = checked {
+        return FilledTables::Refused(r);
+    }
+    let scales = remat_scales(parameters);
+    let blocks = count(freq, first, end);
+    fill_checked(
+        &freq[..blocks],
+        &first[..blocks],
+        &end[..blocks],
+        code,
+        s_start,
+        s_end,
+        s_value,
+        s_first_use,
+        s_end_use,
+        s_flags,
+        position,
+        u_kind,
+        cost,
+        scales,
+        prev_lower_freq,
+        next_lower_freq,
+        inst,
+        weight,
+        left_weight,
+        right_weight,
+        from,
+        to,
+        gap_weight,
+        live,
+        min_freq,
+        out_from,
+        out_to,
+        out_value,
+        out_gap,
+    )
+}

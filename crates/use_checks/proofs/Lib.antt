@@ -1,0 +1,2 @@
+-- Why no use is bad where the counts fit
+pub mod AllUses

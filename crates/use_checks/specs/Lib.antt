@@ -1,0 +1,2 @@
+-- Line 7 of all uses at once, for private functions
+pub mod AllUses

@@ -1,0 +1,2 @@
+-- The largest weight of a column
+pub mod Largest

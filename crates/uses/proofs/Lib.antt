@@ -1,0 +1,16 @@
+-- The laws of the use table
+pub mod UseRows
+pub mod Pending
+pub mod UseCases
+pub mod Storing
+pub mod Fills
+pub mod Adding
+pub mod ListWalk
+pub mod UseOrder
+pub mod OneList
+pub mod WholeTable
+pub mod CheckedJob
+pub mod Held
+pub mod UseTable
+pub mod CheckedCases
+pub mod Best

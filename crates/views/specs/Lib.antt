@@ -1,0 +1,3 @@
+-- What growth sees of a job, and what its gap segments meet in the job's own rows
+pub mod View
+pub mod Met

@@ -1,0 +1,67 @@
+-- How an answer is laid out in words
+use mathlib.Core.Path.{_≡_}
+use Prim.Native.Nat.{ℕ}
+use mathlib.Core.List.{List, [], _∷_, _++_}
+use lib.ListN.{length}
+use Rattle.numbers.specs.declared.MaybeInst.{MaybeInst}
+use Rattle.numbers.specs.declared.MaybeInst.the-variants as MaybeInst·is
+use Rattle.links.specs.declared.split.SplitPoint.{SplitPoint}
+use Rattle.links.specs.declared.split.SplitPoint.the-variants as SplitPoint·is
+use Rattle.region.specs.declared.proposal.SplitProposal.{SplitProposal}
+use Rattle.refusals.specs.Job.{Job}
+use Rattle.filling.specs.declared.lent.Rooms.{Rooms}
+use Rattle.proposer.specs.Answer.{answerOf}
+use Rattle.filling.specs.SourceTables.{WorkColumns, roomsOf, FilledBy}
+use Rattle.tables.specs.JobTables.{tablesOf}
+use Rattle.proposer.specs.declared.propose.Answer.{Answer}
+use Rattle.proposer.specs.declared.propose.Answer.the-variants as Answer·is
+use Rattle.proposer.specs.declared.propose.Proposed.{Proposed}
+use Rattle.numbers.specs.Weight.{bitsShown}
+
+-- an end of a proposal; an absent one is 4294967295
+abbrev pub endWord : MaybeInst → ℕ
+endWord (MaybeInst·is.At i) = i .0
+endWord MaybeInst·is.Absent = 4294967295
+
+-- a proposal: 0, and its six fields in document 01's order, weights as bits
+abbrev pub proposalWords : SplitProposal → List ℕ
+proposalWords p =
+    0
+    ∷ endWord (p .left)
+    ∷ endWord (p .right)
+    ∷ bitsShown (p .«use_weight»)
+    ∷ p .«live_insts»
+    ∷ bitsShown (p .«interference_weight»)
+    ∷ bitsShown (p .«split_cost»)
+    ∷ []
+
+-- an answer: a proposal, none by its kind, or 3 with a refusal's number and place; words without a meaning are 0
+abbrev pub answerWords : Answer → List ℕ
+answerWords (Answer·is.Found p) = proposalWords p
+answerWords Answer·is.NoBestUse = 1 ∷ 0 ∷ 0 ∷ 0 ∷ 0 ∷ 0 ∷ 0 ∷ []
+answerWords Answer·is.NoRegion = 2 ∷ 0 ∷ 0 ∷ 0 ∷ 0 ∷ 0 ∷ 0 ∷ []
+answerWords (Answer·is.Refused r) = 3 ∷ r .number ∷ r .place ∷ 0 ∷ 0 ∷ 0 ∷ 0 ∷ []
+
+-- an answer, and the rows used of the use table, of the gaps and of the gap segments
+abbrev pub proposedWords : Proposed → List ℕ
+proposedWords r = answerWords (r .answer) ++ (r .uses ∷ r .gaps ∷ r .«gap_segments» ∷ [])
+
+-- what a job is answered, with the rows used
+abbrev pub proposedOf : Job → Rooms → Proposed
+proposedOf job rooms =
+    record {
+      answer = answerOf job rooms;
+      uses = length (tablesOf job rooms .uses);
+      gaps = length (tablesOf job rooms .gaps);
+      «gap_segments» = length (tablesOf job rooms .segments);
+    }
+
+-- what the call leaves: the words of the answer, and each lent column
+pub record IsExported (job : Job) (lent now : WorkColumns) (words : List ℕ) : Type 0 where
+  pub answer : words ≡ proposedWords (proposedOf job (roomsOf lent))
+  pub tables : FilledBy (tablesOf job (roomsOf lent)) lent now
+
+-- a split point: 0 and the instruction, or 1 with a refusal's number and place
+abbrev pub splitPointWords : SplitPoint → List ℕ
+splitPointWords (SplitPoint·is.At i) = 0 ∷ i .0 ∷ 0 ∷ []
+splitPointWords (SplitPoint·is.Refused r) = 1 ∷ r .number ∷ r .place ∷ []

@@ -1,0 +1,93 @@
+// Answers as words.
+use links::split::SplitPoint;
+use numbers::MaybeInst;
+use numbers::weights::bits_shown;
+use proposer::propose::Answer;
+use proposer::propose::Proposed;
+use region::proposal::SplitProposal;
+ghost use mathlib.Core.Path.{_≡_};
+ghost use Rattle.numbers.specs.Weight.{bitsShown};
+ghost use Rattle.words.specs.Words.{endWord, proposalWords, answerWords, proposedWords, splitPointWords};
+
+// What stands for an absent end.
+const ABSENT: u64 = 4294967295;
+
+// An end of a proposal.
+fn end_word(e: MaybeInst) -> u64
+    ensures { λ r. ⌜ r ≡ endWord e ⌝ }
+{
+    let MaybeInst::At(i) = e else {
+        return ABSENT;
+    };
+    i.0 as u64
+}
+
+// A weight's bits.
+fn weight_word(w: f32) -> u64
+    ensures { λ r. ⌜ r ≡ bitsShown w ⌝ }
+{
+    bits_shown(w) as u64
+}
+
+// A proposal's six fields, behind the number of its kind.
+fn proposal_words(p: SplitProposal) -> [u64; 7]
+    ensures { λ r. ⌜ r ≡ proposalWords p ⌝ }
+{
+    let left = p.left;
+    let right = p.right;
+    [
+        0,
+        end_word(left),
+        end_word(right),
+        weight_word(p.use_weight),
+        p.live_insts as u64,
+        weight_word(p.interference_weight),
+        weight_word(p.split_cost),
+    ]
+}
+
+// An answer: its kind, and six words more.
+fn answer_words(a: Answer) -> [u64; 7]
+    ensures { λ r. ⌜ r ≡ answerWords a ⌝ }
+{
+    match a {
+        Answer::Found(p) => proposal_words(p),
+        Answer::NoBestUse => [1, 0, 0, 0, 0, 0, 0],
+        Answer::NoRegion => [2, 0, 0, 0, 0, 0, 0],
+        Answer::Refused(r) => [3, r.number as u64, r.place as u64, 0, 0, 0, 0],
+    }
+}
+
+// Puts what a job is answered: the answer, and the rows used of the use table, of the gaps and of the gap segments.
+pub fn put_proposed(proposed: Proposed, words: &mut [u64; 10])
+    ensures { λ _. ⌜ now (words .exit) ≡ proposedWords proposed ⌝ }
+{
+    let a = proposed.answer;
+    let w = answer_words(a);
+    *words = [
+        w[0],
+        w[1],
+        w[2],
+        w[3],
+        w[4],
+        w[5],
+        w[6],
+        proposed.uses as u64,
+        proposed.gaps as u64,
+        proposed.gap_segments as u64,
+    ];
+}
+
+// Puts a split point or a refusal.
+pub fn put_split_point(point: SplitPoint, words: &mut [u64; 3])
+    ensures { λ _. ⌜ now (words .exit) ≡ splitPointWords point ⌝ }
+{
+    match point {
+        SplitPoint::At(i) => {
+            *words = [0, i.0 as u64, 0];
+        }
+        SplitPoint::Refused(r) => {
+            *words = [1, r.number as u64, r.place as u64];
+        }
+    }
+}

@@ -1,0 +1,2 @@
+-- Why the tables are right
+pub mod Assembly

@@ -1,0 +1,2 @@
+-- What filling the work tables leaves
+pub mod FilledFrom
