@@ -1,13 +1,11 @@
 -- A job's answer in the figures of its text
 use Prim.Native.Nat.{ℕ}
 use lib.Ieee.{Float}
-use Rattle.numbers.specs.Weight.{weightLimit, valueOf, bitsFrom, bitsShown}
+use Rattle.numbers.specs.Weight.{weightLimit, valueOf, bitsShown}
 use Rattle.numbers.specs.Normal.{normalised}
 use Rattle.numbers.specs.Figure.{figure}
 use Rattle.numbers.specs.declared.MaybeInst.{MaybeInst}
 use Rattle.numbers.specs.declared.MaybeInst.the-variants as MaybeInst·is
-use Rattle.numbers.specs.declared.weights.MaybeBits.{MaybeBits}
-use Rattle.numbers.specs.declared.weights.MaybeBits.the-variants as MaybeBits·is
 use Rattle.region.specs.declared.proposal.SplitProposal.{SplitProposal}
 use Rattle.proposer.specs.Answer.{noneKind}
 use Rattle.proposer.specs.declared.propose.Answer.{Answer}

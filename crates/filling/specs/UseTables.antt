@@ -3,7 +3,6 @@ use mathlib.Core.Path.{_≡_}
 use Prim.Native.Nat.{ℕ}
 use mathlib.Core.List.{List, map}
 use Rattle.numbers.specs.Cost.{scalesOf}
-use Rattle.numbers.specs.Weight.{costLimit, valueOf}
 use Rattle.numbers.specs.declared.costs.RematScales.{RematScales}
 use Rattle.columns.specs.Table.{filled}
 use Rattle.links.specs.Links.{linkColumn}

@@ -1,7 +1,7 @@
 -- The gaps in their lent columns
 use mathlib.Core.Path.{_≡_}
-use Prim.Native.Nat.{ℕ, zero, suc, _+_, _≤_}
-use mathlib.Core.List.{List, [], _∷_, map}
+use Prim.Native.Nat.{ℕ, suc, _≤_}
+use mathlib.Core.List.{List, map}
 use lib.Ieee.{Float}
 use lib.ListN.{length, set}
 use Rattle.columns.specs.Table.{filled, storedIn}

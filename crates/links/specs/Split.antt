@@ -5,7 +5,6 @@ use mathlib.Core.List.{List, [], _∷_, map}
 use mathlib.Core.Path.{_≡_}
 use lib.Dec.{leb, ltb, eqb}
 use lib.ListN.{length, getD}
-use Rattle.numbers.specs.declared.Inst.{Inst}
 use Rattle.links.specs.Blocks.{BlockRow, blocksOf, blockAt, startOf, blockOf, checkOf, SoundBlocks}
 use Rattle.links.specs.Links.{lowerLink, Frequencies}
 use Rattle.links.specs.declared.lower.Side.{Side}

@@ -1,6 +1,6 @@
 -- Live instructions
 use mathlib.Core.Path.{_≡_}
-use Prim.Native.Nat.{ℕ, zero, suc, _+_, _-_, _*_, _≤_, _<_, min, max}
+use Prim.Native.Nat.{ℕ, _+_, _-_, _*_, _≤_, _<_, min, max}
 use mathlib.Core.List.{List}
 use lib.ListN.{length, getD}
 use Rattle.columns.specs.Below.{sumBelow}

@@ -2,10 +2,9 @@
 use mathlib.Core.Path.{_≡_}
 use mathlib.Core.Logic.{_⊎_}
 use mathlib.Core.List.{List, map}
-use Prim.Native.Nat.{ℕ, _+_, _≤_, _<_}
+use Prim.Native.Nat.{ℕ, _+_, _≤_}
 use lib.Dec.{T}
 use lib.Ieee.{Float}
-use lib.ListN.{length, getD}
 use Rattle.numbers.specs.Point.{instOf}
 use Rattle.numbers.specs.Weight.{unitsOf, zeroWeight}
 use Rattle.numbers.specs.Normal.{normalised, exceeds}
@@ -21,7 +20,7 @@ use Rattle.region.specs.Demand.{Around, Ended, FailedBefore, Demand3, sumOver, 
 use Rattle.region.specs.declared.proposal.SplitProposal.{SplitProposal}
 use Rattle.refusals.specs.Job.{Job, sourceOfJob}
 use Rattle.use_rows.specs.Uses.{IsBest}
-use Rattle.tables.specs.JobTables.{usesOfJob, segmentsOfJob}
+use Rattle.tables.specs.JobTables.{usesOfJob}
 use Rattle.views.specs.View.{seenOfJob}
 use Rattle.views.specs.Met.{segmentOfJob, reservationOf, Weighs, CountsAsFixed}
 

@@ -1,5 +1,4 @@
 -- What the walkers rely on; and, for contracts of private functions, one try of growth, of gap segments and reservations in columns
-use mathlib.Core.Path.{_≡_}
 use Prim.Native.Nat.{ℕ, _+_, _-_, _≤_, _<_}
 use mathlib.Core.Bool.{not}
 use mathlib.Core.List.{List}

@@ -1,11 +1,11 @@
 -- The gap segments of a gap, and where a walker stands among them
-use Prim.Native.Nat.{ℕ, zero, suc, _+_, _-_, _≤_, _<_}
-use mathlib.Core.Bool.{Bool, _&&_, _||_, cond}
-use mathlib.Core.List.{List, [], _∷_, _++_}
+use Prim.Native.Nat.{ℕ, _-_, _≤_, _<_}
+use mathlib.Core.Bool.{Bool, _&&_, _||_}
+use mathlib.Core.List.{List}
 use lib.Dec.{ltb, eqb}
 use lib.Ieee.{Float}
 use lib.ListN.{length, getD}
-use Rattle.overlaps.specs.GapSegments.{SegmentColumns, segmentColumns}
+use Rattle.overlaps.specs.GapSegments.{SegmentColumns}
 use Rattle.columns.specs.Below.{picked}
 use Rattle.numbers.specs.Weight.{heavier, heaviest}
 use Rattle.jobs.specs.declared.rows.Reservation.{Reservation}

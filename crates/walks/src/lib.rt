@@ -1,7 +1,7 @@
-// Walkers: what gap segments meet among one physical register's reservations, to the right and to the left.
+// Walks: what gap segments meet among one physical register's reservations, to the right and to the left.
 //
-// Here: a register, a gap segment and the tests on one reservation (`meeting`), and the two walkers (`right`, `left`): `take_segment` takes
-// one gap segment and `take_gap` all of one gap. Each hands back its new self. `Walkers::new` (`both`) makes both at one point: a search
+// Here: a register, a gap segment and the tests on one reservation (`meeting`), and the two walkers (`right`, `left`): `take_gap` takes
+// all gap segments of one gap. Each hands back its new self. `Walkers::new` (`both`) makes both at one point: a search
 // by halves finds the place in each unit.
 // Proved: whether something met counts as fixed, and the heaviest weight met, are those of specs/Meeting, which looks at all rows.
 // Both are exact in every case, the heaviest also where something is fixed. The laws are one set for both directions (proofs/Top,
