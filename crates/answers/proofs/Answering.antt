@@ -25,16 +25,17 @@ use Rattle.columns.proofs.Tables.{table-length}
 use Rattle.use_rows.specs.declared.row.BestUse.{BestUse}
 use Rattle.use_rows.specs.declared.row.BestUse.the-variants as BestUse·is
 use Rattle.filling.specs.UseTables.{bestOf}
-use Rattle.region.specs.Proposal.{regionOf}
-use Rattle.region.specs.declared.proposal.Region.{Region}
-use Rattle.region.specs.declared.proposal.Region.the-variants as Region·is
+use Rattle.growth.specs.Proposal.{regionOf}
+use Rattle.growth.specs.declared.proposal.Region.{Region}
+use Rattle.growth.specs.declared.proposal.Region.the-variants as Region·is
 use Rattle.filling.specs.declared.lent.Rooms.{Rooms}
 use Rattle.refusals.specs.Job.{Job, sourceOfJob}
 use Rattle.rooms.specs.Rooms.{refusalOf}
 use Rattle.views.specs.View.{seenOfJob}
-use Rattle.proposer.specs.declared.propose.Answer.{Answer}
-use Rattle.proposer.specs.declared.propose.Proposed.{Proposed}
-use Rattle.proposer.specs.Answer.{ofRegion, ofBest, ofChecked, answerOf, IsProposed}
+use Rattle.outcome.specs.declared.grow.Answer.{Answer}
+use Rattle.outcome.specs.declared.grow.Proposed.{Proposed}
+use Rattle.outcome.specs.Outcome.{ofRegion}
+use Rattle.proposer.specs.Answer.{ofBest, ofChecked, answerOf, IsProposed}
 use Rattle.tables.specs.JobTables.{ifAccepted, noTables, tablesOf}
 use Rattle.filling.specs.SourceTables.{Tables, freqsOf, tablesOfBest, WorkColumns, roomsOf, FilledBy}
 use Rattle.figures.specs.Figures.{shownOf}
@@ -50,7 +51,8 @@ unfolding verdictBelow
 below-never [] above e = let z : _≡_ {A = ℕ} 0 1 = cc in omega arith
 below-never (l ∷ ls) above e = by (fault above l) e (below-never ls (above ++ (l ∷ [])))
   where
-    by : (n : ℕ) → judged n (length above + 1) (verdictBelow (above ++ (l ∷ [])) ls) ≡ Verdict·is.NoRoom → (verdictBelow (above ++ (l ∷ [])) ls ≡ Verdict·is.NoRoom → ⊥) → ⊥
+    by : (n : ℕ) → judged n (length above + 1) (verdictBelow (above ++ (l ∷ [])) ls) ≡ Verdict·is.NoRoom
+        → (verdictBelow (above ++ (l ∷ [])) ls ≡ Verdict·is.NoRoom → ⊥) → ⊥
     by zero q later = later q
     by (suc n) q later = let z : _≡_ {A = ℕ} 0 1 = cc in omega arith
 
@@ -74,7 +76,8 @@ module _ (job : Job) (n : ℕ) (counted : n ≡ length (job .blocks)) where
   links-region (Region·is.Found p) = refl
   links-region Region·is.Nothing = refl
 
-  links-checked : (c : Checked) (b : BestUse) → linksUsed (ofChecked c (ofBest job b)) n ≡ length (ifAccepted c (tablesOfBest (sourceOfJob job) b) noTables .prevs)
+  links-checked : (c : Checked) (b : BestUse) → linksUsed (ofChecked c (ofBest job b)) n
+      ≡ length (ifAccepted c (tablesOfBest (sourceOfJob job) b) noTables .prevs)
   links-checked (Checked·is.Refused r) b = refl
   links-checked Checked·is.Sound (BestUse·is.At best) = links-region (regionOf (seenOfJob job best)) ∙ links-long
   links-checked Checked·is.Sound BestUse·is.Nothing = links-long
@@ -91,7 +94,23 @@ sound-only Verdict·is.NoRoom e = absurd (let y : _≡_ {A = ℕ} 0 1 = cc in om
 -- nothing is filled
 none-filled : (lent : WorkColumns) → FilledBy noTables lent lent
 none-filled lent =
-    record { prev = refl; next = refl; inst = refl; main = refl; left = refl; right = refl; from = refl; to = refl; weight = refl; live = refl; freq = refl; out-from = refl; out-to = refl; out-value = refl; out-gap = refl }
+    record {
+      prev = refl;
+      next = refl;
+      inst = refl;
+      main = refl;
+      left = refl;
+      right = refl;
+      from = refl;
+      to = refl;
+      weight = refl;
+      live = refl;
+      freq = refl;
+      out-from = refl;
+      out-to = refl;
+      out-value = refl;
+      out-gap = refl;
+    }
 
 module _ {text cells cells-now counts : List ℕ} {v : Verdict} (read : Read text cells cells-now v counts) (lent : WorkColumns) where
   -- with room the verdict is the text's own
@@ -117,7 +136,8 @@ module _ {text cells cells-now counts : List ℕ} {v : Verdict} (read : Read tex
     none : noTables ≡ tablesOfText cells text (roomsOf lent)
     none = sym (no-tables (verdictIn cells text) (ap isUnread (sym (read .answer)) ∙ unread))
 
-    unread-written : (x : Verdict) → x ≡ verdictIn cells text → isUnread x ≡ true → Unread x out out-now w → cellCount ≤ length cells → Wrote (answerText (ofVerdict (verdict text) (shownOfJob job (roomsOf lent)))) out out-now w
+    unread-written : (x : Verdict) → x ≡ verdictIn cells text → isUnread x ≡ true → Unread x out out-now w → cellCount ≤ length cells
+        → Wrote (answerText (ofVerdict (verdict text) (shownOfJob job (roomsOf lent)))) out out-now w
     unread-written Verdict·is.Sound e f s h = absurd (let y : _≡_ {A = ℕ} 0 1 = cc in omega arith)
     unread-written (Verdict·is.Refused n l) e f s h =
         subst (λ (x : Verdict). Wrote (answerText (ofVerdict x (shownOfJob job (roomsOf lent)))) out out-now w) (e ∙ room-verdict h) s
@@ -125,7 +145,8 @@ module _ {text cells cells-now counts : List ℕ} {v : Verdict} (read : Read tex
 
     unread-short : (x : Verdict) → x ≡ verdictIn cells text → Unread x out out-now w → length cells < cellCount → (w ≡ Written·is.NoRoom) × (out-now ≡ out)
     unread-short Verdict·is.Sound e s h = s
-    unread-short (Verdict·is.Refused n l) e s h = absurd (let q : Verdict·is.Refused n l ≡ Verdict·is.NoRoom = e ∙ short-verdict h in let y : _≡_ {A = ℕ} 0 1 = cc in omega arith)
+    unread-short (Verdict·is.Refused n l) e s h =
+        absurd (let q : Verdict·is.Refused n l ≡ Verdict·is.NoRoom = e ∙ short-verdict h in let y : _≡_ {A = ℕ} 0 1 = cc in omega arith)
     unread-short Verdict·is.NoRoom e s h = s
 
     pub unread-answered : IsAnswered text cells cells-now lent lent out out-now (record { written = w; links = 0; uses = 0; gaps = 0; «gap_segments» = 0 })

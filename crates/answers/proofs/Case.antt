@@ -25,11 +25,12 @@ use Rattle.jobs.specs.Lines.{badBounds, badList, badDef, badUse, badEnd, badSpa
 use Rattle.columns.specs.Below.{countBelow, sumBelow, joined, picked}
 use Rattle.use_rows.specs.Uses.{useTable, rowsFrom, carries, splitUse, addedToRow, partOf, costOf, frequencyAt, firstInst, lastInst, bestUse}
 use Rattle.overlaps.specs.GapSegments.{overlapWith, overlapsOf}
-use Rattle.walks.specs.Meeting.{meets, countsAsFixed, spillWeight, ofRegister, fixedAgainst, weighsAgainst, fixedMet, weightsWhere, weightsMet, fixedMetAny, weightsMetAll}
+use Rattle.walks.specs.Meeting.{meets, countsAsFixed, spillWeight, ofRegister, fixedAgainst, weighsAgainst, fixedMet, weightsWhere, weightsMet, fixedMetAny}
+use Rattle.walks.specs.Meeting.{weightsMetAll}
 use Rattle.numbers.specs.Sum.{plus}
 use Rattle.gaps.specs.Gaps.{cutGaps, cuts, gapsBetween, gapsOf}
-use Rattle.region.specs.Growth.{numbersFrom, weightsIn, weightTest, passes, sideOpen, leftFirst, sideTried, tryOn, try, growth, grown}
-use Rattle.region.specs.Proposal.{splitCost, endOf, proposalWith, regionOf}
+use Rattle.growth.specs.Growth.{numbersFrom, weightsIn, weightTest, passes, sideOpen, leftFirst, sideTried, tryOn, try, growth, grown}
+use Rattle.growth.specs.Proposal.{splitCost, endOf, proposalWith, regionOf}
 use Rattle.refusals.specs.Refusals.{firstBroken, badParameters, someLong, badSizes}
 use Rattle.numbers.specs.Figure.{figure}
 use Rattle.filling.specs.declared.lent.Rooms.{Rooms}
@@ -58,9 +59,25 @@ rooms = record { uses = 258; gaps = 386; «gap_segments» = 514; links = 128 }
 -- a proposal with no interference
 abbrev said : End → ℕ → ℕ → ℕ → ℕ → List ℕ
 said right weight insts cost thousandths =
-    answerText (Proposal (record { left = Absent; right = right; «use_weight» = weight; «live_insts» = insts; «interference_weight» = 0; «split_cost» = cost; thousandths = thousandths }))
+    answerText (Proposal (record {
+      left = Absent;
+      right = right;
+      «use_weight» = weight;
+      «live_insts» = insts;
+      «interference_weight» = 0;
+      «split_cost» = cost;
+      thousandths = thousandths;
+    }))
 
 -- A; and C: weight 1056628736 on 8 to 12
-pub cases-answered : answerOfText (textOf (caseWith [] [])) rooms ∷ answerOfText (textOf (caseWith ((1056628736 ∷ []) ∷ []) ((0 ∷ 8 ∷ 12 ∷ 0 ∷ 0 ∷ 4294967295 ∷ []) ∷ []))) rooms ∷ [] ≡ said Absent 1073741824 4 0 500 ∷ said (At 1) 1065353216 1 1065353216 1000 ∷ []
-unfolding letter fields limit width position kindOf digitOrBlank digits field valueBehind value sameText isField fieldsText lineText line linesText textFrom render linesOf areFields isLine kindOfLine latest ofKind isInOrder fault verdictBelow verdict numbers rowOf sheetOf column endText endsText weightsText figuresText answerText bitsFrom figure unitsOf toBits firstBroken badParameters someLong badSizes isBad badBounds badList badDef badUse badEnd badSpan badKind badFixedUse countBelow bestUse useTable rowsFrom carries splitUse addedToRow partOf costOf frequencyAt firstInst lastInst valueOf ofBits spillCost scaled firstBelow blockOf add sub mul round eq lt table gapsOf gapsBetween cuts cutGaps plus joined follow lowerLink isLower sumBelow overlapWith overlapsOf anyOf meets countsAsFixed spillWeight ofRegister fixedAgainst weighsAgainst fixedMet weightsWhere weightsMet fixedMetAny weightsMetAll picked numbersFrom weightTest passes sideOpen leftFirst sideTried tryOn try growth grown splitCost endOf proposalWith regionOf normalised fraction exceeds div ofInt weightsIn
+pub cases-answered : answerOfText (textOf (caseWith [] [])) rooms ∷ answerOfText
+    (textOf (caseWith ((1056628736 ∷ []) ∷ []) ((0 ∷ 8 ∷ 12 ∷ 0 ∷ 0 ∷ 4294967295 ∷ []) ∷ []))) rooms ∷ []
+    ≡ said Absent 1073741824 4 0 500 ∷ said (At 1) 1065353216 1 1065353216 1000 ∷ []
+unfolding letter fields limit width position kindOf digitOrBlank digits field valueBehind value sameText isField fieldsText lineText line linesText textFrom
+    render linesOf areFields isLine kindOfLine latest ofKind isInOrder fault verdictBelow verdict numbers rowOf sheetOf column endText endsText weightsText
+    figuresText answerText bitsFrom figure unitsOf toBits firstBroken badParameters someLong badSizes isBad badBounds badList badDef badUse badEnd badSpan
+    badKind badFixedUse countBelow bestUse useTable rowsFrom carries splitUse addedToRow partOf costOf frequencyAt firstInst lastInst valueOf ofBits spillCost
+    scaled firstBelow blockOf add sub mul round eq lt table gapsOf gapsBetween cuts cutGaps plus joined follow lowerLink isLower sumBelow overlapWith overlapsOf
+    anyOf meets countsAsFixed spillWeight ofRegister fixedAgainst weighsAgainst fixedMet weightsWhere weightsMet fixedMetAny weightsMetAll picked numbersFrom
+    weightTest passes sideOpen leftFirst sideTried tryOn try growth grown splitCost endOf proposalWith regionOf normalised fraction exceeds div ofInt weightsIn
 cases-answered = refl

@@ -51,6 +51,7 @@ module _ (text : List ℕ) (n : ℕ) (long : longest + 68 ≤ n) where
           ap (λ (v : Verdict). ifRead v (tables (take n text))) (front-decides text n long ∙ e) ∙ sym (ap (λ (v : Verdict). ifRead v (tables text)) e)
       by Verdict·is.NoRoom e = absurd (verdict-never text e)
 
-      short : (b : Bool) → ifRead (pick b Verdict·is.NoRoom (verdict (take n text))) (tables (take n text)) ≡ ifRead (pick b Verdict·is.NoRoom (verdict text)) (tables text)
+      short : (b : Bool) → ifRead (pick b Verdict·is.NoRoom (verdict (take n text))) (tables (take n text))
+          ≡ ifRead (pick b Verdict·is.NoRoom (verdict text)) (tables text)
       short true = refl
       short false = by (verdict text) refl

@@ -30,10 +30,12 @@ job-same f g e =
     })
     (jobColumns (e 1 0 (is-column 1 0 refl refl) i) (e 1 1 (is-column 1 1 refl refl) i) (e 1 2 (is-column 1 2 refl refl) i)
     (e 2 0 (is-column 2 0 refl refl) i)
-    (e 3 0 (is-column 3 0 refl refl) i) (e 3 1 (is-column 3 1 refl refl) i) (e 3 2 (is-column 3 2 refl refl) i) (e 3 3 (is-column 3 3 refl refl) i) (e 3 4 (is-column 3 4 refl refl) i) (e 3 5 (is-column 3 5 refl refl) i)
+    (e 3 0 (is-column 3 0 refl refl) i) (e 3 1 (is-column 3 1 refl refl) i) (e 3 2 (is-column 3 2 refl refl) i) (e 3 3 (is-column 3 3 refl refl) i)
+    (e 3 4 (is-column 3 4 refl refl) i) (e 3 5 (is-column 3 5 refl refl) i)
     (e 4 0 (is-column 4 0 refl refl) i) (e 4 1 (is-column 4 1 refl refl) i) (e 4 2 (is-column 4 2 refl refl) i)
     (e 5 0 (is-column 5 0 refl refl) i)
-    (e 6 0 (is-column 6 0 refl refl) i) (e 6 1 (is-column 6 1 refl refl) i) (e 6 2 (is-column 6 2 refl refl) i) (e 6 3 (is-column 6 3 refl refl) i) (e 6 4 (is-column 6 4 refl refl) i) (e 6 5 (is-column 6 5 refl refl) i)
+    (e 6 0 (is-column 6 0 refl refl) i) (e 6 1 (is-column 6 1 refl refl) i) (e 6 2 (is-column 6 2 refl refl) i) (e 6 3 (is-column 6 3 refl refl) i)
+    (e 6 4 (is-column 6 4 refl refl) i) (e 6 5 (is-column 6 5 refl refl) i)
     (e 7 0 (is-column 7 0 refl refl) i) (e 7 1 (is-column 7 1 refl refl) i) (e 7 2 (is-column 7 2 refl refl) i))
 
 -- as many blocks as the cells have rows of them

@@ -56,7 +56,9 @@ module _ (s : Sheet) (within : Within s) where
 
   few-segments : length (jobOfSheet s .segments) ≤ 128
   unfolding limit
-  few-segments = le-trans (first-most _ (size 3 0) (size 3 1) (size 3 2 ∷ size 3 3 ∷ size 3 4 ∷ size 3 5 ∷ [])) (omega (arith, column-rows 0 (s 3), within 3 (omega arith)))
+  few-segments =
+      le-trans (first-most _ (size 3 0) (size 3 1) (size 3 2 ∷ size 3 3 ∷ size 3 4 ∷ size 3 5 ∷ []))
+      (omega (arith, column-rows 0 (s 3), within 3 (omega arith)))
 
   few-uses : length (jobOfSheet s .uses) ≤ 256
   unfolding limit
@@ -74,7 +76,8 @@ module _ (s : Sheet) (within : Within s) where
   enough-passed r h (suc (suc (suc (suc p)))) l = absurd (omega arith)
 
 -- a sheet's job is refused only by lines 1 to 11
-pub rooms-enough : (text : List ℕ) → verdict text ≡ Verdict·is.Sound → (r : Rooms) → Enough r → refusalOf (jobOfSheet (sheetOf text)) r ≡ tableRefusalOf (jobOfSheet (sheetOf text))
+pub rooms-enough : (text : List ℕ) → verdict text ≡ Verdict·is.Sound → (r : Rooms) → Enough r
+    → refusalOf (jobOfSheet (sheetOf text)) r ≡ tableRefusalOf (jobOfSheet (sheetOf text))
 rooms-enough text e r h =
     let s = sheetOf text in
     last-passed (jobLines (jobOfSheet s)) (line12 (sizesOf (jobOfSheet s)) r) (enough-passed s (sound-sheet text e .within) r h)

@@ -17,9 +17,9 @@ use Rattle.sheet.specs.declared.write.Written.{Written}
 use Rattle.sheet.specs.declared.write.Written.the-variants as Written·is
 use Rattle.filling.specs.declared.lent.Rooms.{Rooms}
 use Rattle.refusals.specs.Job.{Job}
-use Rattle.proposer.specs.declared.propose.Answer.{Answer}
-use Rattle.proposer.specs.declared.propose.Answer.the-variants as Answer·is
-use Rattle.proposer.specs.declared.propose.Proposed.{Proposed}
+use Rattle.outcome.specs.declared.grow.Answer.{Answer}
+use Rattle.outcome.specs.declared.grow.Answer.the-variants as Answer·is
+use Rattle.outcome.specs.declared.grow.Proposed.{Proposed}
 use Rattle.proposer.specs.Answer.{answerOf}
 use Rattle.filling.specs.SourceTables.{Tables, WorkColumns, roomsOf, FilledBy}
 use Rattle.tables.specs.JobTables.{noTables, tablesOf}

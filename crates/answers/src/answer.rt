@@ -2,8 +2,8 @@
 use cells::cells::adjustment;
 use cells::cells::propose_cells;
 use figures::figures::shown_of;
-use proposer::propose::Answer;
-use proposer::propose::Proposed;
+use outcome::grow::Answer;
+use outcome::grow::Proposed;
 use sheet::Verdict;
 use sheet::Written;
 use sheet::read_sheet;

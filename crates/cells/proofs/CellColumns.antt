@@ -14,7 +14,7 @@ use Rattle.sheet.proofs.FillLaws.{place-fits, base-fits}
 use Rattle.refusals.specs.Job.{Job}
 use Rattle.proposer.specs.Answer.{IsProposed}
 use Rattle.filling.specs.SourceTables.{WorkColumns}
-use Rattle.proposer.specs.declared.propose.Proposed.{Proposed}
+use Rattle.outcome.specs.declared.grow.Proposed.{Proposed}
 use Rattle.cells.specs.SheetJob.{cellsColumn, IsColumn, InCells}
 
 -- a column that a kind has, by looking
@@ -30,7 +30,12 @@ column-at {k} {c} i = rw (lt-ltb c (fields k) (i .field))
 module _ {cells counts : List ℕ} (held : InCells cells counts) {k c : ℕ} (i : IsColumn k c) where
   place-inside : place k c + getD counts k 0 ≤ length cells
   unfolding place
-  place-inside = omega (arith, place-fits (base k) (fields k) (limit k) c (getD counts k 0) cellCount (i .field) (held .within k (i .kind)) (base-fits k (i .kind)), held .room)
+  place-inside =
+      omega (
+        arith,
+        place-fits (base k) (fields k) (limit k) c (getD counts k 0) cellCount (i .field) (held .within k (i .kind)) (base-fits k (i .kind)),
+        held .room,
+      )
 
   -- it lies inside
   pub column-inside : columnOf k c + getD counts k 0 ≤ length cells

@@ -1,5 +1,5 @@
 // A job in the cells that a sheet was read into: its parameters and its 23 columns are lent from there.
-use proposer::propose::Proposed;
+use outcome::grow::Proposed;
 use proposer::propose::propose_split;
 use refusals::job::Parameters;
 use sheet::column_of;
@@ -84,29 +84,31 @@ pub fn propose_cells(
         IsProposed (jobOfColumns (cellsColumn (now (cells .entry)) counts)) lent after r) ⌝ }
 {
     propose_split(
-        column(cells, counts, 1, 0),
-        column(cells, counts, 1, 1),
-        column(cells, counts, 1, 2),
-        column(cells, counts, 2, 0),
-        column(cells, counts, 3, 0),
-        column(cells, counts, 3, 1),
-        column(cells, counts, 3, 2),
-        column(cells, counts, 3, 3),
-        column(cells, counts, 3, 4),
-        column(cells, counts, 3, 5),
-        column(cells, counts, 4, 0),
-        column(cells, counts, 4, 1),
-        column(cells, counts, 4, 2),
-        column(cells, counts, 5, 0),
-        column(cells, counts, 6, 0),
-        column(cells, counts, 6, 1),
-        column(cells, counts, 6, 2),
-        column(cells, counts, 6, 3),
-        column(cells, counts, 6, 4),
-        column(cells, counts, 6, 5),
-        column(cells, counts, 7, 0),
-        column(cells, counts, 7, 1),
-        column(cells, counts, 7, 2),
+        [
+            column(cells, counts, 1, 0),
+            column(cells, counts, 1, 1),
+            column(cells, counts, 1, 2),
+            column(cells, counts, 2, 0),
+            column(cells, counts, 3, 0),
+            column(cells, counts, 3, 1),
+            column(cells, counts, 3, 2),
+            column(cells, counts, 3, 3),
+            column(cells, counts, 3, 4),
+            column(cells, counts, 3, 5),
+            column(cells, counts, 4, 0),
+            column(cells, counts, 4, 1),
+            column(cells, counts, 4, 2),
+            column(cells, counts, 5, 0),
+            column(cells, counts, 6, 0),
+            column(cells, counts, 6, 1),
+            column(cells, counts, 6, 2),
+            column(cells, counts, 6, 3),
+            column(cells, counts, 6, 4),
+            column(cells, counts, 6, 5),
+            column(cells, counts, 7, 0),
+            column(cells, counts, 7, 1),
+            column(cells, counts, 7, 2),
+        ],
         parameters_of(cells, counts),
         prev_lower_freq,
         next_lower_freq,

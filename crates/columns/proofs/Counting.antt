@@ -19,7 +19,9 @@ module _ (test : ℕ → Bool) where
   pub count-none : (n : ℕ) → countBelow test n ≡ 0 → (k : ℕ) → k < n → test k ≡ false
   unfolding countBelow
   count-none zero e k h = absurd (not-suc-le-zero h)
-  count-none (suc n) e k h = ⊎-elim (λ m. count-none n (none-first (countBelow test n) (cond (test n) 1 0) e) k m) (λ m. ap test (last k n h m) ∙ none-last (test n) (countBelow test n) e) (split k n)
+  count-none (suc n) e k h =
+      ⊎-elim (λ m. count-none n (none-first (countBelow test n) (cond (test n) 1 0) e) k m)
+      (λ m. ap test (last k n h m) ∙ none-last (test n) (countBelow test n) e) (split k n)
     where
       none-first : (a b : ℕ) → a + b ≡ 0 → a ≡ 0
       none-first a b p = omega arith
@@ -38,7 +40,9 @@ module _ (test : ℕ → Bool) where
     where
       none : (a : ℕ) → a ≤ 0 → a ≡ 0
       none a p = omega arith
-  count-more a (suc b) h = ⊎-elim (λ m. le-trans (count-more a b (inner a b m)) (grown (countBelow test b) (cond (test b) 1 0))) (λ m. le-of-eq (ap (countBelow test) (same a b h m))) (split a (suc b))
+  count-more a (suc b) h =
+      ⊎-elim (λ m. le-trans (count-more a b (inner a b m)) (grown (countBelow test b) (cond (test b) 1 0)))
+      (λ m. le-of-eq (ap (countBelow test) (same a b h m))) (split a (suc b))
     where
       inner : (a b : ℕ) → a < suc b → a ≤ b
       inner a b p = omega arith
@@ -51,7 +55,8 @@ module _ (test : ℕ → Bool) where
 
   pub count-hit : (a u b : ℕ) → a ≤ u → u < b → test u ≡ true → countBelow test a + 1 ≤ countBelow test b
   unfolding countBelow
-  count-hit a u b p q t = le-trans (plus (countBelow test a) (countBelow test u) (count-more a u p)) (le-trans (le-of-eq (sym (here u t))) (count-more (suc u) b q))
+  count-hit a u b p q t =
+      le-trans (plus (countBelow test a) (countBelow test u) (count-more a u p)) (le-trans (le-of-eq (sym (here u t))) (count-more (suc u) b q))
     where
       plus : (x y : ℕ) → x ≤ y → x + 1 ≤ y + 1
       plus x y h = omega arith

@@ -22,7 +22,8 @@ module _ {A : Type 0} where
   filled-long (r ∷ rows) (x ∷ lent) h = ap suc (filled-long rows lent (le-of-suc-le-suc h))
 
   pub filled-again : (rows others lent : List A) → length rows ≡ length others → filled rows (filled others lent) ≡ filled rows lent
-  filled-again rows others lent e = ap (λ (l : List A). rows ++ l) (ap (λ (n : ℕ). drop n (filled others lent)) e ∙ past others lent ∙ ap (λ (n : ℕ). drop n lent) (sym e))
+  filled-again rows others lent e =
+      ap (λ (l : List A). rows ++ l) (ap (λ (n : ℕ). drop n (filled others lent)) e ∙ past others lent ∙ ap (λ (n : ℕ). drop n lent) (sym e))
     where
       gone : (xs more : List A) → drop (length xs) (xs ++ more) ≡ more
       gone [] more = refl
@@ -87,7 +88,8 @@ module _ {A B C : Type 0} (step : A → C → C) (place : C → ℕ) (next : (r 
   stored-column (r ∷ rows) c = stored-column rows (step r c) ∙ ap₂ (λ (l : List B) (n : ℕ). sets l n (map field rows)) (one r c) (next r c)
 
   -- from the first row on they fill it
-  pub stored-filled : (rows : List A) (c : C) → place c ≡ 0 → length rows ≤ length (column c) → column (storedIn step rows c) ≡ filled (map field rows) (column c)
+  pub stored-filled : (rows : List A) (c : C) → place c ≡ 0 → length rows ≤ length (column c)
+      → column (storedIn step rows c) ≡ filled (map field rows) (column c)
   stored-filled rows c z h =
       let e = length-map rows field in
       let a : 0 + length (map field rows) ≡ length (map field rows) = omega arith in

@@ -47,7 +47,9 @@ module _ {A : Type 0} where
   pub table-same : (row other : ℕ → A) (n : ℕ) → ((k : ℕ) → k < n → row k ≡ other k) → table row n ≡ table other n
   unfolding table
   table-same row other zero h = refl
-  table-same row other (suc n) h = ap₂ (λ (x : A) (xs : List A). x ∷ xs) (h 0 (zero-lt-suc n)) (table-same (λ (k : ℕ). row (suc k)) (λ (k : ℕ). other (suc k)) n (λ k l. h (suc k) (suc-le-suc l)))
+  table-same row other (suc n) h =
+      ap₂ (λ (x : A) (xs : List A). x ∷ xs) (h 0 (zero-lt-suc n))
+      (table-same (λ (k : ℕ). row (suc k)) (λ (k : ℕ). other (suc k)) n (λ k l. h (suc k) (suc-le-suc l)))
 
   pub table-map : {B : Type 0} (f : A → B) (row : ℕ → A) (n : ℕ) → map f (table row n) ≡ table (λ (k : ℕ). f (row k)) n
   unfolding table
@@ -72,7 +74,8 @@ module _ {A : Type 0} where
     full : length (filled (table row n) lent) ≡ length lent
     unfolding m
     full =
-        length-append (table row n) (drop m lent) ∙ ap (λ (x : ℕ). m + x) (length-drop m lent) ∙ joined m (length lent) (le-trans (le-of-eq (table-length row n)) room)
+        length-append (table row n) (drop m lent) ∙ ap (λ (x : ℕ). m + x) (length-drop m lent)
+        ∙ joined m (length lent) (le-trans (le-of-eq (table-length row n)) room)
 
     past : (k : ℕ) → n ≤ k → getD (filled (table row n) lent) k d ≡ getD lent k d
     unfolding m
@@ -86,6 +89,7 @@ module _ {A : Type 0} where
     filled-is =
         ext-getD d now (filled (table row n) lent) (long ∙ sym full)
         (λ k _. ⊎-elim
-        (λ l. rows k l ∙ sym (table-at row n k d l) ∙ sym (List·getD-append (table row n) (drop m lent) d k (lt-of-lt-of-le l (le-of-eq (sym (table-length row n))))))
+        (λ l. rows k l ∙ sym (table-at row n k d l) ∙ sym (List·getD-append (table row n) (drop m lent) d k
+        (lt-of-lt-of-le l (le-of-eq (sym (table-length row n))))))
         (λ l. rest k l ∙ sym (past k l))
         (split k n))

@@ -6,10 +6,10 @@ use Rattle.numbers.specs.Normal.{normalised}
 use Rattle.numbers.specs.Figure.{figure}
 use Rattle.numbers.specs.declared.MaybeInst.{MaybeInst}
 use Rattle.numbers.specs.declared.MaybeInst.the-variants as MaybeInst·is
-use Rattle.region.specs.declared.proposal.SplitProposal.{SplitProposal}
-use Rattle.proposer.specs.Answer.{noneKind}
-use Rattle.proposer.specs.declared.propose.Answer.{Answer}
-use Rattle.proposer.specs.declared.propose.Answer.the-variants as Answer·is
+use Rattle.growth.specs.declared.proposal.SplitProposal.{SplitProposal}
+use Rattle.outcome.specs.Outcome.{noneKind}
+use Rattle.outcome.specs.declared.grow.Answer.{Answer}
+use Rattle.outcome.specs.declared.grow.Answer.the-variants as Answer·is
 use Rattle.sheet.specs.declared.write.End.{End}
 use Rattle.sheet.specs.declared.write.End.the-variants as End·is
 use Rattle.sheet.specs.declared.write.Figures.{Figures}

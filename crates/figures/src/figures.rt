@@ -1,12 +1,12 @@
 // What a job is answered, in the figures of its text.
 ghost use mathlib.Core.Path.{_≡_};
 ghost use Rattle.figures.specs.Figures.{endShown, thousandths, figuresOf, shownOf};
+use growth::proposal::SplitProposal;
 use numbers::MaybeInst;
 use numbers::normal::h_figure;
 use numbers::normal::normalize_spill_weight;
 use numbers::weights::bits_shown;
-use proposer::propose::Answer;
-use region::proposal::SplitProposal;
+use outcome::grow::Answer;
 use sheet::End;
 use sheet::Figures;
 

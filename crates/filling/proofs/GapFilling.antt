@@ -14,7 +14,8 @@ use Rattle.gaps.specs.GapColumns.{GapColumns, gapColumns, GapsHeld}
 use Rattle.filling.specs.GapTables.{fromsOf, tosOf, livesOf, gapSegmentsOf, GapTables, lentTables, GapRoom, GapsFilled}
 use Rattle.columns.proofs.Fillings.{filled-cut, filled-long, filled-again, filled-at}
 
-module _ (gaps : List Gap) (starts ends values : List ℕ) (lent : GapTables) (room : GapRoom gaps starts ends values lent) (now : GapColumns) (live : List ℕ) (n : ℕ)
+module _ (gaps : List Gap) (starts ends values : List ℕ) (lent : GapTables) (room : GapRoom gaps starts ends values lent) (now : GapColumns) (live : List ℕ)
+    (n : ℕ)
     (held : GapsHeld gaps (gapColumns (lent .froms) (lent .tos) (lent .weights) (lent .freqs)) now (lent .lives) live n) where
   froms-long : length (fromsOf gaps) ≡ length gaps
   froms-long = length-map gaps (λ (g : Gap). g .from)
@@ -63,24 +64,33 @@ module _ (gaps : List Gap) (starts ends values : List ℕ) (lent : GapTables) (r
   none-counted =
       subst (λ (l : List ℕ). Uncounted (length l) live) (sym froms-cut)
       (record {
-        room = let a = ap length (held .live) in let b = filled-long zeros (lent .lives) (le-trans (le-of-eq zeros-long) (room .live)) in let c = room .live in let d = froms-long in omega (arith, a, b, c, d);
+        room =
+            let a = ap length (held .live) in let b = filled-long zeros (lent .lives) (le-trans (le-of-eq zeros-long) (room .live)) in let c = room .live in
+            let d = froms-long in omega (arith, a, b, c, d);
         none = λ k h.
             let l : k < length gaps = let d = froms-long in omega (arith, h, d) in
             ap (λ (x : List ℕ). getD x k 0) (held .live) ∙ filled-at zeros (lent .lives) k 0 (let d = zeros-long in omega (arith, l, d)) ∙ zero-at gaps k l;
       })
 
-  pub segments-room : SegmentRoom (length (gapSegments (take n (now .froms)) (take n (now .tos)) starts ends values)) (segmentColumns (lent .out-froms) (lent .out-tos) (lent .out-values) (lent .out-gaps) 0)
+  pub segments-room : SegmentRoom (length (gapSegments (take n (now .froms)) (take n (now .tos)) starts ends values))
+      (segmentColumns (lent .out-froms) (lent .out-tos) (lent .out-values) (lent .out-gaps) 0)
   segments-room =
-      subst (λ (l : List ℕ). SegmentRoom (length (gapSegments l (take n (now .tos)) starts ends values)) (segmentColumns (lent .out-froms) (lent .out-tos) (lent .out-values) (lent .out-gaps) 0)) (sym froms-cut)
-      (subst (λ (l : List ℕ). SegmentRoom (length (gapSegments (fromsOf gaps) l starts ends values)) (segmentColumns (lent .out-froms) (lent .out-tos) (lent .out-values) (lent .out-gaps) 0)) (sym tos-cut)
-      (let a = room .out-from in let b = room .out-to in let c = room .out-value in let d = room .out-gap in record { from = omega (arith, a); to = omega (arith, b); value = omega (arith, c); gap = omega (arith, d) }))
+      subst (λ (l : List ℕ). SegmentRoom (length (gapSegments l (take n (now .tos)) starts ends values))
+      (segmentColumns (lent .out-froms) (lent .out-tos) (lent .out-values) (lent .out-gaps) 0)) (sym froms-cut)
+      (subst (λ (l : List ℕ). SegmentRoom (length (gapSegments (fromsOf gaps) l starts ends values))
+      (segmentColumns (lent .out-froms) (lent .out-tos) (lent .out-values) (lent .out-gaps) 0)) (sym tos-cut)
+      (let a = room .out-from in let b = room .out-to in let c = room .out-value in let d = room .out-gap in
+      record { from = omega (arith, a); to = omega (arith, b); value = omega (arith, c); gap = omega (arith, d) }))
 
   lives-long : length (livesOf gaps starts ends) ≡ length zeros
-  lives-long = table-length (λ (g : ℕ). liveInGap starts ends (getD (fromsOf gaps) g 0) (getD (tosOf gaps) g 0)) (length (fromsOf gaps)) ∙ froms-long ∙ sym zeros-long
+  lives-long =
+      table-length (λ (g : ℕ). liveInGap starts ends (getD (fromsOf gaps) g 0) (getD (tosOf gaps) g 0)) (length (fromsOf gaps)) ∙ froms-long ∙ sym zeros-long
 
   -- all is filled
-  pub all-filled : (live' : List ℕ) (froms' tos' values' gaps' : List ℕ) (m : ℕ) → live' ≡ filled (liveColumn starts ends (take n (now .froms)) (take n (now .tos))) live
-      → Filled (gapSegments (take n (now .froms)) (take n (now .tos)) starts ends values) (segmentColumns (lent .out-froms) (lent .out-tos) (lent .out-values) (lent .out-gaps) 0) (segmentColumns froms' tos' values' gaps' m)
+  pub all-filled : (live' : List ℕ) (froms' tos' values' gaps' : List ℕ) (m : ℕ)
+      → live' ≡ filled (liveColumn starts ends (take n (now .froms)) (take n (now .tos))) live
+      → Filled (gapSegments (take n (now .froms)) (take n (now .tos)) starts ends values)
+      (segmentColumns (lent .out-froms) (lent .out-tos) (lent .out-values) (lent .out-gaps) 0) (segmentColumns froms' tos' values' gaps' m)
       → GapsFilled gaps starts ends values lent (lentTables (now .froms) (now .tos) (now .weights) live' (now .freqs) froms' tos' values' gaps') n m
   all-filled live' froms' tos' values' gaps' m l f =
       let s = ap₂ (λ (a b : List ℕ). gapSegments a b starts ends values) froms-cut tos-cut in
@@ -90,7 +100,9 @@ module _ (gaps : List Gap) (starts ends values : List ℕ) (lent : GapTables) (r
         from = held .from;
         to = held .to;
         weight = held .weight;
-        live = l ∙ ap₂ (λ (a b : List ℕ). filled (liveColumn starts ends a b) live) froms-cut tos-cut ∙ ap (filled (livesOf gaps starts ends)) (held .live) ∙ filled-again (livesOf gaps starts ends) zeros (lent .lives) lives-long;
+        live =
+            l ∙ ap₂ (λ (a b : List ℕ). filled (liveColumn starts ends a b) live) froms-cut tos-cut ∙ ap (filled (livesOf gaps starts ends)) (held .live)
+            ∙ filled-again (livesOf gaps starts ends) zeros (lent .lives) lives-long;
         freq = held .freq;
         out-from = f .from ∙ ap (λ (x : List Overlap). filled (map (λ (s : Overlap). s .from) x) (lent .out-froms)) s;
         out-to = f .to ∙ ap (λ (x : List Overlap). filled (map (λ (s : Overlap). s .to) x) (lent .out-tos)) s;

@@ -96,8 +96,10 @@ module _ (source : Source) (checked : CheckedUses source) (sound : SoundBlocks (
     pub source-lives-few : sumBelow (λ (g : ℕ). getD (livesFrom source best) g 0) (length (fromsOf (gapsFrom source best))) ≤ endLimit
     source-lives-few =
         le-trans
-        (sum-at-most (λ (g : ℕ). getD (livesFrom source best) g 0) (λ (g : ℕ). liveInGap (startsOf source) (stopsOf source) (getD froms g 0) (getD tos g 0)) (length froms) (λ g l. le-of-eq (live-at g l)))
-        (le-trans (le-of-eq (job-live-total source checked sound best h (startsOf source) (stopsOf source) starts-long (λ i _. start-at i) (λ i _. end-at i))) live-few)
+        (sum-at-most (λ (g : ℕ). getD (livesFrom source best) g 0) (λ (g : ℕ). liveInGap (startsOf source) (stopsOf source) (getD froms g 0) (getD tos g 0))
+        (length froms) (λ g l. le-of-eq (live-at g l)))
+        (le-trans (le-of-eq (job-live-total source checked sound best h (startsOf source) (stopsOf source) starts-long (λ i _. start-at i) (λ i _. end-at i)))
+        live-few)
 
     -- ---- room for its gap segments
     pub source-segments-few : length (segmentsFrom source best) ≤ length (source .uses) + length (source .blocks) + length (source .segments) + 2
@@ -110,7 +112,8 @@ module _ (source : Source) (checked : CheckedUses source) (sound : SoundBlocks (
 
     -- and for all of them in lent columns
     pub source-gap-room : (lent : WorkColumns) → Roomy (length (source .uses)) (length (source .blocks)) (length (source .segments)) (roomsOf lent)
-        → GapRoom (gapsFrom source best) (startsOf source) (stopsOf source) (valuesOf source) (lentTables (lent .froms) (lent .tos) (lent .weights) (lent .lives) (lent .freqs) (lent .out-froms) (lent .out-tos) (lent .out-values) (lent .out-gaps))
+        → GapRoom (gapsFrom source best) (startsOf source) (stopsOf source) (valuesOf source)
+        (lentTables (lent .froms) (lent .tos) (lent .weights) (lent .lives) (lent .freqs) (lent .out-froms) (lent .out-tos) (lent .out-values) (lent .out-gaps))
     source-gap-room lent roomy =
         let gap-lengths = length (lent .froms) ∷ length (lent .tos) ∷ length (lent .weights) ∷ length (lent .lives) ∷ length (lent .freqs) ∷ [] in
         let segment-lengths = length (lent .out-froms) ∷ length (lent .out-tos) ∷ length (lent .out-values) ∷ length (lent .out-gaps) ∷ [] in

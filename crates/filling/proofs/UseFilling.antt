@@ -19,7 +19,8 @@ pub scales-of : (scales : RematScales) → FromBits scales → Scales scales
 scales-of scales b = subst Scales (sym (b .is)) (record { move = value-cost (b .move); load = value-cost (b .load); indirectly = value-cost (b .indirectly) })
 
 -- the rows used are rows of the column
-pub mains-inside : (job : Source) (lent now : UseColumns) (used : ℕ) → Holds (useTableOf job) lent now used → Inside (length (job .uses) + 1) lent → used ≤ length (now .mains)
+pub mains-inside : (job : Source) (lent now : UseColumns) (used : ℕ) → Holds (useTableOf job) lent now used → Inside (length (job .uses) + 1) lent
+    → used ≤ length (now .mains)
 mains-inside job lent now used held room =
     let f = use-table-few job in
     let m = length-map (useTableOf job) (λ (u : SplitUse). u .weight) in

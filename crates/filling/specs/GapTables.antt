@@ -39,7 +39,17 @@ pub record GapTables : Type 0 where
 -- the nine as one
 abbrev pub lentTables : List ℕ → List ℕ → List Float → List ℕ → List Float → List ℕ → List ℕ → List ℕ → List ℕ → GapTables
 lentTables froms tos weights lives freqs out-froms out-tos out-values out-gaps =
-    record { froms = froms; tos = tos; weights = weights; lives = lives; freqs = freqs; out-froms = out-froms; out-tos = out-tos; out-values = out-values; out-gaps = out-gaps }
+    record {
+      froms = froms;
+      tos = tos;
+      weights = weights;
+      lives = lives;
+      freqs = freqs;
+      out-froms = out-froms;
+      out-tos = out-tos;
+      out-values = out-values;
+      out-gaps = out-gaps;
+    }
 
 -- they have room for gaps and gap segments
 pub record GapRoom (gaps : List Gap) (starts ends values : List ℕ) (lent : GapTables) : Type 0 where

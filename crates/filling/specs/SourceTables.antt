@@ -61,7 +61,8 @@ blocksIn c = blocksOf (c .freqs) (c .firsts) (c .ends)
 
 abbrev pub sourceIn : SourceColumns → RematScales → Source
 sourceIn c scales =
-    sourceOf (usesOf (c .positions) (c .kinds) (c .costs)) (segmentsOf (c .starts) (c .stops) (c .values) (c .firstUses) (c .endUses) (c .flags)) (c .codes) scales (blocksIn c)
+    sourceOf (usesOf (c .positions) (c .kinds) (c .costs))
+    (segmentsOf (c .starts) (c .stops) (c .values) (c .firstUses) (c .endUses) (c .flags)) (c .codes) scales (blocksIn c)
 
 -- the starts, ends and values of the segments
 abbrev pub startsOf : Source → List ℕ
@@ -108,7 +109,14 @@ tablesOfBest source (BestUse·is.At best) =
       segments = segmentsFrom source best;
     }
 tablesOfBest source BestUse·is.Nothing =
-    record { prevs = linkColumn Previous (freqsOf source); nexts = linkColumn Next (freqsOf source); uses = useTableOf source; gaps = []; lives = []; segments = [] }
+    record {
+      prevs = linkColumn Previous (freqsOf source);
+      nexts = linkColumn Next (freqsOf source);
+      uses = useTableOf source;
+      gaps = [];
+      lives = [];
+      segments = [];
+    }
 
 -- the fifteen lent columns
 pub record WorkColumns : Type 0 where
@@ -129,7 +137,8 @@ pub record WorkColumns : Type 0 where
   pub out-gaps : List ℕ
 
 -- the fifteen as one
-abbrev pub workColumns : List ℕ → List ℕ → List ℕ → List Float → List Float → List Float → List ℕ → List ℕ → List Float → List ℕ → List Float → List ℕ → List ℕ → List ℕ → List ℕ → WorkColumns
+abbrev pub workColumns : List ℕ → List ℕ → List ℕ → List Float → List Float → List Float
+    → List ℕ → List ℕ → List Float → List ℕ → List Float → List ℕ → List ℕ → List ℕ → List ℕ → WorkColumns
 workColumns prevs nexts insts mains lefts rights froms tos weights lives freqs out-froms out-tos out-values out-gaps =
     record {
       prevs = prevs;

@@ -24,7 +24,8 @@ abbrev pub bestOf : Source → BestUse
 bestOf job = bestUse (map (λ (u : SplitUse). u .weight) (useTableOf job))
 
 -- the columns hold the links and the use table, and past them what was there; so many rows are used, and this is the best use
-pub record UsesFilled (job : Source) (freqs prevs nexts : List ℕ) (lent : UseColumns) (prevs-now nexts-now : List ℕ) (now : UseColumns) (rows : ℕ) (best : BestUse) : Type 0 where
+pub record UsesFilled (job : Source) (freqs prevs nexts : List ℕ) (lent : UseColumns)
+    (prevs-now nexts-now : List ℕ) (now : UseColumns) (rows : ℕ) (best : BestUse) : Type 0 where
   pub prev : prevs-now ≡ filled (linkColumn Previous freqs) prevs
   pub next : nexts-now ≡ filled (linkColumn Next freqs) nexts
   pub uses : Holds (useTableOf job) lent now rows

@@ -1,4 +1,5 @@
--- The gaps between two uses: they follow one another from use to use; each has the least frequency among the blocks it meets, and that of one of them; there are no more cuts than blocks between
+-- The gaps between two uses: they follow one another from use to use; each has the least frequency among the blocks it meets, and that of
+-- one of them; there are no more cuts than blocks between
 use mathlib.Core.Path.{_≡_, refl, sym, ap, _∙_, subst}
 use mathlib.Core.Logic.{_⊎_, inl, inr, ⊎-elim}
 use mathlib.Core.List.{List, [], _∷_, _++_, map}
@@ -30,7 +31,8 @@ use Rattle.use_rows.specs.declared.row.SplitUse.{SplitUse}
 use Rattle.gaps.specs.Gaps.{Gap, near, far, nearWeight, farWeights, farEnd, spanned, inOrder, cutGaps, frequencyOf, cuts, gapsBetween, ownGap}
 use Rattle.gaps.proofs.Cuts.{and-parts, all-enough}
 use Rattle.gaps.proofs.Spaces.{cut-gaps-length}
-use Rattle.gaps.proofs.Homes.{Home, home-of, home-only, homes-rise, At, at-home, at-edge, at-beyond, home-block, target-block, at-start, start-beyond, edge-beyond, home-reaches, blocks-rise}
+use Rattle.gaps.proofs.Homes.{Home, home-of, home-only, homes-rise, At, at-home, at-edge, at-beyond, home-block, target-block, at-start, start-beyond}
+use Rattle.gaps.proofs.Homes.{edge-beyond, home-reaches, blocks-rise}
 use Rattle.gaps.proofs.Runs.{Run, run-in-order, run-one}
 
 -- ---- the blocks of the cuts, from block b on, up to block `last`: each is the link of the one before, and the last one's link is absent or leads too far
@@ -117,17 +119,21 @@ module _ (blocks : List BlockRow) (sound : SoundBlocks blocks) where
   unfolding isLower
   itself b =
       let w = finite (value-finite frequencyLimit (getD freqs b 0) (lit≤ tt)) in
-      units-order w w ∙ le-ltb (unitsOf (valueOf frequencyLimit (getD freqs b 0))) (unitsOf (valueOf frequencyLimit (getD freqs b 0))) (le-refl (unitsOf (valueOf frequencyLimit (getD freqs b 0))))
+      units-order w w ∙ le-ltb (unitsOf (valueOf frequencyLimit (getD freqs b 0))) (unitsOf (valueOf frequencyLimit (getD freqs b 0)))
+      (le-refl (unitsOf (valueOf frequencyLimit (getD freqs b 0))))
 
   -- a gap that begins in block b and ends before the block that b's link names
-  module _ (side : Side) (e m b : ℕ) (ws : List Float) (h : b < length blocks) (a : At blocks sound side e b) (onward : LiesBeyond side e m) (low : onSide side e m ≤ startOf blocks (length blocks))
-      (stop : (i k : ℕ) → onSide side m e ≤ i → i < onSide side e m → Home blocks sound i k → lowerLink side freqs b < length freqs → LiesBeyond side k (lowerLink side freqs b)) where
+  module _ (side : Side) (e m b : ℕ) (ws : List Float) (h : b < length blocks) (a : At blocks sound side e b) (onward : LiesBeyond side e m)
+      (low : onSide side e m ≤ startOf blocks (length blocks))
+      (stop : (i k : ℕ) → onSide side m e ≤ i → i < onSide side e m → Home blocks sound i k → lowerLink side freqs b < length freqs
+      → LiesBeyond side k (lowerLink side freqs b)) where
     -- its instructions lie in block b or beyond
     where-at : (i k : ℕ) → onSide side m e ≤ i → i < onSide side e m → Home blocks sound i k → (k ≡ b) ⊎ LiesBeyond side b k
     where-at i k p q x = by side (at-home blocks sound side e b h a) p q
       where
         by : (side : Side) → Home blocks sound (onSide side (e - 1) e) b → onSide side m e ≤ i → i < onSide side e m → (k ≡ b) ⊎ LiesBeyond side b k
-        by Previous y p q = let l = homes-rise blocks sound i (e - 1) k b (omega (arith, q)) x y in ⊎-elim (λ g. inr g) (λ g. inl (omega (arith, l, g))) (split k b)
+        by Previous y p q =
+            let l = homes-rise blocks sound i (e - 1) k b (omega (arith, q)) x y in ⊎-elim (λ g. inr g) (λ g. inl (omega (arith, l, g))) (split k b)
         by Next y p q = let l = homes-rise blocks sound e i b k p y x in ⊎-elim (λ g. inr g) (λ g. inl (omega (arith, l, g))) (split b k)
 
     gap-least : Least blocks (spanned side e m ws (frequencyOf blocks b))
@@ -209,13 +215,19 @@ module _ (blocks : List BlockRow) (sound : SoundBlocks blocks) where
         (cut-run (edgeAt c) c zeroWeight cs (from-edge c h (k .2)) (k .3))
 
     -- where the instructions of the farthest gap lie
-    end-stop : (e b : ℕ) → From e b → (i k : ℕ) → onSide side end e ≤ i → i < onSide side e end → Home blocks sound i k → (reaches side last (lowerLink side freqs b) ≡ false) → LiesBeyond side k (lowerLink side freqs b)
+    end-stop : (e b : ℕ) → From e b → (i k : ℕ) → onSide side end e ≤ i → i < onSide side e end → Home blocks sound i k
+        → (reaches side last (lowerLink side freqs b) ≡ false) → LiesBeyond side k (lowerLink side freqs b)
     end-stop e b f i k x y z r = by side (target-block blocks sound p q order inside side) x y r
       where
-        by : (side : Side) → Home blocks sound (onSide side p q) (blockOf blocks (onSide side p q)) → onSide side (farEnd side p q) e ≤ i → i < onSide side e (farEnd side p q)
+        by : (side : Side) → Home blocks sound (onSide side p q) (blockOf blocks (onSide side p q)) → onSide side (farEnd side p q) e ≤ i
+            → i < onSide side e (farEnd side p q)
             → reaches side (blockOf blocks (onSide side p q)) (lowerLink side freqs b) ≡ false → LiesBeyond side k (lowerLink side freqs b)
-        by Previous t x y r = let l = homes-rise blocks sound p i (blockOf blocks p) k x t z in let g = leb-false (blockOf blocks p) (lowerLink Previous freqs b) r in omega (arith, l, g)
-        by Next t x y r = let l = homes-rise blocks sound i q k (blockOf blocks q) (omega (arith, y)) z t in let g = leb-false (lowerLink Next freqs b) (blockOf blocks q) r in omega (arith, l, g)
+        by Previous t x y r =
+            let l = homes-rise blocks sound p i (blockOf blocks p) k x t z in let g = leb-false (blockOf blocks p) (lowerLink Previous freqs b) r in
+            omega (arith, l, g)
+        by Next t x y r =
+            let l = homes-rise blocks sound i q k (blockOf blocks q) (omega (arith, y)) z t in
+            let g = leb-false (lowerLink Next freqs b) (blockOf blocks q) r in omega (arith, l, g)
 
     -- and those of a gap up to a cut
     cut-stop : (e c i k : ℕ) → c < length blocks → onSide side (edgeAt c) e ≤ i → i < onSide side e (edgeAt c) → Home blocks sound i k → LiesBeyond side k c
@@ -223,9 +235,11 @@ module _ (blocks : List BlockRow) (sound : SoundBlocks blocks) where
       where
         by : (side : Side) → onSide side (edge side (blockAt blocks c)) e ≤ i → i < onSide side e (edge side (blockAt blocks c)) → LiesBeyond side k c
         by Previous x y = ⊎-elim (λ g. g) (λ g. let l = ends-rise blocks sound k c g h in let m = z .before in absurd (omega (arith, l, m, x))) (split c k)
-        by Next x y = ⊎-elim (λ g. g) (λ g. let l = firsts-rise blocks sound c k g (z .inside) in let m = z .from in absurd (omega (arith, l, m, y))) (split k c)
+        by Next x y =
+            ⊎-elim (λ g. g) (λ g. let l = firsts-rise blocks sound c k g (z .inside) in let m = z .from in absurd (omega (arith, l, m, y))) (split k c)
 
-    low-end : (side : Side) (e m : ℕ) → onSide side e 0 ≤ startOf blocks (length blocks) → m ≤ startOf blocks (length blocks) → onSide side e m ≤ startOf blocks (length blocks)
+    low-end : (side : Side) (e m : ℕ) → onSide side e 0 ≤ startOf blocks (length blocks) → m ≤ startOf blocks (length blocks)
+        → onSide side e m ≤ startOf blocks (length blocks)
     low-end Previous e m x y = x
     low-end Next e m x y = y
 
@@ -252,8 +266,10 @@ module _ (blocks : List BlockRow) (sound : SoundBlocks blocks) where
         let h = inside-blocks (k .1) in
         let link = link-nearest side freqs b few (inside-freqs (f .block)) in
         let on : LiesBeyond side b c = subst (LiesBeyond side b) (sym (k .0)) (link .found (subst (λ (x : ℕ). x < length freqs) (k .0) (k .1)) .0) in
-        each-in-order (Least blocks) side (spanned side e (edgeAt c) (w ∷ []) (frequencyOf blocks b)) (cutGaps side (λ b. frequencyOf blocks b) edgeAt end ws (edgeAt c) zeroWeight c cs)
-        (gap-least side e (edgeAt c) b (w ∷ []) (f .block) (f .at) (at-beyond blocks sound side e b c (f .block) h (f .at) on) (low-end side e (edgeAt c) (f .low) (edge-low side c h))
+        each-in-order (Least blocks) side (spanned side e (edgeAt c) (w ∷ []) (frequencyOf blocks b))
+        (cutGaps side (λ b. frequencyOf blocks b) edgeAt end ws (edgeAt c) zeroWeight c cs)
+        (gap-least side e (edgeAt c) b (w ∷ []) (f .block) (f .at) (at-beyond blocks sound side e b c (f .block) h (f .at) on)
+        (low-end side e (edgeAt c) (f .low) (edge-low side c h))
         (λ i j x y z _. subst (LiesBeyond side j) (k .0) (cut-stop e c i j h x y z)))
         (cut-least (edgeAt c) c zeroWeight cs (from-edge c h (k .2)) (k .3))
 
@@ -282,10 +298,12 @@ module _ (blocks : List BlockRow) (sound : SoundBlocks blocks) where
     unfolding cuts
     cuts-chained =
         let h = inside-freqs (from-start .block) in
-        follow-chained side freqs few last (length blocks) (blockOf blocks (home side p q)) h (le-trans (all-enough side (length freqs) (blockOf blocks (home side p q)) h) (le-of-eq freqs-long))
+        follow-chained side freqs few last (length blocks) (blockOf blocks (home side p q)) h
+        (le-trans (all-enough side (length freqs) (blockOf blocks (home side p q)) h) (le-of-eq freqs-long))
 
 -- ---- of two uses
-module _ (blocks : List BlockRow) (sound : SoundBlocks blocks) (side : Side) (u v : SplitUse) (order : u .inst .0 < v .inst .0) (inside : v .inst .0 < startOf blocks (length blocks)) where
+module _ (blocks : List BlockRow) (sound : SoundBlocks blocks) (side : Side) (u v : SplitUse) (order : u .inst .0 < v .inst .0)
+    (inside : v .inst .0 < startOf blocks (length blocks)) where
   abbrev p : ℕ
   p = u .inst .0
 
@@ -299,9 +317,11 @@ module _ (blocks : List BlockRow) (sound : SoundBlocks blocks) (side : Side) (u 
   unfolding gapsBetween
   between-run =
       by side (gapsBetween side blocks u v)
-      (cut-run blocks sound side p q order inside weights (preferred side p q) (blockOf blocks (home side p q)) (nearWeight side (near side u v)) (cuts side blocks p q) (from-start blocks sound side p q order inside weights) (cuts-chained blocks sound side p q order inside weights))
+      (cut-run blocks sound side p q order inside weights (preferred side p q) (blockOf blocks (home side p q)) (nearWeight side (near side u v))
+      (cuts side blocks p q) (from-start blocks sound side p q order inside weights) (cuts-chained blocks sound side p q order inside weights))
     where
-      by : (side : Side) (gs : List Gap) → Run (onSide side (farEnd side (u .inst .0) (v .inst .0)) (preferred side (u .inst .0) (v .inst .0))) (onSide side (preferred side (u .inst .0) (v .inst .0)) (farEnd side (u .inst .0) (v .inst .0))) gs
+      by : (side : Side) (gs : List Gap) → Run (onSide side (farEnd side (u .inst .0) (v .inst .0)) (preferred side (u .inst .0) (v .inst .0)))
+          (onSide side (preferred side (u .inst .0) (v .inst .0)) (farEnd side (u .inst .0) (v .inst .0))) gs
           → Run (onSide side (u .inst .0) (u .inst .0 + 1)) (onSide side (v .inst .0) (v .inst .0 + 1)) gs
       by Previous gs r = r
       by Next gs r = r
@@ -309,15 +329,20 @@ module _ (blocks : List BlockRow) (sound : SoundBlocks blocks) (side : Side) (u 
   pub between-least : Each (Least blocks) (gapsBetween side blocks u v)
   unfolding gapsBetween
   between-least =
-      cut-least blocks sound side p q order inside weights (preferred side p q) (blockOf blocks (home side p q)) (nearWeight side (near side u v)) (cuts side blocks p q) (from-start blocks sound side p q order inside weights) (cuts-chained blocks sound side p q order inside weights)
+      cut-least blocks sound side p q order inside weights (preferred side p q) (blockOf blocks (home side p q)) (nearWeight side (near side u v))
+      (cuts side blocks p q) (from-start blocks sound side p q order inside weights) (cuts-chained blocks sound side p q order inside weights)
 
   pub between-few : length (gapsBetween side blocks u v) + blockOf blocks p ≤ 1 + blockOf blocks q
   unfolding gapsBetween
   between-few =
-      let l = cut-gaps-length side (λ b. frequencyOf blocks b) (λ c. edge side (blockAt blocks c)) (farEnd side p q) weights (preferred side p q) (nearWeight side (near side u v)) (blockOf blocks (home side p q)) (cuts side blocks p q) in
-      by side (cut-few blocks sound side p q order inside weights (blockOf blocks (home side p q)) (cuts side blocks p q) (from-start blocks sound side p q order inside weights .block) (home-reaches blocks sound p q order inside side) (cuts-chained blocks sound side p q order inside weights)) l
+      let l = cut-gaps-length side (λ b. frequencyOf blocks b) (λ c. edge side (blockAt blocks c)) (farEnd side p q) weights (preferred side p q)
+      (nearWeight side (near side u v)) (blockOf blocks (home side p q)) (cuts side blocks p q) in
+      by side (cut-few blocks sound side p q order inside weights (blockOf blocks (home side p q)) (cuts side blocks p q)
+      (from-start blocks sound side p q order inside weights .block) (home-reaches blocks sound p q order inside side)
+      (cuts-chained blocks sound side p q order inside weights)) l
     where
-      by : (side : Side) {n m : ℕ} → Between blocks sound side p q order inside weights side (blockOf blocks (onSide side (u .inst .0) (v .inst .0))) (blockOf blocks (home side (u .inst .0) (v .inst .0))) n → m ≡ suc n → m + blockOf blocks (u .inst .0) ≤ 1 + blockOf blocks (v .inst .0)
+      by : (side : Side) {n m : ℕ} → Between blocks sound side p q order inside weights side (blockOf blocks (onSide side (u .inst .0) (v .inst .0)))
+          (blockOf blocks (home side (u .inst .0) (v .inst .0))) n → m ≡ suc n → m + blockOf blocks (u .inst .0) ≤ 1 + blockOf blocks (v .inst .0)
       by Previous c l = let r = blocks-rise blocks sound (v .inst .0 - 1) (v .inst .0) (omega arith) inside in omega (arith, c, l, r)
       by Next c l = let r = blocks-rise blocks sound (u .inst .0) (u .inst .0 + 1) (omega arith) (omega (arith, order, inside)) in omega (arith, c, l, r)
 
@@ -333,4 +358,5 @@ own-least blocks sound u h =
     }
   where
     same : lt (frequencyAt blocks (u .inst .0)) (frequencyAt blocks (u .inst .0)) ≡ false
-    same = not-lower blocks sound (blockOf blocks (u .inst .0)) (blockOf blocks (u .inst .0)) (u .inst .0) (itself blocks sound (blockOf blocks (u .inst .0))) refl
+    same =
+        not-lower blocks sound (blockOf blocks (u .inst .0)) (blockOf blocks (u .inst .0)) (u .inst .0) (itself blocks sound (blockOf blocks (u .inst .0))) refl

@@ -31,7 +31,8 @@ module _ (freqs firsts ends prevs nexts : List ℕ) (uses : UseColumns) (best : 
   left-is =
       let a : best - 0 ≡ best = omega arith in
       let b = c .best-inside in
-      ap (sideGaps Previous freqs ends ends prevs uses 0) a ∙ side-is freqs firsts ends prevs nexts uses best c Previous prevs (c .left-links) 0 best (omega (arith, b))
+      ap (sideGaps Previous freqs ends ends prevs uses 0) a ∙ side-is freqs firsts ends prevs nexts uses best c Previous prevs (c .left-links) 0 best
+      (omega (arith, b))
 
   right-is : right ≡ gapsOn Next (blocksOf freqs firsts ends) (usesIn uses) best (length (usesIn uses) - 1 - best)
   right-is =
@@ -73,7 +74,8 @@ module _ (freqs firsts ends prevs nexts : List ℕ) (uses : UseColumns) (best : 
         right-rows = let e = all-length in let n = l .0 in rows-fewer (n₁ + 1 + length right) (length all) c₂ (omega (arith, e, n)) rows₂
 
         -- all are stored
-        pub all-stored : {n₃ : ℕ} {c₃ : GapColumns} → (n₃ ≡ n₁ + 1 + length right) × (c₃ ≡ storedGaps (n₁ + 1) right c₂) → (n₃ ≡ length all) × (c₃ ≡ storedGaps 0 all lent)
+        pub all-stored : {n₃ : ℕ} {c₃ : GapColumns} → (n₃ ≡ n₁ + 1 + length right) × (c₃ ≡ storedGaps (n₁ + 1) right c₂)
+            → (n₃ ≡ length all) × (c₃ ≡ storedGaps 0 all lent)
         all-stored s =
             let e = all-length in
             let n = l .0 in

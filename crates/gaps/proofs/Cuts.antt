@@ -89,24 +89,29 @@ pub next-at : (side : Side) (links : List ℕ) (last b c : ℕ) → nextCut side
 unfolding nextCut
 next-at side links last b c e = go (ltb (getD links b 0) (length links) && reaches side last (getD links b 0)) refl e
   where
-    go : (t : Bool) → (ltb (getD links b 0) (length links) && reaches side last (getD links b 0)) ≡ t → cond t (At (record { 0 = getD links b 0 })) Absent ≡ At (record { 0 = c }) → NextCut side links last b c
+    go : (t : Bool) → (ltb (getD links b 0) (length links) && reaches side last (getD links b 0)) ≡ t
+        → cond t (At (record { 0 = getD links b 0 })) Absent ≡ At (record { 0 = c }) → NextCut side links last b c
     go true q r =
         let z : getD links b 0 ≡ c = ap (λ (m : MaybeBlock). elim m [ At x ↦ x .0 | Absent ↦ c ]) r in
-        subst (λ (x : ℕ). NextCut side links last b x) z (record { is = refl; inside = ltb-true (getD links b 0) (length links) (and-parts _ _ q .0); test = q })
+        subst (λ (x : ℕ). NextCut side links last b x) z (record
+        { is = refl; inside = ltb-true (getD links b 0) (length links) (and-parts _ _ q .0); test = q })
     go false q r = absurd (not-at r)
 
-pub followed-more : (side : Side) (links : List ℕ) (last b c k : ℕ) → NextCut side links last b c → followed side links last (suc k) b ≡ c ∷ followed side links last k c
+pub followed-more : (side : Side) (links : List ℕ) (last b c k : ℕ) → NextCut side links last b c
+    → followed side links last (suc k) b ≡ c ∷ followed side links last k c
 unfolding followed
 followed-more side links last b c k n =
     let z = n .is in
-    cond-true _ _ (subst (λ (x : ℕ). (ltb x (length links) && reaches side last x) ≡ true) z (n .test)) ∙ ap (λ (x : ℕ). x ∷ followed side links last k x) (sym z)
+    cond-true _ _ (subst (λ (x : ℕ). (ltb x (length links) && reaches side last x) ≡ true) z (n .test))
+    ∙ ap (λ (x : ℕ). x ∷ followed side links last k x) (sym z)
 
 pub followed-end : (side : Side) (links : List ℕ) (last b k : ℕ) → nextCut side links last b ≡ Absent → followed side links last k b ≡ []
 unfolding followed nextCut
 followed-end side links last b zero e = refl
 followed-end side links last b (suc k) e = go (ltb (getD links b 0) (length links) && reaches side last (getD links b 0)) e
   where
-    go : (t : Bool) → cond t (At (record { 0 = getD links b 0 })) Absent ≡ Absent → cond t (getD links b 0 ∷ followed side links last k (getD links b 0)) [] ≡ []
+    go : (t : Bool) → cond t (At (record { 0 = getD links b 0 })) Absent ≡ Absent
+        → cond t (getD links b 0 ∷ followed side links last k (getD links b 0)) [] ≡ []
     go true r = cc
     go false r = refl
 
@@ -114,7 +119,8 @@ pub followed-few : (side : Side) (links : List ℕ) (last k b : ℕ) → length 
 unfolding followed
 followed-few side links last zero b = le-refl 0
 followed-few side links last (suc k) b =
-    cond-both (λ (cs : List ℕ). length cs ≤ suc k) (ltb (getD links b 0) (length links) && reaches side last (getD links b 0)) (getD links b 0 ∷ followed side links last k (getD links b 0)) []
+    cond-both (λ (cs : List ℕ). length cs ≤ suc k) (ltb (getD links b 0) (length links) && reaches side last (getD links b 0))
+    (getD links b 0 ∷ followed side links last k (getD links b 0)) []
     (λ _. let h = followed-few side links last k (getD links b 0) in omega (arith, h)) (λ _. zero-le)
 
 -- one cut more: the steps left suffice for the block reached

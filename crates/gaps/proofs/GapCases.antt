@@ -17,7 +17,14 @@ use Rattle.numbers.specs.Sum.{plus}
 -- a row of the use table from its numbers, weights by their bits
 row : ℕ → ℕ → ℕ → ℕ → SplitUse
 unfolding valueOf ofBits
-row inst main left right = record { inst = record { 0 = inst }; weight = valueOf weightLimit main; «left_weight» = valueOf weightLimit left; «right_weight» = valueOf weightLimit right }
+row inst main left right =
+    record {
+      inst = record { 0 = inst };
+      weight = valueOf weightLimit main;
+      «left_weight» = valueOf weightLimit left;
+      «right_weight» =
+          valueOf weightLimit right;
+    }
 
 -- a gap as numbers: from, to, the bits of its weight and of its frequency
 shown : Gap → List ℕ
@@ -35,15 +42,22 @@ unfolding tableOf shown row
 caseA-gaps = refl
 
 -- two cuts on the left, one on the right, where a right weight stands before the cut
-two-one : tableOf (record { frequency = 2; first = 0; end = 5 } ∷ record { frequency = 8388609; first = 5; end = 6 } ∷ record { frequency = 0; first = 6; end = 7 } ∷ record { frequency = 1065353216; first = 7; end = 12 } ∷ record { frequency = 2; first = 12; end = 17 } ∷ [])
+two-one : tableOf (record { frequency = 2; first = 0; end = 5 } ∷ record { frequency = 8388609; first = 5; end = 6 } ∷ record
+    { frequency = 0; first = 6; end = 7 } ∷ record { frequency = 1065353216; first = 7; end = 12 } ∷ record { frequency = 2; first = 12; end = 17 } ∷ [])
     (row 0 0 0 2 ∷ row 3 131072 0 0 ∷ row 6 0 0 0 ∷ row 10 36654633 0 1065353216 ∷ row 12 131072 0 0 ∷ []) 3
-    ≡ (0 ∷ 3 ∷ 2 ∷ 2 ∷ []) ∷ (3 ∷ 5 ∷ 131072 ∷ 2 ∷ []) ∷ (5 ∷ 6 ∷ 0 ∷ 8388609 ∷ []) ∷ (6 ∷ 7 ∷ 0 ∷ 0 ∷ []) ∷ (7 ∷ 10 ∷ 0 ∷ 1065353216 ∷ []) ∷ (10 ∷ 11 ∷ 36654633 ∷ 1065353216 ∷ []) ∷ (11 ∷ 12 ∷ 1065353216 ∷ 1065353216 ∷ []) ∷ (12 ∷ 13 ∷ 131072 ∷ 2 ∷ []) ∷ []
+    ≡ (0 ∷ 3 ∷ 2 ∷ 2 ∷ []) ∷ (3 ∷ 5 ∷ 131072 ∷ 2 ∷ []) ∷ (5 ∷ 6 ∷ 0 ∷ 8388609 ∷ []) ∷ (6 ∷ 7 ∷ 0 ∷ 0 ∷ []) ∷ (7 ∷ 10 ∷ 0 ∷ 1065353216 ∷ [])
+    ∷ (10 ∷ 11 ∷ 36654633 ∷ 1065353216 ∷ []) ∷ (11 ∷ 12 ∷ 1065353216 ∷ 1065353216 ∷ []) ∷ (12 ∷ 13 ∷ 131072 ∷ 2 ∷ []) ∷ []
 unfolding tableOf shown row
 two-one = refl
 
 -- two cuts on either side; an equal block is no cut
-two-two : tableOf (record { frequency = 2122317824; first = 0; end = 1 } ∷ record { frequency = 2139095038; first = 1; end = 3 } ∷ record { frequency = 2139095039; first = 3; end = 6 } ∷ record { frequency = 2130706432; first = 6; end = 9 } ∷ record { frequency = 2130706432; first = 9; end = 11 } ∷ record { frequency = 2122317824; first = 11; end = 12 } ∷ record { frequency = 1065353216; first = 12; end = 13 } ∷ record { frequency = 2139095038; first = 13; end = 15 } ∷ [])
+two-two : tableOf (record { frequency = 2122317824; first = 0; end = 1 } ∷ record { frequency = 2139095038; first = 1; end = 3 } ∷ record
+    { frequency = 2139095039; first = 3; end = 6 } ∷ record { frequency = 2130706432; first = 6; end = 9 } ∷ record
+    { frequency = 2130706432; first = 9; end = 11 } ∷ record { frequency = 2122317824; first = 11; end = 12 } ∷ record
+    { frequency = 1065353216; first = 12; end = 13 } ∷ record { frequency = 2139095038; first = 13; end = 15 } ∷ [])
     (row 0 0 0 0 ∷ row 4 2139095039 0 0 ∷ row 5 2130706431 0 0 ∷ row 7 0 0 2130706432 ∷ row 14 0 0 0 ∷ []) 1
-    ≡ (0 ∷ 1 ∷ 0 ∷ 2122317824 ∷ []) ∷ (1 ∷ 3 ∷ 0 ∷ 2139095038 ∷ []) ∷ (3 ∷ 4 ∷ 0 ∷ 2139095039 ∷ []) ∷ (4 ∷ 5 ∷ 2139095039 ∷ 2139095039 ∷ []) ∷ (5 ∷ 6 ∷ 2130706431 ∷ 2139095039 ∷ []) ∷ (6 ∷ 8 ∷ 0 ∷ 2130706432 ∷ []) ∷ (8 ∷ 11 ∷ 2130706432 ∷ 2130706432 ∷ []) ∷ (11 ∷ 12 ∷ 0 ∷ 2122317824 ∷ []) ∷ (12 ∷ 15 ∷ 0 ∷ 1065353216 ∷ []) ∷ []
+    ≡ (0 ∷ 1 ∷ 0 ∷ 2122317824 ∷ []) ∷ (1 ∷ 3 ∷ 0 ∷ 2139095038 ∷ []) ∷ (3 ∷ 4 ∷ 0 ∷ 2139095039 ∷ []) ∷ (4 ∷ 5 ∷ 2139095039 ∷ 2139095039 ∷ [])
+    ∷ (5 ∷ 6 ∷ 2130706431 ∷ 2139095039 ∷ []) ∷ (6 ∷ 8 ∷ 0 ∷ 2130706432 ∷ []) ∷ (8 ∷ 11 ∷ 2130706432 ∷ 2130706432 ∷ []) ∷ (11 ∷ 12 ∷ 0 ∷ 2122317824 ∷ [])
+    ∷ (12 ∷ 15 ∷ 0 ∷ 1065353216 ∷ []) ∷ []
 unfolding tableOf shown row
 two-two = refl

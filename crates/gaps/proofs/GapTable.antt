@@ -1,4 +1,5 @@
--- The gaps of a use table: they follow one another from the first instruction to the last, each carries the least frequency it meets, and there are at most as many as uses and blocks together
+-- The gaps of a use table: they follow one another from the first instruction to the last, each carries the least frequency it meets, and
+-- there are at most as many as uses and blocks together
 use mathlib.Core.Path.{_≡_, refl, sym, ap, _∙_, subst}
 use mathlib.Core.List.{List, [], _∷_, _++_}
 use Prim.Native.Nat.{ℕ, zero, suc, _+_, _-_, _≤_, _<_}
@@ -24,10 +25,12 @@ pub each-joined : (P : Gap → Type 0) (lists : ℕ → List Gap) (i n : ℕ) �
 unfolding joined
 each-joined P lists i zero h = tt
 each-joined P lists i (suc n) h =
-    each-append P (lists i) (joined lists (suc i) n) (h i (omega arith) (omega arith)) (each-joined P lists (suc i) n (λ k l m. h k (omega (arith, l)) (omega (arith, m))))
+    each-append P (lists i) (joined lists (suc i) n) (h i (omega arith) (omega arith))
+    (each-joined P lists (suc i) n (λ k l m. h k (omega (arith, l)) (omega (arith, m))))
 
 -- lists of at most one more than a rise
-joined-few : (lists : ℕ → List Gap) (mark : ℕ → ℕ) (i n : ℕ) → ((k : ℕ) → i ≤ k → k < i + n → length (lists k) + mark k ≤ 1 + mark (k + 1)) → length (joined lists i n) + mark i ≤ n + mark (i + n)
+joined-few : (lists : ℕ → List Gap) (mark : ℕ → ℕ) (i n : ℕ) → ((k : ℕ) → i ≤ k → k < i + n → length (lists k) + mark k ≤ 1 + mark (k + 1))
+    → length (joined lists i n) + mark i ≤ n + mark (i + n)
 unfolding joined
 joined-few lists mark i zero h = let z : i ≡ i + zero = omega arith in let m = ap mark z in omega (arith, m)
 joined-few lists mark i (suc n) h =
@@ -64,15 +67,18 @@ module _ (blocks : List BlockRow) (uses : List SplitUse) (r : Rising blocks uses
   unfolding gapsOf
   gaps-run =
       let z : 0 + best ≡ best = omega arith in
-      run-append (inst 0) (inst best) (inst last + 1) (gapsOn Previous blocks uses 0 best) (ownGap blocks (useOf uses best) ∷ gapsOn Next blocks uses best right)
+      run-append (inst 0) (inst best) (inst last + 1) (gapsOn Previous blocks uses 0 best)
+      (ownGap blocks (useOf uses best) ∷ gapsOn Next blocks uses best right)
       (subst (λ (x : ℕ). Run (inst 0) (inst x) (gapsOn Previous blocks uses 0 best)) z
       (run-joined (λ k. gapsBetween Previous blocks (useOf uses k) (useOf uses (k + 1))) inst 0 best
-      (λ k l m. between-run blocks (r .sound) Previous (useOf uses k) (useOf uses (k + 1)) (r .rises k (omega (arith, m, h))) (r .inside (k + 1) (omega (arith, m, h)))))) (
+      (λ k l m. between-run blocks (r .sound) Previous (useOf uses k) (useOf uses (k + 1)) (r .rises k (omega (arith, m, h)))
+      (r .inside (k + 1) (omega (arith, m, h)))))) (
         refl,
         omega arith,
         subst (λ (x : ℕ). Run (inst best + 1) (inst x + 1) (gapsOn Next blocks uses best right)) to-last
             (run-joined (λ k. gapsBetween Next blocks (useOf uses k) (useOf uses (k + 1))) (λ k. inst k + 1) best right
-            (λ k l m. between-run blocks (r .sound) Next (useOf uses k) (useOf uses (k + 1)) (r .rises k (omega (arith, m, h))) (r .inside (k + 1) (omega (arith, m, h))))),
+            (λ k l m. between-run blocks (r .sound) Next (useOf uses k) (useOf uses (k + 1)) (r .rises k (omega (arith, m, h)))
+            (r .inside (k + 1) (omega (arith, m, h))))),
       )
 
   -- each carries the least frequency among the blocks it meets
@@ -81,10 +87,12 @@ module _ (blocks : List BlockRow) (uses : List SplitUse) (r : Rising blocks uses
   gaps-least =
       each-append (Least blocks) (gapsOn Previous blocks uses 0 best) (ownGap blocks (useOf uses best) ∷ gapsOn Next blocks uses best right)
       (each-joined (Least blocks) (λ k. gapsBetween Previous blocks (useOf uses k) (useOf uses (k + 1))) 0 best
-      (λ k l m. between-least blocks (r .sound) Previous (useOf uses k) (useOf uses (k + 1)) (r .rises k (omega (arith, m, h))) (r .inside (k + 1) (omega (arith, m, h))))) (
+      (λ k l m. between-least blocks (r .sound) Previous (useOf uses k) (useOf uses (k + 1)) (r .rises k (omega (arith, m, h)))
+      (r .inside (k + 1) (omega (arith, m, h))))) (
         own-least blocks (r .sound) (useOf uses best) (r .inside best h),
         each-joined (Least blocks) (λ k. gapsBetween Next blocks (useOf uses k) (useOf uses (k + 1))) best right
-            (λ k l m. between-least blocks (r .sound) Next (useOf uses k) (useOf uses (k + 1)) (r .rises k (omega (arith, m, h))) (r .inside (k + 1) (omega (arith, m, h)))),
+            (λ k l m. between-least blocks (r .sound) Next (useOf uses k) (useOf uses (k + 1)) (r .rises k (omega (arith, m, h)))
+            (r .inside (k + 1) (omega (arith, m, h)))),
       )
 
   -- there are fewer than uses and blocks together
@@ -94,9 +102,11 @@ module _ (blocks : List BlockRow) (uses : List SplitUse) (r : Rising blocks uses
       let z : 0 + best ≡ best = omega arith in
       let mark : ℕ → ℕ = λ k. blockOf blocks (inst k) in
       let a = joined-few (λ k. gapsBetween Previous blocks (useOf uses k) (useOf uses (k + 1))) mark 0 best
-      (λ k l m. between-few blocks (r .sound) Previous (useOf uses k) (useOf uses (k + 1)) (r .rises k (omega (arith, m, h))) (r .inside (k + 1) (omega (arith, m, h)))) in
+      (λ k l m. between-few blocks (r .sound) Previous (useOf uses k) (useOf uses (k + 1)) (r .rises k (omega (arith, m, h)))
+      (r .inside (k + 1) (omega (arith, m, h)))) in
       let b = joined-few (λ k. gapsBetween Next blocks (useOf uses k) (useOf uses (k + 1))) mark best right
-      (λ k l m. between-few blocks (r .sound) Next (useOf uses k) (useOf uses (k + 1)) (r .rises k (omega (arith, m, h))) (r .inside (k + 1) (omega (arith, m, h)))) in
+      (λ k l m. between-few blocks (r .sound) Next (useOf uses k) (useOf uses (k + 1)) (r .rises k (omega (arith, m, h)))
+      (r .inside (k + 1) (omega (arith, m, h)))) in
       let c = home-of blocks (r .sound) (inst last) (r .inside last (omega (arith, h))) .inside in
       let l = length-append (gapsOn Previous blocks uses 0 best) (ownGap blocks (useOf uses best) ∷ gapsOn Next blocks uses best right) in
       let x = ap mark z in
@@ -106,7 +116,8 @@ module _ (blocks : List BlockRow) (uses : List SplitUse) (r : Rising blocks uses
 
   pub gaps-some : 0 < length (gapsOf blocks uses best)
   unfolding gapsOf
-  gaps-some = let l = length-append (gapsOn Previous blocks uses 0 best) (ownGap blocks (useOf uses best) ∷ gapsOn Next blocks uses best right) in omega (arith, l)
+  gaps-some =
+      let l = length-append (gapsOn Previous blocks uses 0 best) (ownGap blocks (useOf uses best) ∷ gapsOn Next blocks uses best right) in omega (arith, l)
 
   -- so, in columns, none is empty, each begins where the one before ends, and the last ends inside the blocks
   gaps-limited : useOf uses (length uses - 1) .inst .0 + 1 ≤ endLimit

@@ -17,7 +17,8 @@ use Rattle.links.specs.declared.lower.Side.the-variants.{Previous, Next}
 use Rattle.use_rows.specs.Uses.{frequencyAt}
 use Rattle.use_rows.specs.declared.row.SplitUse.{SplitUse}
 use Rattle.links.specs.Links.{onSide}
-use Rattle.gaps.specs.Gaps.{Gap, gapWeight, near, far, nearWeight, farWeights, farEnd, spanned, cutGaps, frequencyOf, cuts, gapsBetween, ownGap, useOf, gapsOn, gapsOf}
+use Rattle.gaps.specs.Gaps.{Gap, gapWeight, near, far, nearWeight, farWeights, farEnd, spanned, cutGaps, frequencyOf, cuts, gapsBetween, ownGap, useOf}
+use Rattle.gaps.specs.Gaps.{gapsOn, gapsOf}
 use Rattle.numbers.specs.Sum.{plus}
 use Rattle.gaps.proofs.Chains.{Each, each-append, each-in-order}
 use Rattle.gaps.proofs.GapTable.{each-joined}
@@ -41,18 +42,21 @@ plus-weight w (v ∷ vs) p q = plus-weight _ vs (sum-weight p (q .0)) (q .1)
 block-finite : (blocks : List BlockRow) (b : ℕ) → Finite (frequencyOf blocks b)
 block-finite blocks b = value-finite frequencyLimit (blockAt blocks b .frequency) (lit≤ tt)
 
-cut-weighed : (side : Side) (blocks : List BlockRow) (edgeOf : ℕ → ℕ) (end : ℕ) (ws : List Float) (e : ℕ) (w : Float) (b : ℕ) (cs : List ℕ) → Weight w → Weights ws
+cut-weighed : (side : Side) (blocks : List BlockRow) (edgeOf : ℕ → ℕ) (end : ℕ) (ws : List Float) (e : ℕ) (w : Float) (b : ℕ) (cs : List ℕ) → Weight w
+    → Weights ws
     → Each Weighed (cutGaps side (λ b. frequencyOf blocks b) edgeOf end ws e w b cs)
 unfolding cutGaps plus
 cut-weighed side blocks edgeOf end ws e w b [] p q = (record { weight = plus-weight w ws p q; freq = block-finite blocks b }, tt)
 cut-weighed side blocks edgeOf end ws e w b (c ∷ cs) p q =
-    each-in-order Weighed side (spanned side e (edgeOf c) (w ∷ []) (frequencyOf blocks b)) (cutGaps side (λ b. frequencyOf blocks b) edgeOf end ws (edgeOf c) zeroWeight c cs)
+    each-in-order Weighed side (spanned side e (edgeOf c) (w ∷ []) (frequencyOf blocks b))
+    (cutGaps side (λ b. frequencyOf blocks b) edgeOf end ws (edgeOf c) zeroWeight c cs)
     (record { weight = p; freq = block-finite blocks b }) (cut-weighed side blocks edgeOf end ws (edgeOf c) zeroWeight c cs (finite zero-finite) q)
 
 between-weighed : (side : Side) (blocks : List BlockRow) (u v : SplitUse) → Weighty u → Weighty v → Each Weighed (gapsBetween side blocks u v)
 unfolding gapsBetween
 between-weighed side blocks u v a b =
-    cut-weighed side blocks (λ c. edge side (blockAt blocks c)) (farEnd side (u .inst .0) (v .inst .0)) (farWeights side (far side u v)) (preferred side (u .inst .0) (v .inst .0)) (nearWeight side (near side u v))
+    cut-weighed side blocks (λ c. edge side (blockAt blocks c)) (farEnd side (u .inst .0) (v .inst .0)) (farWeights side (far side u v))
+    (preferred side (u .inst .0) (v .inst .0)) (nearWeight side (near side u v))
     (blockOf blocks (home side (u .inst .0) (v .inst .0))) (cuts side blocks (u .inst .0) (v .inst .0)) (near-is side) (far-are side)
   where
     near-is : (side : Side) → Weight (nearWeight side (near side u v))
@@ -67,7 +71,9 @@ pub gaps-weighed : (blocks : List BlockRow) (uses : List SplitUse) → ((k : ℕ
 unfolding gapsOf plus frequencyAt
 gaps-weighed blocks uses w best =
     each-append Weighed (gapsOn Previous blocks uses 0 best) (ownGap blocks (useOf uses best) ∷ gapsOn Next blocks uses best (length uses - 1 - best))
-    (each-joined Weighed (λ k. gapsBetween Previous blocks (useOf uses k) (useOf uses (k + 1))) 0 best (λ k _ _. between-weighed Previous blocks (useOf uses k) (useOf uses (k + 1)) (w k) (w (k + 1)))) (
+    (each-joined Weighed (λ k. gapsBetween Previous blocks (useOf uses k) (useOf uses (k + 1))) 0 best
+    (λ k _ _. between-weighed Previous blocks (useOf uses k) (useOf uses (k + 1)) (w k) (w (k + 1)))) (
       record { weight = w best .main; freq = block-finite blocks (blockOf blocks (useOf uses best .inst .0)) },
-      each-joined Weighed (λ k. gapsBetween Next blocks (useOf uses k) (useOf uses (k + 1))) best (length uses - 1 - best) (λ k _ _. between-weighed Next blocks (useOf uses k) (useOf uses (k + 1)) (w k) (w (k + 1))),
+      each-joined Weighed (λ k. gapsBetween Next blocks (useOf uses k) (useOf uses (k + 1))) best (length uses - 1 - best)
+          (λ k _ _. between-weighed Next blocks (useOf uses k) (useOf uses (k + 1)) (w k) (w (k + 1))),
     )

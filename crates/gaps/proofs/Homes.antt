@@ -36,11 +36,18 @@ module _ (blocks : List BlockRow) (sound : SoundBlocks blocks) where
   home-of inst h =
       let s = sound .some in
       let last : inst < blockAt blocks (length blocks - 1) .end = subst (λ (x : ℕ). inst < x) (last-end blocks (sound .some)) h in
-      let m = first-at-most (λ (i : ℕ). ltb inst (blockAt blocks i .end)) (length blocks) (length blocks - 1) (lt-ltb inst (blockAt blocks (length blocks - 1) .end) last) in
+      let m = first-at-most (λ (i : ℕ). ltb inst (blockAt blocks i .end)) (length blocks) (length blocks - 1)
+      (lt-ltb inst (blockAt blocks (length blocks - 1) .end) last) in
       let e = block-of-holds blocks sound inst in
       let b : blockOf blocks inst < length blocks = omega (arith, m, e, s) in
-      let q = and-parts (leb (blockAt blocks (blockOf blocks inst) .first) inst) (ltb inst (blockAt blocks (blockOf blocks inst) .end)) (first-in (holds blocks inst) (length blocks) .found b) in
-      record { inside = b; from = leb-true (blockAt blocks (blockOf blocks inst) .first) inst (q .0); before = ltb-true inst (blockAt blocks (blockOf blocks inst) .end) (q .1) }
+      let q = and-parts (leb (blockAt blocks (blockOf blocks inst) .first) inst) (ltb inst (blockAt blocks (blockOf blocks inst) .end))
+      (first-in (holds blocks inst) (length blocks) .found b) in
+      record {
+        inside = b;
+        from = leb-true (blockAt blocks (blockOf blocks inst) .first) inst (q .0);
+        before =
+            ltb-true inst (blockAt blocks (blockOf blocks inst) .end) (q .1);
+      }
 
   -- a block ends by the start of a later one
   pub ends-by : (i k : ℕ) → i < k → k < length blocks → blockAt blocks i .end ≤ blockAt blocks k .first
@@ -53,8 +60,10 @@ module _ (blocks : List BlockRow) (sound : SoundBlocks blocks) where
   unfolding blockOf
   home-only inst b h =
       first-found (holds blocks inst) (length blocks) b (h .inside)
-      (λ k l. let e = ends-by k b l (h .inside) in let f = h .from in and-right (leb (blockAt blocks k .first) inst) (ltb inst (blockAt blocks k .end)) (le-ltb inst (blockAt blocks k .end) (omega (arith, e, f))))
-      (and-both (leb (blockAt blocks b .first) inst) (ltb inst (blockAt blocks b .end)) (le-leb (blockAt blocks b .first) inst (h .from)) (lt-ltb inst (blockAt blocks b .end) (h .before)))
+      (λ k l. let e = ends-by k b l (h .inside) in let f = h .from in and-right (leb (blockAt blocks k .first) inst) (ltb inst (blockAt blocks k .end))
+      (le-ltb inst (blockAt blocks k .end) (omega (arith, e, f))))
+      (and-both (leb (blockAt blocks b .first) inst) (ltb inst (blockAt blocks b .end)) (le-leb (blockAt blocks b .first) inst (h .from))
+      (lt-ltb inst (blockAt blocks b .end) (h .before)))
 
   -- a later instruction has no earlier block
   pub homes-rise : (p q a b : ℕ) → p ≤ q → Home p a → Home q b → a ≤ b
@@ -79,7 +88,8 @@ module _ (blocks : List BlockRow) (sound : SoundBlocks blocks) where
   at-edge Next c h = (le-refl (blockAt blocks c .first), row-good blocks sound c h .nonempty)
 
   -- the edges of blocks beyond lie beyond
-  pub at-beyond : (side : Side) (e b c : ℕ) → b < length blocks → c < length blocks → At side e b → LiesBeyond side b c → LiesBeyond side e (edge side (blockAt blocks c))
+  pub at-beyond : (side : Side) (e b c : ℕ) → b < length blocks → c < length blocks → At side e b → LiesBeyond side b c
+      → LiesBeyond side e (edge side (blockAt blocks c))
   at-beyond Previous e b c h l a p = let x = a .0 in let y = ends-by c b p h in omega (arith, x, y)
   at-beyond Next e b c h l a p = let x = a .1 in let y = ends-by b c p l in omega (arith, x, y)
 
@@ -103,7 +113,8 @@ module _ (blocks : List BlockRow) (sound : SoundBlocks blocks) where
     start-beyond Next = omega (arith, order)
 
     -- the edge of a block up to the farther use's lies before the end
-    pub edge-beyond : (side : Side) (c : ℕ) → c < length blocks → reaches side (blockOf blocks (onSide side p q)) c ≡ true → LiesBeyond side (edge side (blockAt blocks c)) (farEnd side p q)
+    pub edge-beyond : (side : Side) (c : ℕ) → c < length blocks → reaches side (blockOf blocks (onSide side p q)) c ≡ true
+        → LiesBeyond side (edge side (blockAt blocks c)) (farEnd side p q)
     edge-beyond Previous c h e =
         let t = target-block Previous in
         let l = leb-true (blockOf blocks p) c e in

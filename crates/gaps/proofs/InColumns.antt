@@ -25,7 +25,8 @@ use Rattle.use_rows.specs.Uses.{noWeights, frequencyAt}
 use Rattle.use_rows.specs.UseColumns.{UseColumns, Inside, useIn}
 use Rattle.columns.specs.Below.{joined}
 use Rattle.use_rows.specs.declared.row.SplitUse.{SplitUse}
-use Rattle.gaps.specs.Gaps.{Gap, near, far, nearWeight, farWeights, farEnd, cutGaps, frequencyOf, cuts, gapsBetween, ownGap, useOf, gapsOn, usesIn, Cuttable}
+use Rattle.gaps.specs.Gaps.{Gap, near, far, nearWeight, farWeights, farEnd, cutGaps, frequencyOf, cuts, gapsBetween, ownGap, useOf, gapsOn, usesIn}
+use Rattle.gaps.specs.Gaps.{Cuttable}
 use Rattle.gaps.proofs.Cuts.{and-parts}
 use Rattle.gaps.proofs.Sides.{space-inside}
 use Rattle.gaps.proofs.GapTable.{Rising}
@@ -91,9 +92,12 @@ module _ (freqs firsts ends : List ℕ) (w : SoundColumns freqs firsts ends) whe
     unfolding cuts
     cuts-are p q h =
         followed-is side freqs links few is (blockIn ends (length freqs) (onSide side p q)) (length links) (blockIn ends (length freqs) (home side p q)) h
-        ∙ ap (λ (n : ℕ). follow side freqs (reaches side (blockIn ends (length freqs) (onSide side p q))) n (blockIn ends (length freqs) (home side p q))) (links-long side freqs links few is ∙ n-is)
-        ∙ ap (λ (f : List ℕ). follow side f (reaches side (blockIn ends (length freqs) (onSide side p q))) (length blocks) (blockIn ends (length freqs) (home side p q))) (sym (frequency-column freqs firsts ends (w .firsts-long) (w .ends-long)))
-        ∙ ap₂ (λ (a b : ℕ). follow side (map (λ (b : BlockRow). b .frequency) blocks) (reaches side a) (length blocks) b) (block-of-sound freqs firsts ends w (onSide side p q)) (block-of-sound freqs firsts ends w (home side p q))
+        ∙ ap (λ (n : ℕ). follow side freqs (reaches side (blockIn ends (length freqs) (onSide side p q))) n (blockIn ends (length freqs) (home side p q)))
+        (links-long side freqs links few is ∙ n-is)
+        ∙ ap (λ (f : List ℕ). follow side f (reaches side (blockIn ends (length freqs) (onSide side p q))) (length blocks)
+        (blockIn ends (length freqs) (home side p q))) (sym (frequency-column freqs firsts ends (w .firsts-long) (w .ends-long)))
+        ∙ ap₂ (λ (a b : ℕ). follow side (map (λ (b : BlockRow). b .frequency) blocks) (reaches side a) (length blocks) b)
+        (block-of-sound freqs firsts ends w (onSide side p q)) (block-of-sound freqs firsts ends w (home side p q))
 
     pub space-is : (u v : SplitUse) → blockIn ends (length freqs) (home side (u .inst .0) (v .inst .0)) < length freqs
         → spaceGaps side freqs (edgesOf side firsts ends) links (spaceOf side ends (length freqs) u v) ≡ gapsBetween side blocks u v
@@ -106,8 +110,10 @@ module _ (freqs firsts ends : List ℕ) (w : SoundColumns freqs firsts ends) whe
         let cs = cutsIn side links (blockIn ends (length freqs) (onSide side p q)) (blockIn ends (length freqs) (home side p q)) in
         let edges : ℕ → ℕ = λ c. getD (edgesOf side firsts ends) c 0 in
         ap (λ (f : ℕ → Float). cutGaps side f edges (farEnd side p q) ws (preferred side p q) near-w (blockIn ends (length freqs) (home side p q)) cs) freq-is
-        ∙ ap (λ (e : ℕ → ℕ). cutGaps side (λ b. frequencyOf blocks b) e (farEnd side p q) ws (preferred side p q) near-w (blockIn ends (length freqs) (home side p q)) cs) (sym (edges-of-sound freqs firsts ends w side))
-        ∙ ap₂ (λ (b : ℕ) (l : List ℕ). cutGaps side (λ b. frequencyOf blocks b) (λ c. edge side (blockAt blocks c)) (farEnd side p q) ws (preferred side p q) near-w b l) (block-of-sound freqs firsts ends w (home side p q)) (cuts-are p q h)
+        ∙ ap (λ (e : ℕ → ℕ). cutGaps side (λ b. frequencyOf blocks b) e (farEnd side p q) ws (preferred side p q) near-w
+        (blockIn ends (length freqs) (home side p q)) cs) (sym (edges-of-sound freqs firsts ends w side))
+        ∙ ap₂ (λ (b : ℕ) (l : List ℕ). cutGaps side (λ b. frequencyOf blocks b) (λ c. edge side (blockAt blocks c)) (farEnd side p q) ws (preferred side p q)
+        near-w b l) (block-of-sound freqs firsts ends w (home side p q)) (cuts-are p q h)
 
 -- ---- many
 joined-same : {A : Type 0} (lists others : ℕ → List A) (i n : ℕ) → ((k : ℕ) → i ≤ k → k < i + n → lists k ≡ others k) → joined lists i n ≡ joined others i n
@@ -147,7 +153,9 @@ module _ (freqs firsts ends prevs nexts : List ℕ) (uses : UseColumns) (best : 
   own-ends = use-ends best (c .best-inside)
 
   row-inside : (k : ℕ) → k < length (uses .insts) → Inside k uses
-  row-inside k h = let a = c .mains-long in let b = c .lefts-long in let d = c .rights-long in record { inst = h; main = omega (arith, h, a); left = omega (arith, h, b); right = omega (arith, h, d) }
+  row-inside k h =
+      let a = c .mains-long in let b = c .lefts-long in let d = c .rights-long in
+      record { inst = h; main = omega (arith, h, a); left = omega (arith, h, b); right = omega (arith, h, d) }
 
   pub own-inside : Inside best uses
   own-inside = row-inside best (c .best-inside)
@@ -161,7 +169,12 @@ module _ (freqs firsts ends prevs nexts : List ℕ) (uses : UseColumns) (best : 
       }
 
   pub side-alike : (side : Side) (links : List ℕ) → links ≡ linkColumn side freqs → Alike freqs (edgesOf side firsts ends) links
-  side-alike side links is = record { edges-long = long side; links-long = links-long side freqs links (le-trans (le-of-eq (n-is freqs firsts ends (c .blocks))) (c .blocks .sound .few)) is }
+  side-alike side links is =
+      record {
+        edges-long = long side;
+        links-long = links-long side freqs links
+            (le-trans (le-of-eq (n-is freqs firsts ends (c .blocks))) (c .blocks .sound .few)) is;
+      }
     where
       long : (side : Side) → length (edgesOf side firsts ends) ≡ length freqs
       long Previous = c .blocks .ends-long
@@ -174,10 +187,12 @@ module _ (freqs firsts ends prevs nexts : List ℕ) (uses : UseColumns) (best : 
   pub side-is : (side : Side) (links : List ℕ) → links ≡ linkColumn side freqs → (i n : ℕ) → i + n < length (uses .insts)
       → sideGaps side freqs ends (edgesOf side firsts ends) links uses i n ≡ gapsOn side (blocksOf freqs firsts ends) (usesIn uses) i n
   side-is side links is i n h =
-      joined-same (λ k. spaceGaps side freqs (edgesOf side firsts ends) links (spaceOf side ends (length freqs) (useIn uses k) (useIn uses (k + 1)))) (λ k. gapsBetween side (blocksOf freqs firsts ends) (useOf (usesIn uses) k) (useOf (usesIn uses) (k + 1))) i n
+      joined-same (λ k. spaceGaps side freqs (edgesOf side firsts ends) links (spaceOf side ends (length freqs) (useIn uses k) (useIn uses (k + 1))))
+      (λ k. gapsBetween side (blocksOf freqs firsts ends) (useOf (usesIn uses) k) (useOf (usesIn uses) (k + 1))) i n
       (λ k l m.
       let o = in-order k (k + 1) (omega (arith, m, h)) .each k (omega arith) (omega arith) in
-      space-is freqs firsts ends (c .blocks) side links is (useIn uses k) (useIn uses (k + 1)) (space-inside side ends (length freqs) (useIn uses k) (useIn uses (k + 1)) o)
+      space-is freqs firsts ends (c .blocks) side links is (useIn uses k) (useIn uses (k + 1))
+      (space-inside side ends (length freqs) (useIn uses k) (useIn uses (k + 1)) o)
       ∙ ap₂ (gapsBetween side (blocksOf freqs firsts ends)) (sym (use-is k (omega (arith, m, h)))) (sym (use-is (k + 1) (omega (arith, m, h)))))
 
   pub own-gap : ownIn freqs ends (useIn uses best) ≡ ownGap (blocksOf freqs firsts ends) (useOf (usesIn uses) best)

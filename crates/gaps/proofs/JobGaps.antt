@@ -30,7 +30,9 @@ use Rattle.gaps.proofs.GapTable.{Rising, gaps-run, gaps-few, gaps-some,
 -- ---- the columns of a use table
 -- its rows in columns
 abbrev pub tableColumns : List SplitUse → UseColumns
-tableColumns rows = useColumns (map (λ (u : SplitUse). u .inst .0) rows) (map (λ (u : SplitUse). u .weight) rows) (map (λ (u : SplitUse). u .«left_weight») rows) (map (λ (u : SplitUse). u .«right_weight») rows)
+tableColumns rows =
+    useColumns (map (λ (u : SplitUse). u .inst .0) rows) (map (λ (u : SplitUse). u .weight) rows) (map (λ (u : SplitUse). u .«left_weight») rows)
+    (map (λ (u : SplitUse). u .«right_weight») rows)
 
 row-of : (rows : List SplitUse) (k : ℕ) → useIn (tableColumns rows) k ≡ useOf rows k
 row-of [] k = refl
@@ -55,12 +57,15 @@ module _ (job : Source) (checked : CheckedUses job) (sound : SoundBlocks (job .b
   job-rising =
       record {
         sound = sound;
-        rises = λ k h. let r = use-table-rises job checked k (k + 1) (omega arith) h in let a = inst-of uses k in let b = inst-of uses (k + 1) in omega (arith, r, a, b);
+        rises =
+            λ k h. let r = use-table-rises job checked k (k + 1) (omega arith) h in let a = inst-of uses k in let b = inst-of uses (k + 1) in
+            omega (arith, r, a, b);
         inside = λ k h. let r = use-table-inside job checked k h in let a = inst-of uses k in omega (arith, r, a);
       }
 
   -- its gaps can be cut from its columns
-  pub job-cuttable : (fs ss es prevs nexts : List ℕ) → SoundColumns fs ss es → job .blocks ≡ blocksOf fs ss es → prevs ≡ linkColumn Previous fs → nexts ≡ linkColumn Next fs
+  pub job-cuttable : (fs ss es prevs nexts : List ℕ) → SoundColumns fs ss es → job .blocks ≡ blocksOf fs ss es → prevs ≡ linkColumn Previous fs
+      → nexts ≡ linkColumn Next fs
       → (best : ℕ) → best < length (useTableOf job) → Cuttable fs ss es prevs nexts (tableColumns (useTableOf job)) best
   job-cuttable fs ss es prevs nexts w e p n best h =
       let long = length-map uses (λ (u : SplitUse). u .inst .0) in
@@ -73,7 +78,8 @@ module _ (job : Source) (checked : CheckedUses job) (sound : SoundBlocks (job .b
         rights-long = length-map uses (λ (u : SplitUse). u .«right_weight») ∙ sym long;
         best-inside = omega (arith, h, long);
         rises = λ k l. use-table-rises job checked k (k + 1) (omega arith) (omega (arith, l, long));
-        inside = λ k l. subst (λ (b : List BlockRow). getD (instsOf uses) k 0 < startOf b (length b)) e (use-table-inside job checked k (omega (arith, l, long)));
+        inside =
+            λ k l. subst (λ (b : List BlockRow). getD (instsOf uses) k 0 < startOf b (length b)) e (use-table-inside job checked k (omega (arith, l, long)));
       }
 
   module _ (best : ℕ) (h : best < length (useTableOf job)) where
@@ -91,16 +97,20 @@ module _ (job : Source) (checked : CheckedUses job) (sound : SoundBlocks (job .b
     -- from the first instruction to the last
     pub job-gaps-first : getD (fromsOf (gapsOf (job .blocks) (useTableOf job) best)) 0 0 ≡ firstInst (job .segments)
     job-gaps-first =
-        run-first (useOf uses 0 .inst .0) (useOf uses (length uses - 1) .inst .0 + 1) gaps (gaps-some (job .blocks) uses job-rising best h) (gaps-run (job .blocks) uses job-rising best h)
+        run-first (useOf uses 0 .inst .0) (useOf uses (length uses - 1) .inst .0 + 1) gaps (gaps-some (job .blocks) uses job-rising best h)
+        (gaps-run (job .blocks) uses job-rising best h)
         ∙ sym (inst-of uses 0) ∙ use-table-first job checked
 
-    pub job-gaps-last : getD (tosOf (gapsOf (job .blocks) (useTableOf job) best)) (length (gapsOf (job .blocks) (useTableOf job) best) - 1) 0 ≡ lastInst (job .uses) (job .segments) + 1
+    pub job-gaps-last : getD (tosOf (gapsOf (job .blocks) (useTableOf job) best)) (length (gapsOf (job .blocks) (useTableOf job) best) - 1) 0
+        ≡ lastInst (job .uses) (job .segments) + 1
     job-gaps-last =
-        run-last (useOf uses 0 .inst .0) (useOf uses (length uses - 1) .inst .0 + 1) gaps (gaps-some (job .blocks) uses job-rising best h) (gaps-run (job .blocks) uses job-rising best h)
+        run-last (useOf uses 0 .inst .0) (useOf uses (length uses - 1) .inst .0 + 1) gaps (gaps-some (job .blocks) uses job-rising best h)
+        (gaps-run (job .blocks) uses job-rising best h)
         ∙ ap (λ (x : ℕ). x + 1) (sym (inst-of uses (length uses - 1)) ∙ use-table-last job checked)
 
     -- and so hold all live instructions
-    module _ (starts ends : List ℕ) (long : length starts ≡ length (job .segments)) (start-at : (i : ℕ) → i < length (job .segments) → getD (job .segments) i noSegment .start ≡ getD starts i 0)
+    module _ (starts ends : List ℕ) (long : length starts ≡ length (job .segments))
+        (start-at : (i : ℕ) → i < length (job .segments) → getD (job .segments) i noSegment .start ≡ getD starts i 0)
         (end-at : (i : ℕ) → i < length (job .segments) → getD (job .segments) i noSegment .end ≡ getD ends i 0) where
       pub job-reach : Reach starts ends (fromsOf (gapsOf (job .blocks) (useTableOf job) best)) (tosOf (gapsOf (job .blocks) (useTableOf job) best))
       job-reach =
@@ -126,5 +136,7 @@ module _ (job : Source) (checked : CheckedUses job) (sound : SoundBlocks (job .b
           higher a b p = omega (arith, p)
 
       -- over all gaps they sum to those of the segments alone
-      pub job-live-total : sumBelow (λ (g : ℕ). liveInGap starts ends (getD (fromsOf (gapsOf (job .blocks) (useTableOf job) best)) g 0) (getD (tosOf (gapsOf (job .blocks) (useTableOf job) best)) g 0)) (length (fromsOf (gapsOf (job .blocks) (useTableOf job) best))) ≡ liveInsts starts ends
+      pub job-live-total : sumBelow (λ (g : ℕ). liveInGap starts ends (getD (fromsOf (gapsOf (job .blocks) (useTableOf job) best)) g 0)
+          (getD (tosOf (gapsOf (job .blocks) (useTableOf job) best)) g 0)) (length (fromsOf (gapsOf (job .blocks) (useTableOf job) best)))
+          ≡ liveInsts starts ends
       job-live-total = live-total starts ends (fromsOf gaps) (tosOf gaps) job-gaps-tile job-reach

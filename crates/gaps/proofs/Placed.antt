@@ -13,7 +13,8 @@ use Rattle.links.specs.declared.lower.Side.the-variants.{Previous, Next}
 use Rattle.columns.specs.Below.{sumBelow, joined}
 use Rattle.use_rows.specs.declared.row.SplitUse.{SplitUse}
 use Rattle.links.specs.Links.{onSide}
-use Rattle.gaps.specs.Gaps.{Gap, near, far, nearWeight, farWeights, farEnd, spanned, inOrder, cutGaps, frequencyOf, cuts, gapsBetween, ownGap, useOf, gapsOn, gapsOf}
+use Rattle.gaps.specs.Gaps.{Gap, near, far, nearWeight, farWeights, farEnd, spanned, inOrder, cutGaps, frequencyOf, cuts, gapsBetween, ownGap, useOf}
+use Rattle.gaps.specs.Gaps.{gapsOn, gapsOf}
 
 module _ (f : Float → ℕ) where
   -- of a list of weights, of the weights placed in gaps
@@ -41,10 +42,12 @@ module _ (f : Float → ℕ) where
   placed-joined : (lists : ℕ → List Gap) (part : ℕ → ℕ) → ((k : ℕ) → placed (lists k) ≡ part k) → (i n : ℕ) → placed (joined lists i n) ≡ sumFrom part i n
   unfolding joined
   placed-joined lists part h i zero = refl
-  placed-joined lists part h i (suc n) = let a = placed-append (lists i) (joined lists (suc i) n) in let b = h i in let c = placed-joined lists part h (suc i) n in omega (arith, a, b, c)
+  placed-joined lists part h i (suc n) =
+      let a = placed-append (lists i) (joined lists (suc i) n) in let b = h i in let c = placed-joined lists part h (suc i) n in omega (arith, a, b, c)
 
   module _ (none : f zeroWeight ≡ 0) where
-    placed-cut : (side : Side) (freqOf : ℕ → Float) (edgeOf : ℕ → ℕ) (end : ℕ) (ws : List Float) (e : ℕ) (w : Float) (b : ℕ) (cs : List ℕ) → placed (cutGaps side freqOf edgeOf end ws e w b cs) ≡ f w + measure ws
+    placed-cut : (side : Side) (freqOf : ℕ → Float) (edgeOf : ℕ → ℕ) (end : ℕ) (ws : List Float) (e : ℕ) (w : Float) (b : ℕ) (cs : List ℕ)
+        → placed (cutGaps side freqOf edgeOf end ws e w b cs) ≡ f w + measure ws
     unfolding cutGaps
     placed-cut side freqOf edgeOf end ws e w b [] = omega arith
     placed-cut side freqOf edgeOf end ws e w b (c ∷ cs) =
@@ -53,14 +56,17 @@ module _ (f : Float → ℕ) where
         omega (arith, o, r, none)
 
     -- between two uses: the earlier one's right weight, the later one's left weight, and the farther one's main weight
-    placed-between : (side : Side) (blocks : List BlockRow) (u v : SplitUse) → placed (gapsBetween side blocks u v) ≡ f (u .«right_weight») + f (v .«left_weight») + f (far side u v .weight)
+    placed-between : (side : Side) (blocks : List BlockRow) (u v : SplitUse)
+        → placed (gapsBetween side blocks u v) ≡ f (u .«right_weight») + f (v .«left_weight») + f (far side u v .weight)
     unfolding gapsBetween
     placed-between side blocks u v =
-        placed-cut side (λ b. frequencyOf blocks b) (λ c. edge side (blockAt blocks c)) (farEnd side (u .inst .0) (v .inst .0)) (farWeights side (far side u v)) (preferred side (u .inst .0) (v .inst .0)) (nearWeight side (near side u v))
+        placed-cut side (λ b. frequencyOf blocks b) (λ c. edge side (blockAt blocks c)) (farEnd side (u .inst .0) (v .inst .0)) (farWeights side (far side u v))
+        (preferred side (u .inst .0) (v .inst .0)) (nearWeight side (near side u v))
         (blockOf blocks (home side (u .inst .0) (v .inst .0))) (cuts side blocks (u .inst .0) (v .inst .0))
         ∙ by side
       where
-        by : (side : Side) → f (nearWeight side (near side u v)) + measure (farWeights side (far side u v)) ≡ f (u .«right_weight») + f (v .«left_weight») + f (far side u v .weight)
+        by : (side : Side) → f (nearWeight side (near side u v)) + measure (farWeights side (far side u v))
+            ≡ f (u .«right_weight») + f (v .«left_weight») + f (far side u v .weight)
         by Previous = omega arith
         by Next = omega arith
 
@@ -109,8 +115,10 @@ module _ (f : Float → ℕ) where
       unfolding gapsOf
       weights-once best h =
           let right : ℕ = length uses - 1 - best in
-          let l = placed-joined (λ k. gapsBetween Previous blocks (useOf uses k) (useOf uses (k + 1))) (λ k. beside k + main k) (λ k. placed-between Previous blocks (useOf uses k) (useOf uses (k + 1))) 0 best ∙ from-both beside main 0 best in
-          let r = placed-joined (λ k. gapsBetween Next blocks (useOf uses k) (useOf uses (k + 1))) (λ k. beside k + main (k + 1)) (λ k. placed-between Next blocks (useOf uses k) (useOf uses (k + 1))) best right
+          let l = placed-joined (λ k. gapsBetween Previous blocks (useOf uses k) (useOf uses (k + 1))) (λ k. beside k + main k)
+          (λ k. placed-between Previous blocks (useOf uses k) (useOf uses (k + 1))) 0 best ∙ from-both beside main 0 best in
+          let r = placed-joined (λ k. gapsBetween Next blocks (useOf uses k) (useOf uses (k + 1))) (λ k. beside k + main (k + 1))
+          (λ k. placed-between Next blocks (useOf uses k) (useOf uses (k + 1))) best right
           ∙ from-both beside (λ k. main (k + 1)) best right ∙ ap (λ (x : ℕ). sumFrom beside best right + x) (from-next main best right) in
           let a = placed-append (gapsOn Previous blocks uses 0 best) (ownGap blocks (useOf uses best) ∷ gapsOn Next blocks uses best right) in
           let n : best + right ≡ length uses - 1 = omega (arith, h) in
@@ -118,7 +126,8 @@ module _ (f : Float → ℕ) where
           let z : 0 + best ≡ best = omega arith in
           let y : 0 + suc best ≡ best + 1 = omega arith in
           let s = sym (ap (sumFrom beside 0) n) ∙ from-split beside 0 best right ∙ ap (λ (x : ℕ). sumFrom beside 0 best + sumFrom beside x right) z in
-          let t = sym (ap (sumFrom main 0) m) ∙ from-split main 0 (suc best) right ∙ ap₂ (λ (x y : ℕ). x + sumFrom main y right) (from-last main 0 best ∙ ap (λ (x : ℕ). sumFrom main 0 best + main x) z) y in
+          let t = sym (ap (sumFrom main 0) m) ∙ from-split main 0 (suc best) right
+          ∙ ap₂ (λ (x y : ℕ). x + sumFrom main y right) (from-last main 0 best ∙ ap (λ (x : ℕ). sumFrom main 0 best + main x) z) y in
           let u = from-below beside (length uses - 1) in
           let v = from-below main (length uses) in
           omega (arith, a, l, r, s, t, u, v)

@@ -29,12 +29,14 @@ pub run-in-order : (side : Side) (e m end : ℕ) (ws : List Float) (f : Float) (
 run-in-order Previous e m end ws f gs h r = run-append end m e gs (spanned Previous e m ws f ∷ []) r (refl, h, refl)
 run-in-order Next e m end ws f gs h r = (refl, h, r)
 
-pub run-one : (side : Side) (e end : ℕ) (ws : List Float) (f : Float) → LiesBeyond side e end → Run (onSide side end e) (onSide side e end) (spanned side e end ws f ∷ [])
+pub run-one : (side : Side) (e end : ℕ) (ws : List Float) (f : Float) → LiesBeyond side e end
+    → Run (onSide side end e) (onSide side e end) (spanned side e end ws f ∷ [])
 run-one Previous e end ws f h = (refl, h, refl)
 run-one Next e end ws f h = (refl, h, refl)
 
 -- runs joined
-pub run-joined : (lists : ℕ → List Gap) (edges : ℕ → ℕ) (i n : ℕ) → ((k : ℕ) → i ≤ k → k < i + n → Run (edges k) (edges (k + 1)) (lists k)) → Run (edges i) (edges (i + n)) (joined lists i n)
+pub run-joined : (lists : ℕ → List Gap) (edges : ℕ → ℕ) (i n : ℕ) → ((k : ℕ) → i ≤ k → k < i + n → Run (edges k) (edges (k + 1)) (lists k))
+    → Run (edges i) (edges (i + n)) (joined lists i n)
 unfolding joined
 run-joined lists edges i zero h = let z : i ≡ i + zero = omega arith in ap edges z
 run-joined lists edges i (suc n) h =
@@ -42,7 +44,8 @@ run-joined lists edges i (suc n) h =
     let b : suc i + n ≡ i + suc n = omega arith in
     run-append (edges i) (edges (suc i)) (edges (i + suc n)) (lists i) (joined lists (suc i) n)
     (subst (λ (x : ℕ). Run (edges i) (edges x) (lists i)) a (h i (omega arith) (omega arith)))
-    (subst (λ (x : ℕ). Run (edges (suc i)) (edges x) (joined lists (suc i) n)) b (run-joined lists edges (suc i) n (λ k l m. h k (omega (arith, l)) (omega (arith, m)))))
+    (subst (λ (x : ℕ). Run (edges (suc i)) (edges x) (joined lists (suc i) n)) b
+    (run-joined lists edges (suc i) n (λ k l m. h k (omega (arith, l)) (omega (arith, m)))))
 
 -- ---- in columns
 pub run-below : (lo hi : ℕ) (gs : List Gap) → Run lo hi gs → lo ≤ hi

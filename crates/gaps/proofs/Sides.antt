@@ -11,7 +11,7 @@ use Rattle.links.specs.declared.lower.Side.{Side}
 use Rattle.links.specs.declared.lower.Side.the-variants.{Previous, Next}
 use Rattle.columns.specs.Below.{joined}
 use Rattle.use_rows.specs.declared.row.SplitUse.{SplitUse}
-use Rattle.uses.proofs.Storing.{ends-inside}
+use Rattle.links.proofs.Columns.{ends-inside}
 use Rattle.columns.proofs.Joining.{joined-next, fromOn, fromOn-end}
 use Rattle.gaps.specs.Gaps.{Gap}
 use Rattle.gaps.specs.Cutting.{spaceOf, Ordered}
@@ -43,7 +43,8 @@ module _ (lists : ℕ → List Gap) (first last n₀ : ℕ) (lent : GapColumns) 
     siding-room h = let e = next-length h in let u = k .used in rows-fewer (n + length (lists i)) (n₀ + length all) cols (omega (arith, e, u)) (k .rows)
 
     -- and is stored
-    pub siding-next : i < last → {cols' : GapColumns} {n' : ℕ} → (n' ≡ n + length (lists i)) × (cols' ≡ storedGaps n (lists i) cols) → Same cols cols' → Siding cols' (i + 1) n'
+    pub siding-next : i < last → {cols' : GapColumns} {n' : ℕ} → (n' ≡ n + length (lists i)) × (cols' ≡ storedGaps n (lists i) cols) → Same cols cols'
+        → Siding cols' (i + 1) n'
     siding-next h {cols'} {n'} e t =
         let l = next-length h in
         let u = k .used in
@@ -55,7 +56,8 @@ module _ (lists : ℕ → List Gap) (first last n₀ : ℕ) (lent : GapColumns) 
           rows = subst (Rows (n₀ + length all)) (sym (e .1)) (rows-stored (n₀ + length all) n (lists i) cols (k .rows));
           same = record { from = t .from ∙ s .from; to = t .to ∙ s .to; weight = t .weight ∙ s .weight; freq = t .freq ∙ s .freq };
           gives = ap (λ (x : ℕ). storedGaps x (fromOn lists last (i + 1)) cols') q ∙ ap (storedGaps (n + length (lists i)) (fromOn lists last (i + 1))) (e .1)
-              ∙ sym (stored-append n (lists i) (fromOn lists last (i + 1)) cols) ∙ ap (λ (gs : List Gap). storedGaps n gs cols) (sym (joined-next lists i last h)) ∙ k .gives;
+              ∙ sym (stored-append n (lists i) (fromOn lists last (i + 1)) cols)
+              ∙ ap (λ (gs : List Gap). storedGaps n gs cols) (sym (joined-next lists i last h)) ∙ k .gives;
         }
 
     -- none is left
@@ -71,10 +73,19 @@ module _ (lists : ℕ → List Gap) (first last n₀ : ℕ) (lent : GapColumns) 
 
 -- ---- the space between two uses in order: its blocks are blocks
 ends-less : (ends : List ℕ) (n p q : ℕ) → q ≤ p → Ends ends n p → Ends ends n q
-ends-less ends n p q h e = let b = e .before in let l = e .limited in record { some = e .some; few = e .few; searchable = e .searchable; before = omega (arith, h, b); limited = omega (arith, h, l) }
+ends-less ends n p q h e =
+    let b = e .before in let l = e .limited in record {
+      some = e .some;
+      few = e .few;
+      searchable = e .searchable;
+      before = omega (arith, h, b);
+      limited =
+          omega (arith, h, l);
+    }
 
 pub space-inside : (side : Side) (ends : List ℕ) (n : ℕ) (u v : SplitUse) → Ordered ends n u v → spaceOf side ends n u v .block .0 < n
-space-inside side ends n u v o = ends-inside ends n (home side (u .inst .0) (v .inst .0)) (ends-less ends n (v .inst .0) (home side (u .inst .0) (v .inst .0)) (low side (o .0)) (o .1))
+space-inside side ends n u v o =
+    ends-inside ends n (home side (u .inst .0) (v .inst .0)) (ends-less ends n (v .inst .0) (home side (u .inst .0) (v .inst .0)) (low side (o .0)) (o .1))
   where
     low : (side : Side) → u .inst .0 < v .inst .0 → home side (u .inst .0) (v .inst .0) ≤ v .inst .0
     low Previous h = omega (arith, h)

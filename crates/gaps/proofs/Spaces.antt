@@ -24,7 +24,8 @@ order-length : (side : Side) (g : Gap) (gs : List Gap) → length (inOrder side 
 order-length Previous g gs = length-append gs (g ∷ []) ∙ omega arith
 order-length Next g gs = refl
 
-pub cut-gaps-length : (side : Side) (freqOf : ℕ → Float) (edgeOf : ℕ → ℕ) (end : ℕ) (ws : List Float) (e : ℕ) (w : Float) (b : ℕ) (cs : List ℕ) → length (cutGaps side freqOf edgeOf end ws e w b cs) ≡ suc (length cs)
+pub cut-gaps-length : (side : Side) (freqOf : ℕ → Float) (edgeOf : ℕ → ℕ) (end : ℕ) (ws : List Float) (e : ℕ) (w : Float) (b : ℕ) (cs : List ℕ)
+    → length (cutGaps side freqOf edgeOf end ws e w b cs) ≡ suc (length cs)
 unfolding cutGaps
 cut-gaps-length side freqOf edgeOf end ws e w b [] = refl
 cut-gaps-length side freqOf edgeOf end ws e w b (c ∷ cs) =
@@ -64,7 +65,8 @@ module _ (n : ℕ) where
   place-stored Previous at g gs all cols p = stored-last n gs g cols ∙ ap (λ (x : ℕ). storedGaps n gs (withGap cols x g)) (sym (p .0))
   place-stored Next at g gs all cols p = let z : suc at ≡ at + 1 = omega arith in ap (λ (x : ℕ). storedGaps x gs (withGap cols at g)) z
 
-  place-one : (side : Side) (at : ℕ) (g : Gap) (all : ℕ) (cols : GapColumns) → Place side n at 0 all → storedGaps (onSide side n at) (g ∷ []) cols ≡ withGap cols at g
+  place-one : (side : Side) (at : ℕ) (g : Gap) (all : ℕ) (cols : GapColumns) → Place side n at 0 all
+      → storedGaps (onSide side n at) (g ∷ []) cols ≡ withGap cols at g
   unfolding storedIn Place
   place-one Previous at g all cols p = let z : n ≡ at = omega (arith, p .0) in ap (λ (x : ℕ). withGap cols x g) z
   place-one Next at g all cols p = refl
@@ -114,9 +116,12 @@ module _ (side : Side) (freqs edges links : List ℕ) (s : Space) (n : ℕ) (len
   cutsLong = length (cutsIn side links (s .last .0) (s .block .0))
 
   all-length : length all ≡ suc cutsLong
-  all-length = cut-gaps-length side (freqIn freqs) edgeIn (s .end) (s .far ∷ s .main ∷ []) (s .edge) (s .near) (s .block .0) (cutsIn side links (s .last .0) (s .block .0))
+  all-length =
+      cut-gaps-length side (freqIn freqs) edgeIn (s .end) (s .far ∷ s .main ∷ []) (s .edge) (s .near) (s .block .0)
+      (cutsIn side links (s .last .0) (s .block .0))
 
-  pub storing-starts : Leads side links → Alike freqs edges links → s .block .0 < length links → Rows (n + length all) lent → (at : ℕ) → at ≡ n + onSide side cutsLong 0
+  pub storing-starts : Leads side links → Alike freqs edges links → s .block .0 < length links → Rows (n + length all) lent → (at : ℕ)
+      → at ≡ n + onSide side cutsLong 0
       → Storing lent (s .block .0) at (s .edge) (s .near)
   storing-starts leads alike h rows at q =
       record {
@@ -127,12 +132,16 @@ module _ (side : Side) (freqs edges links : List ℕ) (s : Space) (n : ℕ) (len
         enough = all-enough side (length links) (s .block .0) h;
         rows = rows;
         same = record { from = refl; to = refl; weight = refl; freq = refl };
-        place = subst (λ (x : ℕ). Place side n x cutsLong (length all)) (sym q) (subst (λ (x : ℕ). Place side n (n + onSide side cutsLong 0) cutsLong x) (sym all-length) (place-first n side cutsLong));
+        place =
+            subst (λ (x : ℕ). Place side n x cutsLong (length all)) (sym q)
+            (subst (λ (x : ℕ). Place side n (n + onSide side cutsLong 0) cutsLong x) (sym all-length) (place-first n side cutsLong));
         gives = ap (λ (x : ℕ). storedGaps (onSide side n x) all lent) q ∙ start-same n side cutsLong all lent;
       }
 
   pub first-inside : n + onSide side cutsLong 0 < n + length all
-  first-inside = subst (λ (x : ℕ). n + onSide side cutsLong 0 < n + x) (sym all-length) (place-inside n side (n + onSide side cutsLong 0) cutsLong (suc cutsLong) (place-first n side cutsLong))
+  first-inside =
+      subst (λ (x : ℕ). n + onSide side cutsLong 0 < n + x) (sym all-length)
+      (place-inside n side (n + onSide side cutsLong 0) cutsLong (suc cutsLong) (place-first n side cutsLong))
 
   module _ (cols : GapColumns) (b at e : ℕ) (w : Float) (k : Storing cols b at e w) where
     pub row-inside : Rows (at + 1) cols
@@ -143,7 +152,8 @@ module _ (side : Side) (freqs edges links : List ℕ) (s : Space) (n : ℕ) (len
 
     -- a cut: the gap up to it is stored
     pub storing-next : (c : ℕ) → nextCut side links (s .last .0) b ≡ At (record { 0 = c })
-        → Storing (withRow cols at (onSide side (edgeIn c) e) (onSide side e (edgeIn c)) w (freqIn freqs b)) c (onSide side (at - 1) (at + 1)) (edgeIn c) zeroWeight
+        → Storing (withRow cols at (onSide side (edgeIn c) e) (onSide side e (edgeIn c)) w (freqIn freqs b)) c (onSide side (at - 1) (at + 1)) (edgeIn c)
+        zeroWeight
         × (beside side (length links) c < beside side (length links) b) × (c < length links) × (onSide side 1 0 ≤ at)
     unfolding cutGaps plus
     storing-next c q =
@@ -154,7 +164,8 @@ module _ (side : Side) (freqs edges links : List ℕ) (s : Space) (n : ℕ) (len
         let p : Place side n at (suc (length (followed side links (s .last .0) (m .fuel-after) c))) (length all) =
         subst (λ (x : ℕ). Place side n at x (length all)) more (k .place) in
         let t = place-next n side at (length (followed side links (s .last .0) (m .fuel-after) c)) (length all) p in
-        let long = cut-gaps-length side (freqIn freqs) edgeIn (s .end) (s .far ∷ s .main ∷ []) (edgeIn c) zeroWeight c (followed side links (s .last .0) (m .fuel-after) c) in (
+        let long = cut-gaps-length side (freqIn freqs) edgeIn (s .end) (s .far ∷ s .main ∷ []) (edgeIn c) zeroWeight c
+        (followed side links (s .last .0) (m .fuel-after) c) in (
           record {
             leads = k .leads;
             alike = k .alike;
@@ -165,7 +176,8 @@ module _ (side : Side) (freqs edges links : List ℕ) (s : Space) (n : ℕ) (len
             same = same-with lent cols at (onSide side (edgeIn c) e) (onSide side e (edgeIn c)) w (freqIn freqs b) (k .same);
             place = t .0;
             gives = sym (place-stored n side at g left (length all) cols (subst (λ (x : ℕ). Place side n at x (length all)) (sym long) p))
-                ∙ ap (λ (cs : List ℕ). storedGaps (onSide side n at) (cutGaps side (freqIn freqs) edgeIn (s .end) (s .far ∷ s .main ∷ []) e w b cs) cols) (sym (m .more))
+                ∙ ap (λ (cs : List ℕ). storedGaps (onSide side n at) (cutGaps side (freqIn freqs) edgeIn (s .end) (s .far ∷ s .main ∷ []) e w b cs) cols)
+                (sym (m .more))
                 ∙ k .gives;
           },
           m .fewer,
@@ -175,7 +187,8 @@ module _ (side : Side) (freqs edges links : List ℕ) (s : Space) (n : ℕ) (len
 
     -- no cut any more: with the gap up to the farther use all are stored
     pub storing-ends : nextCut side links (s .last .0) b ≡ Absent
-        → (withRow cols at (onSide side (s .end) e) (onSide side e (s .end)) (add binary32 (add binary32 w (s .far)) (s .main)) (freqIn freqs b) ≡ storedGaps n all lent)
+        → (withRow cols at (onSide side (s .end) e) (onSide side e (s .end)) (add binary32 (add binary32 w (s .far)) (s .main)) (freqIn freqs b)
+        ≡ storedGaps n all lent)
         × (max (n + onSide side cutsLong 0) at + 1 ≡ n + length all)
     unfolding cutGaps plus
     storing-ends q =
@@ -190,7 +203,8 @@ module _ (side : Side) (freqs edges links : List ℕ) (s : Space) (n : ℕ) (len
 
     -- the same, of what the calls answer
     pub storing-step : (c : ℕ) → nextCut side links (s .last .0) b ≡ At (record { 0 = c }) → {cols' : GapColumns} {f : Float} {at' : ℕ} → f ≡ freqIn freqs b
-        → cols' ≡ withRow cols at (onSide side (edgeIn c) e) (onSide side e (edgeIn c)) w f → at' ≡ onSide side (at - 1) (at + 1) → Storing cols' c at' (edgeIn c) zeroWeight
+        → cols' ≡ withRow cols at (onSide side (edgeIn c) e) (onSide side e (edgeIn c)) w f → at' ≡ onSide side (at - 1) (at + 1)
+        → Storing cols' c at' (edgeIn c) zeroWeight
     storing-step c q {cols'} {f} {at'} ef ec ea =
         subst (λ (x : ℕ). Storing cols' c x (edgeIn c) zeroWeight) (sym ea)
         (subst (λ (x : GapColumns). Storing x c (onSide side (at - 1) (at + 1)) (edgeIn c) zeroWeight)

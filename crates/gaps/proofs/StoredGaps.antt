@@ -21,7 +21,9 @@ rows-with n at from to weight freq cols r =
     record { from = simp length-set a; to = simp length-set b; weight = simp length-set c; freq = simp length-set d }
 
 pub rows-fewer : (m n : ℕ) (cols : GapColumns) → m ≤ n → Rows n cols → Rows m cols
-rows-fewer m n cols h r = let a = r .from in let b = r .to in let c = r .weight in let d = r .freq in record { from = omega arith; to = omega arith; weight = omega arith; freq = omega arith }
+rows-fewer m n cols h r =
+    let a = r .from in let b = r .to in let c = r .weight in let d = r .freq in
+    record { from = omega arith; to = omega arith; weight = omega arith; freq = omega arith }
 
 pub rows-stored : (n at : ℕ) (gs : List Gap) (cols : GapColumns) → Rows n cols → Rows n (storedGaps at gs cols)
 unfolding storedIn
@@ -47,7 +49,8 @@ with-either i j g h cols apart =
     }
 
 -- the last one first
-pub stored-last : (at : ℕ) (gs : List Gap) (g : Gap) (cols : GapColumns) → storedGaps at (gs ++ (g ∷ [])) cols ≡ storedGaps at gs (withGap cols (at + length gs) g)
+pub stored-last : (at : ℕ) (gs : List Gap) (g : Gap) (cols : GapColumns)
+    → storedGaps at (gs ++ (g ∷ [])) cols ≡ storedGaps at gs (withGap cols (at + length gs) g)
 unfolding storedIn
 stored-last at [] g cols = let z : at ≡ at + 0 = omega arith in ap (λ (n : ℕ). withGap cols n g) z
 stored-last at (x ∷ gs) g cols =
@@ -56,7 +59,8 @@ stored-last at (x ∷ gs) g cols =
     stored-last (suc at) gs g (withGap cols at x) ∙ ap (storedGaps (suc at) gs) (e ∙ ap (λ (n : ℕ). withGap (withGap cols n g) at x) z)
 
 -- ---- a column of stored gaps: filled with a field of the gaps
-field-filled : {B : Type 0} (column : GapColumns → List B) (field : Gap → B) → ((at : ℕ) (g : Gap) (c : GapColumns) → column (withGap c at g) ≡ set (column c) at (field g))
+field-filled : {B : Type 0} (column : GapColumns → List B) (field : Gap → B)
+    → ((at : ℕ) (g : Gap) (c : GapColumns) → column (withGap c at g) ≡ set (column c) at (field g))
     → (gs : List Gap) (c : GapColumns) → length gs ≤ length (column c) → column (storedGaps 0 gs c) ≡ filled (map field gs) (column c)
 field-filled column field one gs c h =
     stored-filled withNext (λ s. s .at) (λ r s. refl) (λ s. column (s .cols)) field (λ r s. one (s .at) r (s .cols)) gs (record { at = 0; cols = c }) refl h
@@ -67,7 +71,8 @@ unfolding table
 none-counted [] = refl
 none-counted (g ∷ gs) = ap (λ (l : List ℕ). 0 ∷ l) (none-counted gs)
 
-pub stored-held : (gs : List Gap) (lent now : GapColumns) (lentLive nowLive : List ℕ) (used : ℕ) → Rows (length gs) lent → used ≡ length gs → now ≡ storedGaps 0 gs lent
+pub stored-held : (gs : List Gap) (lent now : GapColumns) (lentLive nowLive : List ℕ) (used : ℕ) → Rows (length gs) lent → used ≡ length gs
+    → now ≡ storedGaps 0 gs lent
     → nowLive ≡ filled (table (λ (k : ℕ). 0) used) lentLive → GapsHeld gs lent now lentLive nowLive used
 stored-held gs lent now lentLive nowLive used r u e l =
     record {
@@ -80,7 +85,8 @@ stored-held gs lent now lentLive nowLive used r u e l =
     }
 
 -- the gaps on the left, the own one and those on the right, stored one after the other
-pub stored-three : (ls rs : List Gap) (own : Gap) (lent : GapColumns) → storedGaps (length ls + 1) rs (withGap (storedGaps 0 ls lent) (length ls) own) ≡ storedGaps 0 (ls ++ (own ∷ rs)) lent
+pub stored-three : (ls rs : List Gap) (own : Gap) (lent : GapColumns) → storedGaps (length ls + 1) rs (withGap (storedGaps 0 ls lent) (length ls) own)
+    ≡ storedGaps 0 (ls ++ (own ∷ rs)) lent
 unfolding storedIn
 stored-three ls rs own lent =
     let a : 0 + length ls ≡ length ls = omega arith in

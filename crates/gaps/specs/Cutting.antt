@@ -67,7 +67,8 @@ freqIn freqs b = valueOf frequencyLimit (getD freqs b 0)
 -- the gaps of a space
 abbrev pub spaceGaps : Side → List ℕ → List ℕ → List ℕ → Space → List Gap
 spaceGaps side freqs edges links s =
-    cutGaps side (freqIn freqs) (λ (c : ℕ). getD edges c 0) (s .end) (s .far ∷ s .main ∷ []) (s .edge) (s .near) (s .block .0) (cutsIn side links (s .last .0) (s .block .0))
+    cutGaps side (freqIn freqs) (λ (c : ℕ). getD edges c 0)
+    (s .end) (s .far ∷ s .main ∷ []) (s .edge) (s .near) (s .block .0) (cutsIn side links (s .last .0) (s .block .0))
 
 -- the gaps between n neighbouring uses from the i-th on
 abbrev pub sideGaps : Side → List ℕ → List ℕ → List ℕ → List ℕ → UseColumns → ℕ → ℕ → List Gap

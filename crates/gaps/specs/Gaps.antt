@@ -56,7 +56,8 @@ abbrev pub inOrder : Side → Gap → List Gap → List Gap
 inOrder Previous g gs = gs ++ (g ∷ [])
 inOrder Next g gs = g ∷ gs
 
--- the gaps from an edge and a block on, with cuts at the edges of other blocks: each has the frequency of its block nearest to the best use; the nearest has the near weight, the farthest the far weights
+-- the gaps from an edge and a block on, with cuts at the edges of other blocks: each has the frequency of its block nearest to the best
+-- use; the nearest has the near weight, the farthest the far weights
 unfoldable pub cutGaps : Side → (ℕ → Float) → (ℕ → ℕ) → ℕ → List Float → ℕ → Float → ℕ → List ℕ → List Gap
 cutGaps side freqOf edgeOf end ws e w b [] = spanned side e end (w ∷ ws) (freqOf b) ∷ []
 cutGaps side freqOf edgeOf end ws e w b (c ∷ cs) =
@@ -66,16 +67,18 @@ cutGaps side freqOf edgeOf end ws e w b (c ∷ cs) =
 abbrev pub frequencyOf : List BlockRow → ℕ → Float
 frequencyOf blocks b = valueOf frequencyLimit (blockAt blocks b .frequency)
 
--- the blocks at whose edges cuts stand between two uses: those reached by following links from the instruction beside the nearer one, not beyond the farther one's block
+-- the blocks at whose edges cuts stand between two uses: those that links reach from beside the nearer one, not beyond the farther one's
 unfoldable pub cuts : Side → List BlockRow → ℕ → ℕ → List ℕ
 cuts side blocks earlier later =
-    follow side (map (λ (b : BlockRow). b .frequency) blocks) (reaches side (blockOf blocks (onSide side earlier later))) (length blocks) (blockOf blocks (home side earlier later))
+    follow side (map (λ (b : BlockRow). b .frequency) blocks) (reaches side (blockOf blocks (onSide side earlier later)))
+    (length blocks) (blockOf blocks (home side earlier later))
 
 -- the gaps between two neighbouring uses on a side of the best one
 unfoldable pub gapsBetween : Side → List BlockRow → SplitUse → SplitUse → List Gap
 gapsBetween side blocks u v =
     cutGaps side (frequencyOf blocks) (λ (c : ℕ). edge side (blockAt blocks c)) (farEnd side (u .inst .0) (v .inst .0)) (farWeights side (far side u v))
-    (preferred side (u .inst .0) (v .inst .0)) (nearWeight side (near side u v)) (blockOf blocks (home side (u .inst .0) (v .inst .0))) (cuts side blocks (u .inst .0) (v .inst .0))
+    (preferred side (u .inst .0) (v .inst .0)) (nearWeight side (near side u v))
+    (blockOf blocks (home side (u .inst .0) (v .inst .0))) (cuts side blocks (u .inst .0) (v .inst .0))
 
 -- the best use's own gap: one instruction
 abbrev pub ownGap : List BlockRow → SplitUse → Gap

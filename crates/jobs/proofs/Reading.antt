@@ -11,13 +11,16 @@ use Rattle.jobs.specs.declared.rows.FixedUse.{FixedUse}
 use Rattle.jobs.specs.Rows.{segmentRow, segmentsOf, noSegment, useRow, usesOf, noUse, fixedUseRow, fixedUsesOf, noFixedUse}
 use Rattle.jobs.proofs.Walk.{own-row, before-next}
 
-pub own-segment : (a b c d e f : List ℕ) (i : ℕ) (s : Segment) → s ≡ segmentRow a b c d e f i → i < length (segmentsOf a b c d e f) → s ≡ getD (segmentsOf a b c d e f) i noSegment
-own-segment a b c d e f i s p h = own-row (segmentRow a b c d e f) (shortest (length a ∷ length b ∷ length c ∷ length d ∷ length e ∷ length f ∷ [])) i noSegment s p h
+pub own-segment : (a b c d e f : List ℕ) (i : ℕ) (s : Segment) → s ≡ segmentRow a b c d e f i → i < length (segmentsOf a b c d e f)
+    → s ≡ getD (segmentsOf a b c d e f) i noSegment
+own-segment a b c d e f i s p h =
+    own-row (segmentRow a b c d e f) (shortest (length a ∷ length b ∷ length c ∷ length d ∷ length e ∷ length f ∷ [])) i noSegment s p h
 
 pub own-use : (a b c : List ℕ) (i : ℕ) (u : Use) → u ≡ useRow a b c i → i < length (usesOf a b c) → u ≡ getD (usesOf a b c) i noUse
 own-use a b c i u p h = own-row (useRow a b c) (shortest (length a ∷ length b ∷ length c ∷ [])) i noUse u p h
 
-pub own-fixed-use : (a b c : List ℕ) (i : ℕ) (f : FixedUse) → f ≡ fixedUseRow a b c i → i < length (fixedUsesOf a b c) → f ≡ getD (fixedUsesOf a b c) i noFixedUse
+pub own-fixed-use : (a b c : List ℕ) (i : ℕ) (f : FixedUse) → f ≡ fixedUseRow a b c i → i < length (fixedUsesOf a b c)
+    → f ≡ getD (fixedUsesOf a b c) i noFixedUse
 own-fixed-use a b c i f p h = own-row (fixedUseRow a b c) (shortest (length a ∷ length b ∷ length c ∷ [])) i noFixedUse f p h
 
 -- what is not 0 is 1 or more

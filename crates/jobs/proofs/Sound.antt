@@ -76,14 +76,17 @@ listed limits last isLast s e =
 
 -- line 5 of every segment
 module _ (limits : Limits) (segments : List Segment) (passed : (i : ℕ) → i < length segments → badSegment limits segments i ≡ false) where
-  both : (i : ℕ) → i < length segments → (badBounds limits (rowBefore segments noSegment i) (getD segments i noSegment) ≡ false) × (badList limits (rowBefore segments noSegment i) (eqb (i + 1) (length segments)) (getD segments i noSegment) ≡ false)
+  both : (i : ℕ) → i < length segments → (badBounds limits (rowBefore segments noSegment i) (getD segments i noSegment) ≡ false)
+      × (badList limits (rowBefore segments noSegment i) (eqb (i + 1) (length segments)) (getD segments i noSegment) ≡ false)
   both i h =
-      or-parts (badBounds limits (rowBefore segments noSegment i) (getD segments i noSegment)) (badList limits (rowBefore segments noSegment i) (eqb (i + 1) (length segments)) (getD segments i noSegment)) (passed i h)
+      or-parts (badBounds limits (rowBefore segments noSegment i) (getD segments i noSegment))
+      (badList limits (rowBefore segments noSegment i) (eqb (i + 1) (length segments)) (getD segments i noSegment)) (passed i h)
 
   pub segment-bounded : (i : ℕ) → i < length segments → Bounded limits (rowBefore segments noSegment i) (getD segments i noSegment)
   segment-bounded i h = bounded limits (rowBefore segments noSegment i) (getD segments i noSegment) (both i h .0)
 
-  pub segment-listed : (i : ℕ) → i < length segments → Listed limits (rowBefore segments noSegment i) (eqb (i + 1) (length segments)) (getD segments i noSegment)
+  pub segment-listed : (i : ℕ) → i < length segments → Listed limits (rowBefore segments noSegment i) (eqb (i + 1) (length segments))
+      (getD segments i noSegment)
   segment-listed i h = listed limits (rowBefore segments noSegment i) (eqb (i + 1) (length segments)) (getD segments i noSegment) (both i h .1)
 
   -- the use lists follow one another, as line 7 relies on

@@ -64,10 +64,13 @@ fitting limits s isFirst last u e =
       cost = ltb-false (costMost (u .kind)) (u .cost) (p1 .1);
       blocked = leb-false (limits .end) (4 * u .position) (p2 .1);
       rises = λ f. ltb-false (u .position) (last .position) (and-rest (not isFirst) _ (ap not f) (p3 .1));
-      inside = λ f. bounds (or-parts (leb (4 * (u .position + 1)) (s .start)) (ltb (s .end) (4 * u .position)) (and-rest (not (isFirst && fixedDef (s .flags))) _ (ap not f) (p4 .1)));
+      inside =
+          λ f. bounds (or-parts (leb (4 * (u .position + 1)) (s .start)) (ltb (s .end) (4 * u .position))
+          (and-rest (not (isFirst && fixedDef (s .flags))) _ (ap not f) (p4 .1)));
     }
   where
-    bounds : (leb (4 * (u .position + 1)) (s .start) ≡ false) × (ltb (s .end) (4 * u .position) ≡ false) → (s .start < 4 * (u .position + 1)) × (4 * u .position ≤ s .end)
+    bounds : (leb (4 * (u .position + 1)) (s .start) ≡ false) × (ltb (s .end) (4 * u .position) ≡ false)
+        → (s .start < 4 * (u .position + 1)) × (4 * u .position ≤ s .end)
     bounds p = (leb-false (4 * (u .position + 1)) (s .start) (p .0), ltb-false (s .end) (4 * u .position) (p .1))
 
 -- line 8: a segment that is live-out
@@ -82,7 +85,8 @@ lives-out uses isLast s flag e =
     let p = or-parts (not (eqb (s .end % 4) 0)) (not (leb (s .«end_use») (s .«first_use»)) && eqb last (s .end / 4)) (sym (cond-true _ _ flag) ∙ e) in
     record {
       boundary = eqb-true (s .end % 4) 0 (not-false (eqb (s .end % 4) 0) (p .0));
-      apart = λ h. eqb-false last (s .end / 4) (and-rest (not (leb (s .«end_use») (s .«first_use»))) _ (ap not (lt-leb (s .«end_use») (s .«first_use») h)) (p .1));
+      apart =
+          λ h. eqb-false last (s .end / 4) (and-rest (not (leb (s .«end_use») (s .«first_use»))) _ (ap not (lt-leb (s .«end_use») (s .«first_use») h)) (p .1));
     }
 
 -- line 8: the last segment, not live-out

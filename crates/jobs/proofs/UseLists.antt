@@ -59,8 +59,10 @@ module _ (uses : ℕ) (segments : List Segment) (lists : Lists uses segments) wh
 
     -- a bad use in the list is the first of all
     pub first-of-all : r < endOf i → r ≡ firstBelow (badUseAt limits rows segments) uses
-    first-of-all l = first-found (badUseAt limits rows segments) uses r (lt-of-lt-of-le l (lists .inside i h)) none-before (sym (of-list r (found .from) l) ∙ found .found l)
+    first-of-all l =
+        first-found (badUseAt limits rows segments) uses r (lt-of-lt-of-le l (lists .inside i h)) none-before (sym (of-list r (found .from) l) ∙ found .found l)
 
     -- none in the list: none up to the list's end
     pub none-listed : endOf i ≤ r → (u : ℕ) → u < rowBefore segments noSegment (i + 1) .«end_use» → badUseAt limits rows segments u ≡ false
-    none-listed l u m = none-before u (lt-of-lt-of-le (lt-of-lt-of-le m (le-of-eq (ap (λ (s : Segment). s .«end_use») (sym (before-next segments noSegment i))))) l)
+    none-listed l u m =
+        none-before u (lt-of-lt-of-le (lt-of-lt-of-le m (le-of-eq (ap (λ (s : Segment). s .«end_use») (sym (before-next segments noSegment i))))) l)

@@ -28,12 +28,14 @@ badValue codes = above 3 codes
 -- line 5, of a segment after another: its bounds, value and flags
 unfoldable pub badBounds : Limits → Segment → Segment → Bool
 badBounds limits last s =
-    leb (s .end) (s .start) || eqb (s .start % 4) 3 || eqb (s .end % 4) 3 || ltb (limits .end) (s .end) || ltb (s .start) (last .end) || leb (limits .values) (s .value) || ltb 15 (s .flags)
+    leb (s .end) (s .start) || eqb (s .start % 4) 3 || eqb (s .end % 4) 3 || ltb (limits .end) (s .end) || ltb (s .start) (last .end)
+    || leb (limits .values) (s .value) || ltb 15 (s .flags)
 
 -- line 5, of a segment after another: its use list, which begins where that one's ended, and ends with the uses if it is the last
 unfoldable pub badList : Limits → Segment → Bool → Segment → Bool
 badList limits last isLast s =
-    not (eqb (s .«first_use») (last .«end_use»)) || ltb (s .«end_use») (s .«first_use») || ltb (limits .uses) (s .«end_use») || (isLast && ltb (s .«end_use») (limits .uses))
+    not (eqb (s .«first_use») (last .«end_use»)) || ltb (s .«end_use») (s .«first_use») || ltb (limits .uses) (s .«end_use»)
+    || (isLast && ltb (s .«end_use») (limits .uses))
 
 -- segment i breaks line 5
 abbrev pub badSegment : Limits → List Segment → ℕ → Bool
@@ -41,13 +43,17 @@ badSegment limits segments i =
     badBounds limits (rowBefore segments noSegment i) (getD segments i noSegment)
     || badList limits (rowBefore segments noSegment i) (eqb (i + 1) (length segments)) (getD segments i noSegment)
 
--- line 6, of a segment: the fixed-def flag, and the start isn't a Boundary of instruction 1 or later, or the first use is missing or isn't kind 0 at the instruction before
+-- line 6, of a segment: the fixed-def flag, and the start isn't a Boundary of instruction 1 or later, or the first use is missing or isn't
+-- kind 0 at the instruction before
 unfoldable pub badDef : List Use → Segment → Bool
 badDef uses s =
     let u = getD uses (s .«first_use») noUse in
-    fixedDef (s .flags) && (not (eqb (s .start % 4) 0) || ltb (s .start) 4 || leb (s .«end_use») (s .«first_use») || not (eqb (u .kind) 0) || not (eqb (u .position) (s .start / 4 - 1)))
+    fixedDef (s .flags)
+    && (not (eqb (s .start % 4) 0) || ltb (s .start) 4 || leb (s .«end_use») (s .«first_use»)
+    || not (eqb (u .kind) 0) || not (eqb (u .position) (s .start / 4 - 1)))
 
--- line 8, of a segment: live-out, and its end isn't a Boundary or its last use, which is its highest, is at its end's instruction; or the last one, not live-out, without a use or ending later than one instruction after its last use
+-- line 8, of a segment: live-out, and its end isn't a Boundary or its last use, which is its highest, is at its end's instruction; or the
+-- last one, not live-out, without a use or ending later than one instruction after its last use
 unfoldable pub badEnd : List Use → Bool → Segment → Bool
 badEnd uses isLast s =
     let missing = leb (s .«end_use») (s .«first_use») in
@@ -66,7 +72,8 @@ badEndAt uses segments i = badEnd uses (eqb (i + 1) (length segments)) (getD seg
 abbrev pub badWeight : List ℕ → ℕ → Bool
 badWeight weights = above weightLimit weights
 
--- line 11, of a fixed use after one of a unit at a point: unit unknown or falling, point no Boundary inside the blocks or falling within the unit, value unknown
+-- line 11, of a fixed use after one of a unit at a point: unit unknown or falling, point no Boundary inside the blocks or falling within
+-- the unit, value unknown
 unfoldable pub badFixedUse : Limits → FixedUse → FixedUse → Bool
 badFixedUse limits last f =
     leb (limits .units) (f .unit) || ltb (f .unit) (last .unit) || leb (limits .values) (f .value) || not (eqb (f .point % 4) 0) || leb (limits .end) (f .point)
@@ -84,13 +91,16 @@ fixedOf fixedUses unit = countBelow (λ (i : ℕ). eqb (getD fixedUses i noFixed
 abbrev pub noFixed : ℕ
 noFixed = 4294967295
 
--- line 10, of a row after another: unit unknown or falling, or a span that is empty, has slot 3, passes the last block's end or, within a unit, starts before the other's end
+-- line 10, of a row after another: unit unknown or falling, or a span that is empty, has slot 3, passes the last block's end or, within a
+-- unit, starts before the other's end
 unfoldable pub badSpan : Limits → Reservation → Reservation → Bool
 badSpan limits last r =
-    leb (limits .units) (r .unit) || ltb (r .unit) (last .unit) || leb (r .end) (r .start) || eqb (r .start % 4) 3 || eqb (r .end % 4) 3 || ltb (limits .end) (r .end)
+    leb (limits .units) (r .unit) || ltb (r .unit) (last .unit)
+    || leb (r .end) (r .start) || eqb (r .start % 4) 3 || eqb (r .end % 4) 3 || ltb (limits .end) (r .end)
     || (eqb (r .unit) (last .unit) && ltb (r .start) (last .end))
 
--- line 10, of a row whose unit has a number of fixed uses: kind 0 with a spill weight and a fixed row or none, kind 1 with 0 and 0, kind 2 with a value and 0; anything else is bad
+-- line 10, of a row whose unit has a number of fixed uses: kind 0 with a spill weight and a fixed row or none, kind 1 with 0 and 0, kind 2
+-- with a value and 0; anything else is bad
 unfoldable pub badKind : Limits → ℕ → Reservation → Bool
 badKind limits have r =
     cond (eqb (r .kind) 0) (leb (limits .weights) (r .index) || (not (eqb (r .fixed) noFixed) && leb have (r .fixed)))
@@ -110,7 +120,8 @@ costMost kind = cond (ltb kind 2) 1 (cond (ltb kind 4) 0 (cond (ltb kind 8) cost
 abbrev pub liesOutside : Segment → Use → Bool
 liesOutside s u = leb (4 * (u .position + 1)) (s .start) || ltb (s .end) (4 * u .position)
 
--- line 7, of a use of a segment after another use: kind above 9, bad cost field, position falling within the segment, at or past the last block's end, or outside the segment, from which the first use of a fixed def is free
+-- line 7, of a use of a segment after another use: kind above 9, bad cost field, position falling within the segment, at or past the last
+-- block's end, or outside the segment, from which the first use of a fixed def is free
 unfoldable pub badUse : Limits → Segment → Bool → Use → Use → Bool
 badUse limits s isFirst last u =
     ltb 9 (u .kind) || ltb (costMost (u .kind)) (u .cost) || leb (limits .end) (4 * u .position) || (not isFirst && ltb (u .position) (last .position))

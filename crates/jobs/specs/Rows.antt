@@ -13,11 +13,19 @@ use Rattle.jobs.specs.declared.rows.FixedUse.{FixedUse}
 -- a segment of the columns, and the segments
 abbrev pub segmentRow : List ℕ → List ℕ → List ℕ → List ℕ → List ℕ → List ℕ → ℕ → Segment
 segmentRow starts ends values firsts lasts flags i =
-    record { start = getD starts i 0; end = getD ends i 0; value = getD values i 0; «first_use» = getD firsts i 0; «end_use» = getD lasts i 0; flags = getD flags i 0 }
+    record {
+      start = getD starts i 0;
+      end = getD ends i 0;
+      value = getD values i 0;
+      «first_use» = getD firsts i 0;
+      «end_use» = getD lasts i 0;
+      flags = getD flags i 0;
+    }
 
 abbrev pub segmentsOf : List ℕ → List ℕ → List ℕ → List ℕ → List ℕ → List ℕ → List Segment
 segmentsOf starts ends values firsts lasts flags =
-    table (segmentRow starts ends values firsts lasts flags) (shortest (length starts ∷ length ends ∷ length values ∷ length firsts ∷ length lasts ∷ length flags ∷ []))
+    table (segmentRow starts ends values firsts lasts flags)
+    (shortest (length starts ∷ length ends ∷ length values ∷ length firsts ∷ length lasts ∷ length flags ∷ []))
 
 -- a use of the columns, and the uses
 abbrev pub useRow : List ℕ → List ℕ → List ℕ → ℕ → Use
@@ -33,7 +41,8 @@ reservationRow units starts ends kinds indices fixed i =
 
 abbrev pub reservationsOf : List ℕ → List ℕ → List ℕ → List ℕ → List ℕ → List ℕ → List Reservation
 reservationsOf units starts ends kinds indices fixed =
-    table (reservationRow units starts ends kinds indices fixed) (shortest (length units ∷ length starts ∷ length ends ∷ length kinds ∷ length indices ∷ length fixed ∷ []))
+    table (reservationRow units starts ends kinds indices fixed)
+    (shortest (length units ∷ length starts ∷ length ends ∷ length kinds ∷ length indices ∷ length fixed ∷ []))
 
 -- a fixed use of the columns, and the fixed uses
 abbrev pub fixedUseRow : List ℕ → List ℕ → List ℕ → ℕ → FixedUse

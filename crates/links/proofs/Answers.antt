@@ -33,22 +33,29 @@ module _ (blocks : List BlockRow) (after before : ℕ) (early : Bool) where
 
   module _ (sound : checkOf blocks ≡ Checked·is.Sound) where
     accepted : (t : Bool) → (leb before after || ltb (startOf blocks (length blocks)) before) ≡ t
-        → cond t (SplitPoint·is.Refused (record { number = 13; place = 0 })) (SplitPoint·is.At (record { 0 = splitPoint (sideOf early) blocks after before })) ≡ splitAnswer blocks after before early
+        → cond t (SplitPoint·is.Refused (record { number = 13; place = 0 })) (SplitPoint·is.At (record { 0 = splitPoint (sideOf early) blocks after before }))
+        ≡ splitAnswer blocks after before early
     unfolding splitAnswer
     accepted t e =
         sym (ap (λ (x : Checked). ifSound x checked) sound
-        ∙ ap (λ (s : Bool). cond s (SplitPoint·is.Refused (record { number = 13; place = 0 })) (SplitPoint·is.At (record { 0 = splitPoint (sideOf early) blocks after before }))) e)
+        ∙ ap (λ (s : Bool). cond s (SplitPoint·is.Refused (record { number = 13; place = 0 }))
+        (SplitPoint·is.At (record { 0 = splitPoint (sideOf early) blocks after before }))) e)
 
     pub answer-order : before ≤ after → SplitPoint·is.Refused (record { number = 13; place = 0 }) ≡ splitAnswer blocks after before early
     answer-order h = accepted true (ap (λ (s : Bool). s || ltb (startOf blocks (length blocks)) before) (le-leb before after h))
 
-    pub answer-outside : after < before → startOf blocks (length blocks) < before → SplitPoint·is.Refused (record { number = 13; place = 0 }) ≡ splitAnswer blocks after before early
-    answer-outside h l = accepted true (ap (λ (s : Bool). s || ltb (startOf blocks (length blocks)) before) (lt-leb before after h) ∙ lt-ltb (startOf blocks (length blocks)) before l)
+    pub answer-outside : after < before → startOf blocks (length blocks) < before
+        → SplitPoint·is.Refused (record { number = 13; place = 0 }) ≡ splitAnswer blocks after before early
+    answer-outside h l =
+        accepted true (ap (λ (s : Bool). s || ltb (startOf blocks (length blocks)) before) (lt-leb before after h)
+        ∙ lt-ltb (startOf blocks (length blocks)) before l)
 
-    pub answer-split : (x : ℕ) → after < before → before ≤ startOf blocks (length blocks) → x ≡ splitPoint (sideOf early) blocks after before → SplitPoint·is.At (record { 0 = x }) ≡ splitAnswer blocks after before early
+    pub answer-split : (x : ℕ) → after < before → before ≤ startOf blocks (length blocks) → x ≡ splitPoint (sideOf early) blocks after before
+        → SplitPoint·is.At (record { 0 = x }) ≡ splitAnswer blocks after before early
     answer-split x h l e =
         ap (λ (y : ℕ). SplitPoint·is.At (record { 0 = y })) e
-        ∙ accepted false (ap (λ (s : Bool). s || ltb (startOf blocks (length blocks)) before) (lt-leb before after h) ∙ le-ltb (startOf blocks (length blocks)) before l)
+        ∙ accepted false (ap (λ (s : Bool). s || ltb (startOf blocks (length blocks)) before) (lt-leb before after h)
+        ∙ le-ltb (startOf blocks (length blocks)) before l)
 
 -- ---- the first n rows of the columns, n being the list's length
 module _ (fs ss es : List ℕ) (n : ℕ) (counted : n ≡ length (blocksOf fs ss es)) where
@@ -75,7 +82,8 @@ module _ (fs ss es : List ℕ) (n : ℕ) (counted : n ≡ length (blocksOf fs ss
       ap (λ (b : BlockRow). b .end) (sym (blocks-at fs ss es (n - 1) (less (length blocks) h counted)))
       ∙ ap (λ (m : ℕ). blockAt blocks (m - 1) .end) counted ∙ sym (last-end blocks h)
 
-  pub parts-between : (after before : ℕ) → SoundBlocks blocks → after < before → before ≤ startOf blocks (length blocks) → Between (take n fs) (take n ss) (take n es) after before
+  pub parts-between : (after before : ℕ) → SoundBlocks blocks → after < before → before ≤ startOf blocks (length blocks)
+      → Between (take n fs) (take n ss) (take n es) after before
   parts-between after before sound h l =
       record {
         firsts-long = length-take-le n ss in-firsts ∙ sym (length-take-le n fs in-freqs);

@@ -36,7 +36,8 @@ module _ (blocks : List BlockRow) where
   bad : ℕ
   bad = firstBelow (badBlock blocks) (length blocks)
 
-  counted : (t : Bool) → (eqb (length blocks) 0 || ltb itemLimit (length blocks)) ≡ t → Verdict blocks (cond t (refusal 2 0) (cond (ltb bad (length blocks)) (refusal 3 bad) Sound))
+  counted : (t : Bool) → (eqb (length blocks) 0 || ltb itemLimit (length blocks)) ≡ t
+      → Verdict blocks (cond t (refusal 2 0) (cond (ltb bad (length blocks)) (refusal 3 bad) Sound))
   unfolding bad
   counted true e = two (which (eqb (length blocks) 0) refl e)
     where
@@ -136,7 +137,8 @@ pub sound-check : (blocks : List BlockRow) → SoundBlocks blocks → checkOf bl
 sound-check blocks s = verdict-answered blocks Sound (neither s)
 
 -- ---- what the code finds: n blocks, and the first bad one
-module _ (blocks : List BlockRow) (n bad : ℕ) (counted : n ≡ length blocks) (found : bad ≡ firstBelow (badBlock blocks) n) (some : n ≡ 0 → ⊥) (few : n ≤ itemLimit) where
+module _ (blocks : List BlockRow) (n bad : ℕ) (counted : n ≡ length blocks) (found : bad ≡ firstBelow (badBlock blocks) n) (some : n ≡ 0 → ⊥)
+    (few : n ≤ itemLimit) where
   is-first : FirstIn (badBlock blocks) 0 n bad
   is-first = subst (FirstIn (badBlock blocks) 0 n) (sym found) (first-in (badBlock blocks) n)
 

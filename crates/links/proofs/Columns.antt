@@ -54,7 +54,8 @@ pub part-list : (fs ss es : List ℕ) (n : ℕ) → n ≡ length (blocksOf fs ss
 part-list fs ss es n e =
     let i = blocks-inside fs ss es in
     ap (table (rowOf (take n fs) (take n ss) (take n es)))
-    (all (length (take n fs)) (length (take n ss)) (length (take n es)) (length-take-le n fs (le-trans (le-of-eq e) (i .freqs))) (length-take-le n ss (le-trans (le-of-eq e) (i .firsts))) (length-take-le n es (le-trans (le-of-eq e) (i .ends))))
+    (all (length (take n fs)) (length (take n ss)) (length (take n es)) (length-take-le n fs (le-trans (le-of-eq e) (i .freqs)))
+    (length-take-le n ss (le-trans (le-of-eq e) (i .firsts))) (length-take-le n es (le-trans (le-of-eq e) (i .ends))))
     ∙ table-same (rowOf (take n fs) (take n ss) (take n es)) (rowOf fs ss es) n
     (λ k l. λ i. record { frequency = getD-take n fs k 0 l i; first = getD-take n ss k 0 l i; end = getD-take n es k 0 l i })
     ∙ ap (table (rowOf fs ss es)) (e ∙ blocks-length fs ss es)
@@ -76,7 +77,8 @@ last-end blocks h = go (length blocks) h
 -- the end of the last block is limited
 pub last-limited : (blocks : List BlockRow) → SoundBlocks blocks → startOf blocks (length blocks) ≤ endLimit
 last-limited blocks sound =
-    subst (λ (x : ℕ). x ≤ endLimit) (sym (last-end blocks (sound .some))) (row-good blocks sound (length blocks - 1) (less (length blocks) (sound .some)) .limited)
+    subst (λ (x : ℕ). x ≤ endLimit) (sym (last-end blocks (sound .some)))
+    (row-good blocks sound (length blocks - 1) (less (length blocks) (sound .some)) .limited)
   where
     less : (n : ℕ) → 0 < n → n - 1 < n
     less n h = omega arith
@@ -130,7 +132,9 @@ module _ (fs ss es : List ℕ) (w : SoundColumns fs ss es) where
       record {
         few = le-trans (le-of-eq (sym n-is)) (w .sound .few);
         long = h;
-        sound = λ k l. le-trans (le-of-eq (sym (ap (λ (b : BlockRow). b .frequency) (row-at fs ss es (w .firsts-long) (w .ends-long) k)))) (row-good listed (w .sound) k (inside-list l) .weighted);
+        sound =
+            λ k l. le-trans (le-of-eq (sym (ap (λ (b : BlockRow). b .frequency) (row-at fs ss es (w .firsts-long) (w .ends-long) k))))
+            (row-good listed (w .sound) k (inside-list l) .weighted);
       }
 
   -- and its ends the search for the block of an instruction before the last end
@@ -174,7 +178,8 @@ module _ (fs ss es : List ℕ) (after before : ℕ) (w : Between fs ss es after 
 
   pub block-inside : (inst b : ℕ) → inst < before → b ≡ firstBelow (λ (i : ℕ). ltb inst (getD es i 0)) (length fs) → b < length fs
   block-inside inst b h e =
-      lt-of-le-of-lt (le-trans (le-of-eq e) (first-at-most (λ (i : ℕ). ltb inst (getD es i 0)) (length fs) (length fs - 1) (lt-ltb inst (getD es (length fs - 1) 0) (lt-of-lt-of-le h before-last)))) (last-inside fs ss es whole)
+      lt-of-le-of-lt (le-trans (le-of-eq e) (first-at-most (λ (i : ℕ). ltb inst (getD es i 0)) (length fs) (length fs - 1)
+      (lt-ltb inst (getD es (length fs - 1) 0) (lt-of-lt-of-le h before-last)))) (last-inside fs ss es whole)
 
   pub block-found : (inst b : ℕ) → b ≡ firstBelow (λ (i : ℕ). ltb inst (getD es i 0)) (length fs) → b ≡ blockOf blocks inst
   block-found inst b e = e ∙ block-of-sound fs ss es whole inst
@@ -191,12 +196,25 @@ module _ (fs ss es : List ℕ) (after before : ℕ) (w : Between fs ss es after 
   unfolding splitPoint
   split-columns side apart b e =
       sym (cond-false before _ (ne-eqb (after + 1) before apart)
-      ∙ ap (λ (place : ℕ → ℕ). lastOr (preferred side after before) (map place (follow side (map (λ (x : BlockRow). x .frequency) blocks) (λ (c : ℕ). reaches side (farthest side after before) (place c)) (length blocks) (blockOf blocks (home side after before))))) (edges-of-sound fs ss es whole side)
-      ∙ ap (λ (freqs : List ℕ). lastOr (preferred side after before) (map (λ (c : ℕ). getD (edgesOf side ss es) c 0) (follow side freqs (λ (c : ℕ). reaches side (farthest side after before) (getD (edgesOf side ss es) c 0)) (length blocks) (blockOf blocks (home side after before))))) (frequency-column fs ss es (w .firsts-long) (w .ends-long))
-      ∙ ap (λ (n : ℕ). lastOr (preferred side after before) (map (λ (c : ℕ). getD (edgesOf side ss es) c 0) (follow side fs (λ (c : ℕ). reaches side (farthest side after before) (getD (edgesOf side ss es) c 0)) n (blockOf blocks (home side after before))))) (n-is fs ss es whole)
+      ∙ ap (λ (place : ℕ → ℕ). lastOr (preferred side after before)
+      (map place (follow side (map (λ (x : BlockRow). x .frequency) blocks) (λ (c : ℕ). reaches side (farthest side after before) (place c)) (length blocks)
+      (blockOf blocks (home side after before))))) (edges-of-sound fs ss es whole side)
+      ∙ ap (λ (freqs : List ℕ). lastOr (preferred side after before)
+      (map (λ (c : ℕ). getD (edgesOf side ss es) c 0) (follow side freqs (λ (c : ℕ). reaches side (farthest side after before) (getD (edgesOf side ss es) c 0))
+      (length blocks) (blockOf blocks (home side after before))))) (frequency-column fs ss es (w .firsts-long) (w .ends-long))
+      ∙ ap (λ (n : ℕ). lastOr (preferred side after before) (map (λ (c : ℕ). getD (edgesOf side ss es) c 0)
+      (follow side fs (λ (c : ℕ). reaches side (farthest side after before) (getD (edgesOf side ss es) c 0)) n (blockOf blocks (home side after before)))))
+      (n-is fs ss es whole)
       ∙ ap (λ (x : ℕ). lastReached side fs (edgesOf side ss es) (farthest side after before) (preferred side after before) x) (sym e))
 
 -- between neighbours there is one point
 pub split-neighbours : (side : Side) (blocks : List BlockRow) (after before : ℕ) → after + 1 ≡ before → before ≡ splitPoint side blocks after before
 unfolding splitPoint
 split-neighbours side blocks after before e = sym (cond-true before _ (eq-eqb (after + 1) before e))
+
+-- a search for the block of an instruction before the last end finds one
+pub ends-inside : (ends : List ℕ) (n p : ℕ) → Ends ends n p → firstBelow (λ (i : ℕ). ltb p (getD ends i 0)) n < n
+ends-inside ends n p known =
+    let most = first-at-most (λ (i : ℕ). ltb p (getD ends i 0)) n (n - 1) (lt-ltb p (getD ends (n - 1) 0) (known .before)) in
+    let some = known .some in
+    omega (arith, most, some)

@@ -14,7 +14,8 @@ use Rattle.links.specs.Split.{follow, lastOr, reaches, lastReached}
 use Rattle.links.specs.declared.lower.Side.{Side}
 use Rattle.links.specs.declared.lower.Side.the-variants.{Previous, Next}
 use Rattle.columns.proofs.Firsts.{split}
-use Rattle.links.proofs.Linking.{apart, not-itself, beyond-further, beyond-inside, beyond-beyond, Distance, distance, nearer, lower-through, lower-less, IsLink, link-nearest, link-is}
+use Rattle.links.proofs.Linking.{apart, not-itself, beyond-further, beyond-inside, beyond-beyond, Distance, distance, nearer, lower-through, lower-less}
+use Rattle.links.proofs.Linking.{IsLink, link-nearest, link-is}
 
 -- ---- one link
 and-right : (a b : Bool) → (a ≡ true → b ≡ false) → (a && b) ≡ false
@@ -25,18 +26,21 @@ and-both : (a b : Bool) → a ≡ true → b ≡ true → (a && b) ≡ true
 and-both true b p q = q
 and-both false b p q = p
 
-pub follow-ends : (side : Side) (f : List ℕ) (within : ℕ → Bool) (fuel b : ℕ) → (lowerLink side f b < length f → within (lowerLink side f b) ≡ false) → follow side f within fuel b ≡ []
+pub follow-ends : (side : Side) (f : List ℕ) (within : ℕ → Bool) (fuel b : ℕ) → (lowerLink side f b < length f → within (lowerLink side f b) ≡ false)
+    → follow side f within fuel b ≡ []
 unfolding follow
 follow-ends side f within zero b h = refl
 follow-ends side f within (suc fuel) b h =
     let c = lowerLink side f b in
     ap (λ (t : Bool). cond t (c ∷ follow side f within fuel c) []) (and-right (ltb c (length f)) (within c) (λ e. h (ltb-true c (length f) e)))
 
-pub follow-goes-on : (side : Side) (f : List ℕ) (within : ℕ → Bool) (fuel b c : ℕ) → c ≡ lowerLink side f b → c < length f → within c ≡ true → follow side f within (suc fuel) b ≡ c ∷ follow side f within fuel c
+pub follow-goes-on : (side : Side) (f : List ℕ) (within : ℕ → Bool) (fuel b c : ℕ) → c ≡ lowerLink side f b → c < length f → within c ≡ true
+    → follow side f within (suc fuel) b ≡ c ∷ follow side f within fuel c
 unfolding follow
 follow-goes-on side f within fuel b c e l h =
     let d = lowerLink side f b in
-    ap (λ (t : Bool). cond t (d ∷ follow side f within fuel d) []) (and-both (ltb d (length f)) (within d) (subst (λ (x : ℕ). ltb x (length f) ≡ true) e (lt-ltb c (length f) l)) (subst (λ (x : ℕ). within x ≡ true) e h))
+    ap (λ (t : Bool). cond t (d ∷ follow side f within fuel d) [])
+    (and-both (ltb d (length f)) (within d) (subst (λ (x : ℕ). ltb x (length f) ≡ true) e (lt-ltb c (length f) l)) (subst (λ (x : ℕ). within x ≡ true) e h))
     ∙ ap (λ (x : ℕ). x ∷ follow side f within fuel x) (sym e)
 
 -- steps that suffice for all blocks on a side of one suffice, but for one, on that side of a block there
@@ -111,7 +115,8 @@ module _ (side : Side) (f edges : List ℕ) (limit start b : ℕ) where
                 let d = at-distance k kn ck in
                 let v = ki (beyond-inside side (length f) b t h inside) in
                 let m = nearer side (length f) b (d .between) t (d .inside) inside (subst (λ (x : ℕ). LiesBeyond side x (beyond side b t)) (sym (d .is)) v) in
-                subst (λ (x : ℕ). isLower f (s .last) x ≡ false) (d .is) (s .passed (d .between) m (d .inside) (subst (λ (x : ℕ). LiesBeyond side (s .last) x) (sym (d .is)) ck));
+                subst (λ (x : ℕ). isLower f (s .last) x ≡ false) (d .is)
+                (s .passed (d .between) m (d .inside) (subst (λ (x : ℕ). LiesBeyond side (s .last) x) (sym (d .is)) ck));
             found = λ _. (s .ahead t (le-refl t) inside, e);
             gone = λ g. absurd (not-le-of-lt (beyond-inside side (length f) b t h inside) g);
           }
@@ -121,7 +126,8 @@ module _ (side : Side) (f edges : List ℕ) (limit start b : ℕ) where
           let c = beyond side b t in
           let k = fuel-left side (length f) (s .last) c (s .fuel) (s .inside) i-inside (s .ahead t (le-refl t) inside) (s .enough) in
           let g : follow side f within (s .fuel) (s .last) ≡ c ∷ follow side f within (k .0) c =
-          ap (λ (x : ℕ). follow side f within x (s .last)) (k .1) ∙ follow-goes-on side f within (k .0) (s .last) c (link-is side f (s .last) c few (s .inside) (next-link e)) i-inside w in
+          ap (λ (x : ℕ). follow side f within x (s .last)) (k .1) ∙ follow-goes-on side f within (k .0) (s .last) c
+          (link-is side f (s .last) c few (s .inside) (next-link e)) i-inside w in
           record {
             last = c;
             fuel = k .0;
@@ -153,7 +159,8 @@ module _ (side : Side) (f edges : List ℕ) (limit start b : ℕ) where
             enough = s .enough;
             behind = s .behind;
             ahead = λ r m n. s .ahead r (weaker m) n;
-            passed = λ r m n q. ⊎-elim (λ w. s .passed r w n q) (λ w. subst (λ (x : ℕ). isLower f (s .last) (beyond side b x) ≡ false) (both r m w) e) (split r t);
+            passed =
+                λ r m n q. ⊎-elim (λ w. s .passed r w n q) (λ w. subst (λ (x : ℕ). isLower f (s .last) (beyond side b x) ≡ false) (both r m w) e) (split r t);
             result = s .result;
           }
         where
@@ -170,7 +177,8 @@ module _ (side : Side) (f edges : List ℕ) (limit start b : ℕ) where
         let d = at-distance v vn (w .0) in (
           d,
           ⊎-elim
-              (λ m. absurd (true≢false (sym (w .1) ∙ subst (λ (x : ℕ). isLower f (s .last) x ≡ false) (d .is) (s .passed (d .between) m (d .inside) (subst (λ (x : ℕ). LiesBeyond side (s .last) x) (sym (d .is)) (w .0))))))
+              (λ m. absurd (true≢false (sym (w .1) ∙ subst (λ (x : ℕ). isLower f (s .last) x ≡ false) (d .is)
+              (s .passed (d .between) m (d .inside) (subst (λ (x : ℕ). LiesBeyond side (s .last) x) (sym (d .is)) (w .0))))))
               (λ m. m)
               (split (d .between) t),
         )

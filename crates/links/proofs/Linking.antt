@@ -101,7 +101,8 @@ link-nearest side f b few h =
     (λ t. hit (firstBelow test n) (ltb→lt (firstBelow test n) n t) (first-in test n))
     (λ t. miss (firstBelow test n) (nltb→le (firstBelow test n) n t) (first-in test n))
   where
-    hit : (t : ℕ) → t < beside side (length f) b → FirstIn (λ (t : ℕ). isLower f b (beyond side b t)) 0 (beside side (length f) b) t → IsLink side f b (beyond side b t)
+    hit : (t : ℕ) → t < beside side (length f) b → FirstIn (λ (t : ℕ). isLower f b (beyond side b t)) 0 (beside side (length f) b) t
+        → IsLink side f b (beyond side b t)
     hit t l i =
         record {
           passed = λ k kn bk kv.
@@ -131,7 +132,8 @@ pub link-only : (side : Side) (f : List ℕ) (b v w : ℕ) → IsLink side f b v
 link-only side f b v w p q =
     ⊎-elim
     (λ vn. ⊎-elim
-    (λ wn. ⊎-elim (λ vw. absurd (no-other side f b v w p q vn (λ _. vw))) (λ r. ⊎-elim (λ e. e) (λ wv. absurd (no-other side f b w v q p wn (λ _. wv))) r) (apart side v w))
+    (λ wn. ⊎-elim (λ vw. absurd (no-other side f b v w p q vn (λ _. vw))) (λ r. ⊎-elim (λ e. e) (λ wv. absurd (no-other side f b w v q p wn (λ _. wv))) r)
+    (apart side v w))
     (λ wn. absurd (no-other side f b v w p q vn (λ l. absurd (not-le-of-lt l wn))))
     (split w (length f)))
     (λ vn. ⊎-elim

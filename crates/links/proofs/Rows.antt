@@ -32,7 +32,8 @@ blocks-at fs ss es i h =
 pub bad-at : (fs ss es : List ℕ) (i start : ℕ) → i < length (blocksOf fs ss es) → start ≡ startOf (blocksOf fs ss es) i
     → isBad start (record { frequency = getD fs i 0; first = getD ss i 0; end = getD es i 0 }) ≡ badBlock (blocksOf fs ss es) i
 bad-at fs ss es i start h e =
-    ap (λ (s : ℕ). isBad s (record { frequency = getD fs i 0; first = getD ss i 0; end = getD es i 0 })) e ∙ ap (isBad (startOf (blocksOf fs ss es) i)) (sym (blocks-at fs ss es i h))
+    ap (λ (s : ℕ). isBad s (record { frequency = getD fs i 0; first = getD ss i 0; end = getD es i 0 })) e
+    ∙ ap (isBad (startOf (blocksOf fs ss es) i)) (sym (blocks-at fs ss es i h))
 
 pub next-start : (fs ss es : List ℕ) (i : ℕ) → i < length (blocksOf fs ss es) → getD es i 0 ≡ startOf (blocksOf fs ss es) (i + 1)
 next-start fs ss es i h = ap (λ (b : BlockRow). b .end) (sym (blocks-at fs ss es i h)) ∙ ap (startOf (blocksOf fs ss es)) (sym (add-one i))
@@ -107,7 +108,8 @@ module _ (blocks : List BlockRow) (sound : SoundBlocks blocks) where
       zero-only x h = omega arith
   firsts-rise i (suc k) h l =
       elim (split i (suc k)) [
-        | inl m ↦ le-trans (le-of-lt (row-good i (lt-of-lt-of-le m (le-of-lt l)) .nonempty)) (le-trans (ends-rise i k (le-of-suc-le-suc m) (le-of-lt l)) (le-of-eq (sym (row-good (suc k) l .starts))))
+        | inl m ↦ le-trans (le-of-lt (row-good i (lt-of-lt-of-le m (le-of-lt l)) .nonempty))
+            (le-trans (ends-rise i k (le-of-suc-le-suc m) (le-of-lt l)) (le-of-eq (sym (row-good (suc k) l .starts))))
         | inr m ↦ le-of-eq (ap (λ (x : ℕ). blockAt blocks x .first) (both i (suc k) h m))
       ]
     where
@@ -137,5 +139,7 @@ module _ (blocks : List BlockRow) (sound : SoundBlocks blocks) where
         from = zero-le;
         to = f .to;
         passed = λ k l m. and-false-right (leb (blockAt blocks k .first) inst) (ltb inst (blockAt blocks k .end)) (f .passed k l m);
-        found = λ m. and-true (leb (blockAt blocks r .first) inst) (ltb inst (blockAt blocks r .end)) (le-leb (blockAt blocks r .first) inst (starts-before inst r m (λ k. f .passed k zero-le))) (f .found m);
+        found =
+            λ m. and-true (leb (blockAt blocks r .first) inst) (ltb inst (blockAt blocks r .end))
+            (le-leb (blockAt blocks r .first) inst (starts-before inst r m (λ k. f .passed k zero-le))) (f .found m);
       })

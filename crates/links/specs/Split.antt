@@ -57,7 +57,8 @@ reaches Next limit place = leb place limit
 abbrev pub within : Side → List BlockRow → ℕ → ℕ → ℕ → Bool
 within side blocks after before c = reaches side (farthest side after before) (edge side (blockAt blocks c))
 
--- the lower-cost split point: that of the last block that lower links reach between after and before, or the preferred one; between neighbours there is one point only
+-- the lower-cost split point: that of the last block that lower links reach between after and before, or the preferred one; between
+-- neighbours there is one point only
 unfoldable pub splitPoint : Side → List BlockRow → ℕ → ℕ → ℕ
 splitPoint side blocks after before =
     let freqs = map (λ (b : BlockRow). b .frequency) blocks in

@@ -2,7 +2,8 @@
 use mathlib.Core.Path.{_≡_, refl, sym, ap, _∙_, subst, subst₂}
 use mathlib.Core.Logic.{_⊎_, inl, inr}
 use Prim.Native.Nat.{ℕ, zero, suc, _+_, _-_, _*_, _/_, _%_, _^_, _≤_, _<_}
-use native.Mathlib.Nat.{le-refl, le-trans, le-of-eq, le-of-lt, le-of-suc-le-suc, lt-of-lt-of-le, lt-of-le-of-lt, lt-of-not-le, not-le-of-lt, not-suc-le-zero, mod-eq-of-lt, mod-lt, mul-one, suc-inj, div-add-mod', mul-le-mul, mul-lt-mul-of-pos-right, pow-suc, eq-or-lt-of-le, add-assoc}
+use native.Mathlib.Nat.{le-refl, le-trans, le-of-eq, le-of-lt, le-of-suc-le-suc, lt-of-lt-of-le, lt-of-le-of-lt, lt-of-not-le, not-le-of-lt, not-suc-le-zero}
+use native.Mathlib.Nat.{mod-eq-of-lt, mod-lt, mul-one, suc-inj, div-add-mod', mul-le-mul, mul-lt-mul-of-pos-right, pow-suc, eq-or-lt-of-le, add-assoc}
 use native.Mathlib.Decide.{decLe, decLt}
 use native.Mathlib.Omega.{arith}
 use mathlib.Core.Bool.{Bool, true, false, not, cond}
@@ -14,7 +15,8 @@ use lib.Ieee.Exact.{odd-sign}
 use lib.Ieee.Fits.{kept-lt}
 use lib.Ieee.Bits.{is-true, is-false, ofBits-fits, ofBits-toBits, toBits-ofBits, nanBits-is}
 use borrow.Author.Tests.{lt-leb, le-leb, eq-eqb}
-use Rattle.numbers.specs.Weight.{Finite, number, Weight, infinite, finite, infiniteUnits, unitsOf, zeroWeight, weightLimit, frequencyLimit, valueFrom, valueOf, bitsFrom, bitsShown}
+use Rattle.numbers.specs.Weight.{Finite, number, Weight, infinite, finite, infiniteUnits, unitsOf, zeroWeight, weightLimit, frequencyLimit, valueFrom}
+use Rattle.numbers.specs.Weight.{valueOf, bitsFrom, bitsShown}
 use Rattle.numbers.specs.declared.weights.MaybeBits.the-variants.{At, Absent}
 use Rattle.numbers.specs.declared.weights.MaybeWeight.the-variants as MaybeWeight·is
 use Rattle.columns.proofs.Tests.{cond-both, cond-true, cond-false, ltb-same}
@@ -52,11 +54,13 @@ bits-fields b h =
 fields-plain : (x t : ℕ) → T (plain (fromFields x t))
 unfolding fromFields
 fields-plain zero t = odd-plain 24 t 0 149
-fields-plain (suc x) t = cond-both (λ (v : Float). T (plain v)) (eqb (suc x) 255) (inf false) (odd 24 false (2 ^ 23 + t) x 149) (λ _. tt) (λ _. odd-plain 24 (2 ^ 23 + t) x 149)
+fields-plain (suc x) t =
+    cond-both (λ (v : Float). T (plain v)) (eqb (suc x) 255) (inf false) (odd 24 false (2 ^ 23 + t) x 149) (λ _. tt) (λ _. odd-plain 24 (2 ^ 23 + t) x 149)
 
 -- bits up to infinity's are a weight's
 pub bits-weight : (b : ℕ) → b ≤ weightLimit → Weight (ofBits binary32 b)
-bits-weight b h = weight-of (ofBits binary32 b) (ofBits-fits binary32 b) (subst (λ (v : Float). T (plain v)) (sym (bits-fields b h)) (fields-plain (b / 2 ^ 23) (b % 2 ^ 23)))
+bits-weight b h =
+    weight-of (ofBits binary32 b) (ofBits-fits binary32 b) (subst (λ (v : Float). T (plain v)) (sym (bits-fields b h)) (fields-plain (b / 2 ^ 23) (b % 2 ^ 23)))
 
 -- ---- units by the fields of the bits
 abbrev pub fieldUnits : ℕ → ℕ → ℕ
@@ -88,7 +92,8 @@ more t h = omega arith
 
 fields-upper : (x t : ℕ) → t < 2 ^ 23 → fieldUnits x t < 2 ^ 23 * 2 ^ x
 fields-upper zero t h = h
-fields-upper (suc x) t h = lt-of-lt-of-le (mul-lt-mul-of-pos-right (more t h) (pow-pos x)) (le-of-eq (twice (2 ^ x) ∙ ap (λ (z : ℕ). 2 ^ 23 * z) (sym (pow-suc 2 x))))
+fields-upper (suc x) t h =
+    lt-of-lt-of-le (mul-lt-mul-of-pos-right (more t h) (pow-pos x)) (le-of-eq (twice (2 ^ x) ∙ ap (λ (z : ℕ). 2 ^ 23 * z) (sym (pow-suc 2 x))))
 
 at-least : (t : ℕ) → 2 ^ 23 ≤ 2 ^ 23 + t
 at-least t = omega arith
@@ -186,7 +191,8 @@ bits-from-within (inf true) n h = absurd (signed 2139095040 h)
 bits-from-within (inf false) n h = refl
 bits-from-within (fin true m e) n h =
     let k = size (m * up e * 2 ^ 149 / down e) - 24 in
-    absurd (signed (k * 2 ^ 23 + m * up e * 2 ^ 149 / down e / 2 ^ k) (le-trans (le-of-eq (sym (add-assoc (2 ^ 31) (k * 2 ^ 23) (m * up e * 2 ^ 149 / down e / 2 ^ k)))) h))
+    absurd (signed (k * 2 ^ 23 + m * up e * 2 ^ 149 / down e / 2 ^ k)
+    (le-trans (le-of-eq (sym (add-assoc (2 ^ 31) (k * 2 ^ 23) (m * up e * 2 ^ 149 / down e / 2 ^ k)))) h))
 bits-from-within (fin false m e) n h = refl
 
 pub bits-from-beyond : (x : Float) → T (fits binary32 x) → weightLimit < toBits binary32 x → Absent ≡ bitsFrom x
@@ -228,14 +234,16 @@ value-beyond limit bits h = cond-false (ofBits binary32 bits) zeroWeight (lt-leb
 -- values within a limit are in the order of their bits
 pub value-order : (limit a b : ℕ) → limit ≤ weightLimit → a ≤ limit → b ≤ limit → lt (valueOf limit a) (valueOf limit b) ≡ ltb a b
 value-order limit a b h p q =
-    ap (λ (x : Float). lt x (valueOf limit b)) (value-is limit a p) ∙ ap (lt (ofBits binary32 a)) (value-is limit b q) ∙ bits-order a b (le-trans p h) (le-trans q h)
+    ap (λ (x : Float). lt x (valueOf limit b)) (value-is limit a p) ∙ ap (lt (ofBits binary32 a)) (value-is limit b q)
+    ∙ bits-order a b (le-trans p h) (le-trans q h)
 
 -- the answer to a value's bits, and the value
 pub value-at : (limit bits : ℕ) (w : Float) → valueFrom limit bits ≡ MaybeWeight·is.At w → w ≡ valueOf limit bits
 unfolding valueFrom valueOf
 value-at limit bits w e = go (leb bits limit) e
   where
-    go : (t : Bool) → cond t (MaybeWeight·is.At (ofBits binary32 bits)) MaybeWeight·is.Absent ≡ MaybeWeight·is.At w → w ≡ cond t (ofBits binary32 bits) zeroWeight
+    go : (t : Bool) → cond t (MaybeWeight·is.At (ofBits binary32 bits)) MaybeWeight·is.Absent ≡ MaybeWeight·is.At w
+        → w ≡ cond t (ofBits binary32 bits) zeroWeight
     go true e = cc
     go false e = cc
 
@@ -243,7 +251,8 @@ pub value-absent : (limit bits : ℕ) → valueFrom limit bits ≡ MaybeWeight·
 unfolding valueFrom valueOf
 value-absent limit bits e = go (leb bits limit) e
   where
-    go : (t : Bool) → cond t (MaybeWeight·is.At (ofBits binary32 bits)) MaybeWeight·is.Absent ≡ MaybeWeight·is.Absent → zeroWeight ≡ cond t (ofBits binary32 bits) zeroWeight
+    go : (t : Bool) → cond t (MaybeWeight·is.At (ofBits binary32 bits)) MaybeWeight·is.Absent ≡ MaybeWeight·is.Absent
+        → zeroWeight ≡ cond t (ofBits binary32 bits) zeroWeight
     go true e = cc
     go false e = refl
 

@@ -15,7 +15,8 @@ unfolding valueOf ofBits
 value = valueOf weightLimit
 
 -- the units of 0, the smallest weight, 1.0, the largest finite one and infinity; and of bits above infinity's
-units-cases : map (λ (b : ℕ). unitsOf (value b)) (0 ∷ 1 ∷ 1065353216 ∷ 2139095039 ∷ 2139095040 ∷ 2139095041 ∷ []) ≡ 0 ∷ 1 ∷ 2 ^ 149 ∷ (2 ^ 24 - 1) * 2 ^ 253 ∷ 2 ^ 277 ∷ 0 ∷ []
+units-cases : map (λ (b : ℕ). unitsOf (value b)) (0 ∷ 1 ∷ 1065353216 ∷ 2139095039 ∷ 2139095040 ∷ 2139095041 ∷ [])
+    ≡ 0 ∷ 1 ∷ 2 ^ 149 ∷ (2 ^ 24 - 1) * 2 ^ 253 ∷ 2 ^ 277 ∷ 0 ∷ []
 unfolding value unitsOf
 units-cases = refl
 
@@ -39,7 +40,8 @@ unfolding toBits normalised value div lt ofInt
 normalised-cases = refl
 
 -- 0.5, 0.009, the smallest weight, 999999.0, 1000000.0 and infinity
-figure-cases : map (λ (b : ℕ). figure (value b)) (1056964608 ∷ 1007908028 ∷ 1 ∷ 1232348144 ∷ 1232348160 ∷ 2139095040 ∷ []) ≡ 500 ∷ 8 ∷ 0 ∷ 999999000 ∷ 999999999 ∷ 999999999 ∷ []
+figure-cases : map (λ (b : ℕ). figure (value b)) (1056964608 ∷ 1007908028 ∷ 1 ∷ 1232348144 ∷ 1232348160 ∷ 2139095040 ∷ [])
+    ≡ 500 ∷ 8 ∷ 0 ∷ 999999000 ∷ 999999999 ∷ 999999999 ∷ []
 unfolding figure value unitsOf
 figure-cases = refl
 
@@ -48,6 +50,7 @@ cost : ℕ → ℕ → ℕ
 unfolding spillCost toBits sub ofBits
 cost kind field = toBits binary32 (spillCost reloadCost moveCost kind field)
 
-cost-cases : cost 0 0 ∷ cost 1 1 ∷ cost 2 0 ∷ cost 3 0 ∷ cost 4 1077936128 ∷ cost 7 1077936128 ∷ cost 8 0 ∷ cost 9 0 ∷ [] ≡ 1065353216 ∷ 0 ∷ 1056964608 ∷ 1056964608 ∷ 1077936128 ∷ 1077936128 ∷ 0 ∷ 0 ∷ []
+cost-cases : cost 0 0 ∷ cost 1 1 ∷ cost 2 0 ∷ cost 3 0 ∷ cost 4 1077936128 ∷ cost 7 1077936128 ∷ cost 8 0 ∷ cost 9 0 ∷ []
+    ≡ 1065353216 ∷ 0 ∷ 1056964608 ∷ 1056964608 ∷ 1077936128 ∷ 1077936128 ∷ 0 ∷ 0 ∷ []
 unfolding cost
 cost-cases = refl

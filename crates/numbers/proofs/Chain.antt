@@ -2,7 +2,9 @@
 use mathlib.Core.Path.{_≡_, refl, sym, ap, _∙_, subst, subst₂}
 use mathlib.Core.List.{List, [], _∷_}
 use Prim.Native.Nat.{ℕ, zero, suc, _+_, _-_, _*_, _^_, _≤_, _<_, zero-le, suc-le-suc}
-use native.Mathlib.Nat.{le-refl, le-trans, le-of-eq, le-of-lt, le-antisymm, lt-of-lt-of-le, lt-of-le-of-lt, lt-of-not-le, not-le-of-lt, lt-irrefl, lt-trans, le-of-suc-le-suc, not-suc-le-zero, one-mul, mul-comm, mul-assoc, mul-left-comm, mul-le-mul, mul-le-mul-left, mul-le-mul-right, mul-lt-mul-of-pos-right, pow-zero, pow-suc, pow-le-pow-left, one-le-pow}
+use native.Mathlib.Nat.{le-refl, le-trans, le-of-eq, le-of-lt, le-antisymm, lt-of-lt-of-le, lt-of-le-of-lt, lt-of-not-le, not-le-of-lt, lt-irrefl, lt-trans}
+use native.Mathlib.Nat.{le-of-suc-le-suc, not-suc-le-zero, one-mul, mul-comm, mul-assoc, mul-left-comm, mul-le-mul, mul-le-mul-left, mul-le-mul-right}
+use native.Mathlib.Nat.{mul-lt-mul-of-pos-right, pow-zero, pow-suc, pow-le-pow-left, one-le-pow}
 use native.Mathlib.Omega.{arith}
 use lib.Dec.{T, lit≤, lit<}
 use lib.Pow.{pow-add}
@@ -20,7 +22,8 @@ after-first n h w [] f c j l = absurd (not-suc-le-zero l)
 after-first n h w (v ∷ vs) f c zero l = exceeds-rises n h (c .0) (finite f) (c .1)
 after-first n h w (v ∷ vs) f c (suc j) l = lt-trans (exceeds-rises n h (c .0) (finite f) (c .1)) (after-first n h v vs (c .0) (c .2) j (le-of-suc-le-suc l))
 
-rises-from : (n : ℕ) → n ≤ 2048 → (w : Float) (ws : List Float) → Finite w → ChainFrom n w ws → (i j : ℕ) → i < j → j < suc (length ws) → unitsOf (getD (w ∷ ws) i nan) < unitsOf (getD (w ∷ ws) j nan)
+rises-from : (n : ℕ) → n ≤ 2048 → (w : Float) (ws : List Float) → Finite w → ChainFrom n w ws → (i j : ℕ) → i < j → j < suc (length ws)
+    → unitsOf (getD (w ∷ ws) i nan) < unitsOf (getD (w ∷ ws) j nan)
 rises-from n h w ws f c i zero l m = absurd (not-suc-le-zero l)
 rises-from n h w ws f c zero (suc j) l m = after-first n h w ws f c j (le-of-suc-le-suc m)
 rises-from n h w [] f c (suc i) (suc j) l m = absurd (not-suc-le-zero (le-of-suc-le-suc m))
@@ -60,7 +63,8 @@ growth n h w [] f c = le-of-eq (ap (λ (z : ℕ). unitsOf w * z) (pow-zero 2048 
 growth n h w (v ∷ vs) f c =
     let k = length vs in
     le-trans (le-of-eq (ap (λ (z : ℕ). unitsOf w * z) (pow-suc 2048 k)))
-    (le-trans (step 2048 n (unitsOf w) (unitsOf v) (2048 ^ k) (n ^ k) (unitsOf (last v vs)) (exceeds-exact n h (c .0) (finite f) (c .1)) (growth n h v vs (c .0) (c .2)))
+    (le-trans (step 2048 n (unitsOf w) (unitsOf v) (2048 ^ k) (n ^ k) (unitsOf (last v vs)) (exceeds-exact n h (c .0) (finite f) (c .1))
+    (growth n h v vs (c .0) (c .2)))
     (le-of-eq (ap (λ (z : ℕ). unitsOf (last v vs) * z) (sym (pow-suc n k)))))
 
 last-below : (n : ℕ) (w : Float) (ws : List Float) → Finite w → ChainFrom n w ws → unitsOf (last w ws) < infiniteUnits
@@ -91,7 +95,8 @@ steps-few p q t m k a z le Q big A Z g =
 from-above-zero : (n : ℕ) → n ≤ 2007 → (w : Float) (ws : List Float) → Finite w → 0 < unitsOf w → ChainFrom n w ws → length ws < longest
 from-above-zero n h w ws f z c =
     let k = length ws in
-    let g : unitsOf w * 2048 ^ k ≤ unitsOf (last w ws) * 2007 ^ k = le-trans (growth n (le-trans h (lit≤ tt)) w ws f c) (mul-le-mul-left (unitsOf (last w ws)) (pow-le-pow-left h k)) in
+    let g : unitsOf w * 2048 ^ k ≤ unitsOf (last w ws) * 2007 ^ k = le-trans (growth n (le-trans h (lit≤ tt)) w ws f c)
+    (mul-le-mul-left (unitsOf (last w ws)) (pow-le-pow-left h k)) in
     steps-few 2048 2007 infiniteUnits longest k (unitsOf w) (unitsOf (last w ws)) (lit≤ tt) (lit< tt) room z (last-below n w ws f c) g
 
 pub chain-few : (n : ℕ) → n ≤ 2007 → (w : Float) (ws : List Float) → 0 < unitsOf w → Chain n (w ∷ ws) → length (w ∷ ws) ≤ longest
@@ -102,4 +107,5 @@ pub chain-bound : (n : ℕ) → n ≤ 2007 → (ws : List Float) → Chain n ws 
 chain-bound n h [] c = lit≤ tt
 chain-bound n h (w ∷ []) c = lit≤ tt
 chain-bound n h (w ∷ (v ∷ vs)) c =
-    le-trans (suc-le-suc (from-above-zero n h v vs (c .1 .0) (exceeds-above-zero n (le-trans h (lit≤ tt)) (c .1 .0) (finite (c .0)) (c .1 .1)) (c .1 .2))) (lit≤ tt)
+    le-trans (suc-le-suc (from-above-zero n h v vs (c .1 .0) (exceeds-above-zero n (le-trans h (lit≤ tt)) (c .1 .0) (finite (c .0)) (c .1 .1)) (c .1 .2)))
+    (lit≤ tt)

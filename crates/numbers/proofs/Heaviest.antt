@@ -67,7 +67,8 @@ among-weight [] p w a = absurd a
 among-weight (v ∷ vs) p w a = elim a [ inl e ↦ subst Weight (sym e) (p .0) | inr b ↦ among-weight vs (p .1) w b ]
 
 -- and the only weight that is both
-pub heaviest-only : (ws : List Float) → Weights ws → (h : Float) → ((h ≡ zeroWeight) ⊎ Among h ws) → ((w : Float) → Among w ws → unitsOf w ≤ unitsOf h) → h ≡ heaviest ws
+pub heaviest-only : (ws : List Float) → Weights ws → (h : Float) → ((h ≡ zeroWeight) ⊎ Among h ws) → ((w : Float) → Among w ws → unitsOf w ≤ unitsOf h)
+    → h ≡ heaviest ws
 heaviest-only ws p h a b =
     units-inj weight (heaviest-weight ws p) (le-antisymm upper lower)
   where
@@ -100,4 +101,5 @@ heaviest-append xs ys p q =
     go [] p = nothing (unitsOf (heaviest ys)) (unitsOf zeroWeight) zero-units
     go (x ∷ xs) p =
         heavier-units (heaviest-weight (xs ++ ys) (weights-append xs ys (p .1) q)) (p .0)
-        ∙ regroup (unitsOf (heaviest ys)) (unitsOf (heaviest xs)) (unitsOf x) (unitsOf (heaviest (xs ++ ys))) (unitsOf (heaviest (x ∷ xs))) (go xs (p .1)) (heavier-units (heaviest-weight xs (p .1)) (p .0))
+        ∙ regroup (unitsOf (heaviest ys)) (unitsOf (heaviest xs)) (unitsOf x) (unitsOf (heaviest (xs ++ ys))) (unitsOf (heaviest (x ∷ xs))) (go xs (p .1))
+        (heavier-units (heaviest-weight xs (p .1)) (p .0))

@@ -1,7 +1,8 @@
 -- The normalised weight is finite, and the weight test gives the exact inequality over units
 use mathlib.Core.Path.{_≡_, refl, sym, ap, _∙_, subst, subst₂}
 use Prim.Native.Nat.{ℕ, suc, _+_, _*_, _^_, _≤_, _<_, zero-le}
-use native.Mathlib.Nat.{le-trans, le-of-eq, lt-of-lt-of-le, lt-of-le-of-lt, mul-comm, mul-assoc, mul-left-comm, mul-right-comm, mul-one, mul-pos, mul-lt-mul-of-pos-right, mul-le-mul-right, lt-of-mul-lt-mul-right}
+use native.Mathlib.Nat.{le-trans, le-of-eq, lt-of-lt-of-le, lt-of-le-of-lt, mul-comm, mul-assoc, mul-left-comm, mul-right-comm, mul-one, mul-pos}
+use native.Mathlib.Nat.{mul-lt-mul-of-pos-right, mul-le-mul-right, lt-of-mul-lt-mul-right}
 use native.Mathlib.Omega.{arith}
 use mathlib.Core.Bool.{Bool, true, false, not, cond}
 use lib.IntN.{pos}
@@ -25,7 +26,8 @@ largest-finite = number tt
 capped-finite : (x : Float) → Weight x → Finite (cond (lt largest x) largest x)
 capped-finite x p =
     cond-both Finite (lt largest x) largest x (λ _. largest-finite)
-    (λ t. finite-of-units p (lt-of-le-of-lt (nltb→le (unitsOf largest) (unitsOf x) (subst (λ (s : Bool). T (not s)) (units-order (finite largest-finite) p) t)) (units-below largest-finite)))
+    (λ t. finite-of-units p (lt-of-le-of-lt (nltb→le (unitsOf largest) (unitsOf x) (subst (λ (s : Bool). T (not s)) (units-order (finite largest-finite) p) t))
+    (units-below largest-finite)))
 
 -- a count of 1 to 2 to the power 24 is a finite weight above zero
 count-pos : (n : ℕ) → 0 < n → n ≤ 2 ^ 24 → 0 < unitsOf (ofInt binary32 (pos n))
@@ -46,11 +48,14 @@ unfolding fraction
 fraction-value n h =
     ap unitsOf (round-same binary32 false n 2048 (n * 2 ^ 138) (2 ^ 149) (lit< tt) (pow-pos 149) (in-units n))
     ∙ value-units (round binary32 false (n * 2 ^ 138) (2 ^ 149)) (n * 2 ^ 138)
-    (round-exact binary32 false (n * 2 ^ 138) (2 ^ 149) n 138 (pow-pos 149) (lt-of-le-of-lt h (lit< tt)) (lt-of-le-of-lt (mul-le-mul-right (2 ^ 138) h) (lit< tt)) refl)
+    (round-exact binary32 false (n * 2 ^ 138) (2 ^ 149) n 138 (pow-pos 149) (lt-of-le-of-lt h (lit< tt))
+    (lt-of-le-of-lt (mul-le-mul-right (2 ^ 138) h) (lit< tt)) refl)
 
 fraction-finite : (n : ℕ) → n ≤ 2048 → Finite (fraction n)
 unfolding fraction
-fraction-finite n h = finite-of-units (round-weight n 2048) (subst (λ (u : ℕ). u < infiniteUnits) (sym (fraction-value n h)) (lt-of-le-of-lt (mul-le-mul-right (2 ^ 138) h) (lit< tt)))
+fraction-finite n h =
+    finite-of-units (round-weight n 2048) (subst (λ (u : ℕ). u < infiniteUnits) (sym (fraction-value n h))
+    (lt-of-le-of-lt (mul-le-mul-right (2 ^ 138) h) (lit< tt)))
 
 -- ---- the weight test over units: w met, v the weight that passes
 cancel : (w v n p : ℕ) → 0 < p → w * (p * 2048 * (p * 2048)) < v * (n * p) * (p * 2048) → 2048 * w < n * v
@@ -58,7 +63,9 @@ cancel w v n p P h =
     lt-of-mul-lt-mul-right p (lt-of-mul-lt-mul-right (p * 2048) (subst₂ (λ (x y : ℕ). x < y) (left w p) (right v n p) h))
   where
     left : (w p : ℕ) → w * (p * 2048 * (p * 2048)) ≡ 2048 * w * p * (p * 2048)
-    left w p = sym (mul-assoc w (p * 2048) (p * 2048)) ∙ ap (λ (z : ℕ). z * (p * 2048)) (mul-left-comm w p 2048 ∙ mul-comm p (w * 2048) ∙ ap (λ (z : ℕ). z * p) (mul-comm w 2048))
+    left w p =
+        sym (mul-assoc w (p * 2048) (p * 2048)) ∙ ap (λ (z : ℕ). z * (p * 2048))
+        (mul-left-comm w p 2048 ∙ mul-comm p (w * 2048) ∙ ap (λ (z : ℕ). z * p) (mul-comm w 2048))
 
     right : (v n p : ℕ) → v * (n * p) * (p * 2048) ≡ n * v * p * (p * 2048)
     right v n p = ap (λ (z : ℕ). z * (p * 2048)) (mul-left-comm v n p ∙ sym (mul-assoc n v p))
@@ -70,11 +77,13 @@ exceeds-exact {v} {w} n h f p t =
     let a = unitsOf v * unitsOf (fraction n) in
     let r : unitsOf w < rounded a (2 ^ 149 * 2 ^ 149) = subst (λ (u : ℕ). unitsOf w < u) (ap unitsOf (product-round f g)) (units-lt p (product-weight f g) t) in
     let e : unitsOf w * (2 ^ 149 * 2 ^ 149) < a * 2 ^ 149 = below-round p a (2 ^ 149 * 2 ^ 149) (mul-pos (pow-pos 149) (pow-pos 149)) r in
-    cancel (unitsOf w) (unitsOf v) n (2 ^ 138) (pow-pos 138) (subst (λ (u : ℕ). unitsOf w * (2 ^ 149 * 2 ^ 149) < unitsOf v * u * 2 ^ 149) (fraction-value n h) e)
+    cancel (unitsOf w) (unitsOf v) n (2 ^ 138) (pow-pos 138)
+    (subst (λ (u : ℕ). unitsOf w * (2 ^ 149 * 2 ^ 149) < unitsOf v * u * 2 ^ 149) (fraction-value n h) e)
 
 -- so what passes is strictly heavier, and above zero
 rises : (w v n : ℕ) → n ≤ 2048 → 2048 * w < n * v → w < v
-rises w v n h e = lt-of-mul-lt-mul-right 2048 (lt-of-lt-of-le (lt-of-le-of-lt (le-of-eq (mul-comm w 2048)) e) (le-trans (mul-le-mul-right v h) (le-of-eq (mul-comm 2048 v))))
+rises w v n h e =
+    lt-of-mul-lt-mul-right 2048 (lt-of-lt-of-le (lt-of-le-of-lt (le-of-eq (mul-comm w 2048)) e) (le-trans (mul-le-mul-right v h) (le-of-eq (mul-comm 2048 v))))
 
 pub exceeds-rises : {v w : Float} (n : ℕ) → n ≤ 2048 → Finite v → Weight w → T (exceeds n v w) → unitsOf w < unitsOf v
 exceeds-rises {v} {w} n h f p t = rises (unitsOf w) (unitsOf v) n h (exceeds-exact n h f p t)

@@ -1,7 +1,8 @@
 -- Sum, difference, product and quotient of weights: each is one rounding of the exact units, and a weight again
 use mathlib.Core.Path.{_≡_, refl, sym, ap, _∙_, subst}
 use Prim.Native.Nat.{ℕ, zero, suc, _+_, _-_, _*_, _/_, _^_, _≤_, _<_}
-use native.Mathlib.Nat.{le-trans, le-of-eq, le-antisymm, le-of-lt, lt-of-le-of-lt, lt-irrefl, add-comm, add-mul, mul-sub, mul-comm, mul-one, mul-assoc, mul-right-comm, mul-mul-mul-comm, mul-pos, mul-div-cancel, mul-le-mul-right, le-of-mul-le-mul-right}
+use native.Mathlib.Nat.{le-trans, le-of-eq, le-antisymm, le-of-lt, lt-of-le-of-lt, lt-irrefl, add-comm, add-mul, mul-sub, mul-comm, mul-one, mul-assoc}
+use native.Mathlib.Nat.{mul-right-comm, mul-mul-mul-comm, mul-pos, mul-div-cancel, mul-le-mul-right, le-of-mul-le-mul-right}
 use native.Mathlib.Omega.{arith}
 use mathlib.Core.Bool.{Bool, true, false, not, _&&_, cond}
 use lib.IntN.{ℤ, pos, negsuc}
@@ -35,13 +36,16 @@ module _ (l x y a b d e : ℕ) (p : x * d ≡ a * l) (q : y * e ≡ b * l) where
   sum-counts = add-mul (a * e) (b * d) l ∙ ap (λ (z : ℕ). z + b * d * l) left-part ∙ ap (λ (z : ℕ). x * (d * e) + z) right-part ∙ sym (add-mul x y (d * e))
 
   difference-counts : (a * e - b * d) * l ≡ (x - y) * (d * e)
-  difference-counts = sub-times (a * e) (b * d) l ∙ ap (λ (z : ℕ). z - b * d * l) left-part ∙ ap (λ (z : ℕ). x * (d * e) - z) right-part ∙ sym (sub-times x y (d * e))
+  difference-counts =
+      sub-times (a * e) (b * d) l ∙ ap (λ (z : ℕ). z - b * d * l) left-part ∙ ap (λ (z : ℕ). x * (d * e) - z) right-part ∙ sym (sub-times x y (d * e))
 
   product-counts : a * b * (l * l) ≡ x * y * (d * e)
   product-counts = mul-mul-mul-comm a b l l ∙ ap (λ (z : ℕ). z * (b * l)) (sym p) ∙ ap (λ (z : ℕ). x * d * z) (sym q) ∙ mul-mul-mul-comm x d y e
 
   quotient-counts : a * e * y ≡ x * (b * d)
-  quotient-counts = mul-assoc a e y ∙ ap (λ (z : ℕ). a * z) (mul-comm e y ∙ q ∙ mul-comm b l) ∙ sym (mul-assoc a l b) ∙ ap (λ (z : ℕ). z * b) (sym p) ∙ mul-assoc x d b ∙ ap (λ (z : ℕ). x * z) (mul-comm d b)
+  quotient-counts =
+      mul-assoc a e y ∙ ap (λ (z : ℕ). a * z) (mul-comm e y ∙ q ∙ mul-comm b l) ∙ sym (mul-assoc a l b) ∙ ap (λ (z : ℕ). z * b) (sym p) ∙ mul-assoc x d b
+      ∙ ap (λ (z : ℕ). x * z) (mul-comm d b)
 
 -- ---- finite operands: one rounding of the exact units
 pub sum-round : {x y : Float} → Finite x → Finite y → add binary32 x y ≡ round binary32 false (unitsOf x + unitsOf y) (2 ^ 149)
@@ -57,14 +61,16 @@ unfolding mul
 product-round (number {m} {e} f) (number {m = n} {e = d} g) =
     let x = unitsOf (fin false m e) in
     let y = unitsOf (fin false n d) in
-    round-same binary32 false (m * up e * (n * up d)) (down e * down d) (x * y) (2 ^ 149 * 2 ^ 149) (mul-pos (down-pos e) (down-pos d)) (mul-pos (pow-pos 149) (pow-pos 149))
+    round-same binary32 false (m * up e * (n * up d)) (down e * down d) (x * y) (2 ^ 149 * 2 ^ 149) (mul-pos (down-pos e) (down-pos d))
+    (mul-pos (pow-pos 149) (pow-pos 149))
     (product-counts (2 ^ 149) x y (m * up e) (n * up d) (down e) (down d) (units-exact m e f) (units-exact n d g))
 
 -- a finite weight above zero has digits
 digits-pos : (n : ℕ) (d : ℤ) → T (fits binary32 (fin false n d)) → 0 < unitsOf (fin false n d) → 0 < n
 digits-pos n d g h = first-pos n (up d) (first-pos (n * up d) (2 ^ 149) (subst (λ (z : ℕ). 0 < z) (units-exact n d g) (mul-pos h (down-pos d))))
 
-quotient-fin : (m : ℕ) (e : ℤ) (n : ℕ) (d : ℤ) → 0 < n → div binary32 (fin false m e) (fin false n d) ≡ round binary32 false (m * up e * down d) (n * up d * down e)
+quotient-fin : (m : ℕ) (e : ℤ) (n : ℕ) (d : ℤ) → 0 < n → div binary32 (fin false m e) (fin false n d)
+    ≡ round binary32 false (m * up e * down d) (n * up d * down e)
 unfolding div
 quotient-fin m e zero d h = absurd (lt-irrefl 0 h)
 quotient-fin m e (suc n) d h = cond-false (cond (eqb m 0) nan (inf false)) (round binary32 false (m * up e * down d) (suc n * up d * down e)) (eqb·suc-zero n)
@@ -133,7 +139,8 @@ unfolding rounded
 difference-finite {x} {y} f g h =
     let e = difference-round f g h in
     let w : Weight (sub binary32 x y) = subst Weight (sym e) (round-weight (unitsOf x - unitsOf y) (2 ^ 149)) in
-    let b : unitsOf (sub binary32 x y) ≤ unitsOf x = le-trans (le-of-eq (ap unitsOf e)) (round-at-most (finite f) (unitsOf x - unitsOf y) (2 ^ 149) (pow-pos 149) (mul-le-mul-right (2 ^ 149) (less (unitsOf x) (unitsOf y)))) in
+    let b : unitsOf (sub binary32 x y) ≤ unitsOf x = le-trans (le-of-eq (ap unitsOf e))
+    (round-at-most (finite f) (unitsOf x - unitsOf y) (2 ^ 149) (pow-pos 149) (mul-le-mul-right (2 ^ 149) (less (unitsOf x) (unitsOf y)))) in
     (finite-of-units w (lt-of-le-of-lt b (units-below f)), b)
   where
     less : (a b : ℕ) → a - b ≤ a
@@ -143,7 +150,8 @@ difference-finite {x} {y} f g h =
 rounded-infinite : (n : ℕ) → infiniteUnits ≤ n → rounded n (2 ^ 149) ≡ infiniteUnits
 rounded-infinite n h =
     le-antisymm (unfold rounded in units-most (round-weight n (2 ^ 149)))
-    (le-trans (le-of-eq (sym units-infinite)) (round-at-least infinite n (2 ^ 149) (pow-pos 149) (mul-le-mul-right (2 ^ 149) (le-trans (le-of-eq units-infinite) h))))
+    (le-trans (le-of-eq (sym units-infinite)) (round-at-least infinite n (2 ^ 149) (pow-pos 149)
+    (mul-le-mul-right (2 ^ 149) (le-trans (le-of-eq units-infinite) h))))
 
 grows-left : (a b : ℕ) → a ≤ a + b
 grows-left a b = omega arith
@@ -153,9 +161,11 @@ grows-right a b = omega arith
 
 pub sum-units : {x y : Float} → Weight x → Weight y → unitsOf (add binary32 x y) ≡ rounded (unitsOf x + unitsOf y) (2 ^ 149)
 sum-units {y = y} infinite q =
-    ap unitsOf (sum-infinite-left q) ∙ units-infinite ∙ sym (rounded-infinite (unitsOf (inf false) + unitsOf y) (le-trans (le-of-eq (sym units-infinite)) (grows-left (unitsOf (inf false)) (unitsOf y))))
+    ap unitsOf (sum-infinite-left q) ∙ units-infinite ∙ sym (rounded-infinite (unitsOf (inf false) + unitsOf y)
+    (le-trans (le-of-eq (sym units-infinite)) (grows-left (unitsOf (inf false)) (unitsOf y))))
 sum-units {x} (finite f) infinite =
-    ap unitsOf (sum-infinite-right f) ∙ units-infinite ∙ sym (rounded-infinite (unitsOf x + unitsOf (inf false)) (le-trans (le-of-eq (sym units-infinite)) (grows-right (unitsOf x) (unitsOf (inf false)))))
+    ap unitsOf (sum-infinite-right f) ∙ units-infinite ∙ sym
+    (rounded-infinite (unitsOf x + unitsOf (inf false)) (le-trans (le-of-eq (sym units-infinite)) (grows-right (unitsOf x) (unitsOf (inf false)))))
 sum-units (finite f) (finite g) = unfold rounded in ap unitsOf (sum-round f g)
 
 -- a sum commutes, and is no lighter than its first part
@@ -165,7 +175,9 @@ sum-commutes {x} {y} p q =
     (sum-units p q ∙ ap (λ (n : ℕ). rounded n (2 ^ 149)) (add-comm (unitsOf x) (unitsOf y)) ∙ sym (sum-units q p))
 
 pub sum-grows : {x y : Float} → Weight x → Weight y → unitsOf x ≤ unitsOf (add binary32 x y)
-sum-grows {x} {y} p q = le-trans (round-at-least p (unitsOf x + unitsOf y) (2 ^ 149) (pow-pos 149) (mul-le-mul-right (2 ^ 149) (grows-left (unitsOf x) (unitsOf y)))) (le-of-eq (sym (sum-units p q)))
+sum-grows {x} {y} p q =
+    le-trans (round-at-least p (unitsOf x + unitsOf y) (2 ^ 149) (pow-pos 149) (mul-le-mul-right (2 ^ 149) (grows-left (unitsOf x) (unitsOf y))))
+    (le-of-eq (sym (sum-units p q)))
 
 -- ---- whole numbers
 value-whole : (x : Float) (n : ℕ) → HasValue x false n 1 → unitsOf x ≡ n * 2 ^ 149
@@ -173,7 +185,8 @@ unfolding unitsOf
 value-whole nan n v = absurd v
 value-whole (inf s) n v = absurd v
 value-whole (fin s m e) n v =
-    ap (λ (z : ℕ). z * 2 ^ 149 / down e) (sym (mul-one (m * up e)) ∙ v .1) ∙ ap (λ (z : ℕ). z / down e) (mul-right-comm n (down e) (2 ^ 149)) ∙ mul-div-cancel (n * 2 ^ 149) (down-pos e)
+    ap (λ (z : ℕ). z * 2 ^ 149 / down e) (sym (mul-one (m * up e)) ∙ v .1) ∙ ap (λ (z : ℕ). z / down e) (mul-right-comm n (down e) (2 ^ 149))
+    ∙ mul-div-cancel (n * 2 ^ 149) (down-pos e)
 
 pub whole-weight : (n : ℕ) → Weight (ofInt binary32 (pos n))
 unfolding ofInt
@@ -184,7 +197,8 @@ unfolding ofInt
 whole-number n h = value-whole (round binary32 false n 1) n (round-whole binary32 false n h)
 
 pub whole-finite : (n : ℕ) → n ≤ 2 ^ 24 → Finite (ofInt binary32 (pos n))
-whole-finite n h = finite-of-units (whole-weight n) (subst (λ (u : ℕ). u < infiniteUnits) (sym (whole-number n h)) (lt-of-le-of-lt (mul-le-mul-right (2 ^ 149) h) (lit< tt)))
+whole-finite n h =
+    finite-of-units (whole-weight n) (subst (λ (u : ℕ). u < infiniteUnits) (sym (whole-number n h)) (lt-of-le-of-lt (mul-le-mul-right (2 ^ 149) h) (lit< tt)))
 
 -- a whole number in two parts, high * 65536 + low: the product is exact, so the sum is the one rounding of the whole number
 scale : Float
@@ -205,19 +219,22 @@ high-units h l =
     (product-round (whole-finite h g) scale-finite
     ∙ ap (λ (x : ℕ). round binary32 false (x * unitsOf scale) (2 ^ 149 * 2 ^ 149)) (whole-number h g)
     ∙ ap (λ (y : ℕ). round binary32 false (h * 2 ^ 149 * y) (2 ^ 149 * 2 ^ 149)) scale-units
-    ∙ round-same binary32 false (h * 2 ^ 149 * 2 ^ 165) (2 ^ 149 * 2 ^ 149) (h * 2 ^ 165) (2 ^ 149) (mul-pos (pow-pos 149) (pow-pos 149)) (pow-pos 149) (regroup h (2 ^ 149) (2 ^ 165)))
+    ∙ round-same binary32 false (h * 2 ^ 149 * 2 ^ 165) (2 ^ 149 * 2 ^ 149) (h * 2 ^ 165) (2 ^ 149) (mul-pos (pow-pos 149) (pow-pos 149)) (pow-pos 149)
+    (regroup h (2 ^ 149) (2 ^ 165)))
     ∙ value-units (round binary32 false (h * 2 ^ 165) (2 ^ 149)) (h * 2 ^ 165)
     (round-exact binary32 false (h * 2 ^ 165) (2 ^ 149) h 165 (pow-pos 149) l (lt-of-le-of-lt (mul-le-mul-right (2 ^ 165) g) (lit< tt)) refl)
   where
     regroup : (h l k : ℕ) → h * l * k * l ≡ h * k * (l * l)
     regroup h l k = ap (λ (z : ℕ). z * l) (mul-right-comm h l k) ∙ mul-assoc (h * k) l l
 
-pub whole-parts : (n h r : ℕ) → h < 2 ^ 24 → r ≤ 2 ^ 24 → h * 65536 + r ≡ n → add binary32 (mul binary32 (ofInt binary32 (pos h)) (ofBits binary32 1199570944)) (ofInt binary32 (pos r)) ≡ ofInt binary32 (pos n)
+pub whole-parts : (n h r : ℕ) → h < 2 ^ 24 → r ≤ 2 ^ 24 → h * 65536 + r ≡ n
+    → add binary32 (mul binary32 (ofInt binary32 (pos h)) (ofBits binary32 1199570944)) (ofInt binary32 (pos r)) ≡ ofInt binary32 (pos n)
 unfolding scale
 whole-parts n h r l k e =
     let high = mul binary32 (ofInt binary32 (pos h)) scale in
     let u = high-units h l in
-    let f : Finite high = finite-of-units (product-weight (whole-finite h (le-of-lt l)) scale-finite) (subst (λ (x : ℕ). x < infiniteUnits) (sym u) (lt-of-le-of-lt (mul-le-mul-right (2 ^ 165) (le-of-lt l)) (lit< tt))) in
+    let f : Finite high = finite-of-units (product-weight (whole-finite h (le-of-lt l)) scale-finite)
+    (subst (λ (x : ℕ). x < infiniteUnits) (sym u) (lt-of-le-of-lt (mul-le-mul-right (2 ^ 165) (le-of-lt l)) (lit< tt))) in
     sum-round f (whole-finite r k)
     ∙ ap (λ (x : ℕ). round binary32 false (x + unitsOf (ofInt binary32 (pos r))) (2 ^ 149)) u
     ∙ ap (λ (x : ℕ). round binary32 false (h * 2 ^ 165 + x) (2 ^ 149)) (whole-number r k)

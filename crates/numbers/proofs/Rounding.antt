@@ -36,7 +36,8 @@ odd-plain d (suc q) k l = tt
 
 units-plain : (q k : ℕ) → T (plain (units binary32 false q k))
 unfolding units
-units-plain q k = cond-both (λ (x : Float). T (plain x)) (ltb (q * 2 ^ k) infiniteUnits) (odd 25 false q k 149) (inf false) (λ _. odd-plain 25 q k 149) (λ _. tt)
+units-plain q k =
+    cond-both (λ (x : Float). T (plain x)) (ltb (q * 2 ^ k) infiniteUnits) (odd 25 false q k 149) (inf false) (λ _. odd-plain 25 q k 149) (λ _. tt)
 
 pub round-weight : (a c : ℕ) → Weight (round binary32 false a c)
 round-weight a c =
@@ -90,7 +91,8 @@ round-fixed (finite (number {m} {e} f)) =
     let u = unitsOf (fin false m e) in
     let w = units-whole m e f in
     value-units (round binary32 false u (2 ^ 149)) u
-    (round-exact binary32 false u (2 ^ 149) m (w .0) (pow-pos 149) (fits-holds m e f .digits) (subst (λ (z : ℕ). z < infiniteUnits) (w .1) (units-below (number f))) (ap (λ (z : ℕ). z * 2 ^ 149) (w .1)))
+    (round-exact binary32 false u (2 ^ 149) m (w .0) (pow-pos 149) (fits-holds m e f .digits)
+    (subst (λ (z : ℕ). z < infiniteUnits) (w .1) (units-below (number f))) (ap (λ (z : ℕ). z * 2 ^ 149) (w .1)))
 
 -- ---- against a weight, rounding changes no order
 -- what is at most a weight, exactly, is so when rounded

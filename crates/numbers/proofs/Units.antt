@@ -2,7 +2,8 @@
 use mathlib.Core.Path.{_≡_, refl, sym, ap, _∙_, subst, subst₂}
 use mathlib.Core.Logic.{_⊎_, inl, inr}
 use Prim.Native.Nat.{ℕ, zero, suc, _+_, _-_, _*_, _/_, _%_, _^_, _≤_, _<_}
-use native.Mathlib.Nat.{le-refl, le-trans, le-of-eq, le-of-lt, le-of-suc-le-suc, lt-of-not-le, not-le-of-lt, lt-irrefl, mul-one, one-mul, zero-mul, mul-assoc, mul-right-comm, mul-pos, mul-div-cancel, mul-le-mul-right, mul-lt-mul-of-pos-right, lt-of-mul-lt-mul-right}
+use native.Mathlib.Nat.{le-refl, le-trans, le-of-eq, le-of-lt, le-of-suc-le-suc, lt-of-not-le, not-le-of-lt, lt-irrefl, mul-one, one-mul, zero-mul, mul-assoc}
+use native.Mathlib.Nat.{mul-right-comm, mul-pos, mul-div-cancel, mul-le-mul-right, mul-lt-mul-of-pos-right, lt-of-mul-lt-mul-right}
 use native.Mathlib.Omega.{arith}
 use mathlib.Core.Bool.{Bool, true, false, not, _&&_}
 use lib.IntN.{ℤ, pos, negsuc}
@@ -55,11 +56,13 @@ whole-units l (negsuc k) h =
     (l - suc k, one-mul (2 ^ l) ∙ ap (λ (x : ℕ). 2 ^ x) (sym (rest (suc k) l g)) ∙ pow-add 2 (l - suc k) (suc k))
 
 -- a finite weight's units are m * 2 ^ j for some j, and nothing is cut off
-pub units-whole : (m : ℕ) (e : ℤ) → T (fits binary32 (fin false m e)) → (j : ℕ) × (unitsOf (fin false m e) ≡ m * 2 ^ j) × (unitsOf (fin false m e) * down e ≡ m * up e * 2 ^ 149)
+pub units-whole : (m : ℕ) (e : ℤ) → T (fits binary32 (fin false m e)) → (j : ℕ) × (unitsOf (fin false m e) ≡ m * 2 ^ j)
+    × (unitsOf (fin false m e) * down e ≡ m * up e * 2 ^ 149)
 unfolding unitsOf
 units-whole m e h =
     let w = whole-units 149 e (fits-holds m e h .place) in
-    let exact : m * up e * 2 ^ 149 ≡ m * 2 ^ w .0 * down e = mul-assoc m (up e) (2 ^ 149) ∙ ap (λ (z : ℕ). m * z) (w .1) ∙ sym (mul-assoc m (2 ^ w .0) (down e)) in
+    let exact : m * up e * 2 ^ 149 ≡ m * 2 ^ w .0 * down e = mul-assoc m (up e) (2 ^ 149) ∙ ap (λ (z : ℕ). m * z) (w .1)
+    ∙ sym (mul-assoc m (2 ^ w .0) (down e)) in
     let count : m * up e * 2 ^ 149 / down e ≡ m * 2 ^ w .0 = ap (λ (z : ℕ). z / down e) exact ∙ mul-div-cancel (m * 2 ^ w .0) (down-pos e) in
     (w .0, count, ap (λ (z : ℕ). z * down e) count ∙ sym exact)
 
@@ -75,7 +78,8 @@ below-range u d a l t L D e h = carry a (t * d) u (t * l) l d L (sym e) (mul-rig
 
 -- a finite weight has fewer units than an infinity counts
 pub units-below : {x : Float} → Finite x → unitsOf x < infiniteUnits
-units-below (number {m} {e} h) = below-range (unitsOf (fin false m e)) (down e) (m * up e) (2 ^ 149) (2 ^ 128) (pow-pos 149) (down-pos e) (units-exact m e h) (fits-holds m e h .range)
+units-below (number {m} {e} h) =
+    below-range (unitsOf (fin false m e)) (down e) (m * up e) (2 ^ 149) (2 ^ 128) (pow-pos 149) (down-pos e) (units-exact m e h) (fits-holds m e h .range)
 
 finite-order : (m : ℕ) (e : ℤ) (n : ℕ) (d : ℤ) → T (fits binary32 (fin false m e)) → T (fits binary32 (fin false n d))
     → ltb (m * up e * down d) (n * up d * down e) ≡ ltb (unitsOf (fin false m e)) (unitsOf (fin false n d))
@@ -83,8 +87,10 @@ finite-order m e n d f g =
     let x = unitsOf (fin false m e) in
     let y = unitsOf (fin false n d) in
     let c = down e * down d in
-    let p : m * up e * down d * 2 ^ 149 ≡ x * c = mul-right-comm (m * up e) (down d) (2 ^ 149) ∙ ap (λ (z : ℕ). z * down d) (sym (units-exact m e f)) ∙ mul-assoc x (down e) (down d) in
-    let q : n * up d * down e * 2 ^ 149 ≡ y * c = mul-right-comm (n * up d) (down e) (2 ^ 149) ∙ ap (λ (z : ℕ). z * down e) (sym (units-exact n d g)) ∙ mul-right-comm y (down d) (down e) ∙ mul-assoc y (down e) (down d) in
+    let p : m * up e * down d * 2 ^ 149 ≡ x * c = mul-right-comm (m * up e) (down d) (2 ^ 149) ∙ ap (λ (z : ℕ). z * down d) (sym (units-exact m e f))
+    ∙ mul-assoc x (down e) (down d) in
+    let q : n * up d * down e * 2 ^ 149 ≡ y * c = mul-right-comm (n * up d) (down e) (2 ^ 149) ∙ ap (λ (z : ℕ). z * down e) (sym (units-exact n d g))
+    ∙ mul-right-comm y (down d) (down e) ∙ mul-assoc y (down e) (down d) in
     ltb-same (m * up e * down d) (n * up d * down e) x y
     (carry (m * up e * down d) (n * up d * down e) x y (2 ^ 149) c (pow-pos 149) p q)
     (carry x y (m * up e * down d) (n * up d * down e) c (2 ^ 149) (mul-pos (down-pos e) (down-pos d)) (sym p) (sym q))
@@ -93,8 +99,11 @@ finite-order m e n d f g =
 pub units-order : {x y : Float} → Weight x → Weight y → lt x y ≡ ltb (unitsOf x) (unitsOf y)
 unfolding lt
 units-order infinite infinite = unfold unitsOf in refl
-units-order infinite (finite (number {m = n} {e = d} g)) = unfold unitsOf in sym (is-false (ltb infiniteUnits (unitsOf (fin false n d))) (le→nltb infiniteUnits (unitsOf (fin false n d)) (le-of-lt (units-below (number g)))))
-units-order (finite (number {m} {e} f)) infinite = unfold unitsOf in sym (is-true (ltb (unitsOf (fin false m e)) infiniteUnits) (lt→ltb (unitsOf (fin false m e)) infiniteUnits (units-below (number f))))
+units-order infinite (finite (number {m = n} {e = d} g)) =
+    unfold unitsOf in sym (is-false (ltb infiniteUnits (unitsOf (fin false n d)))
+    (le→nltb infiniteUnits (unitsOf (fin false n d)) (le-of-lt (units-below (number g)))))
+units-order (finite (number {m} {e} f)) infinite =
+    unfold unitsOf in sym (is-true (ltb (unitsOf (fin false m e)) infiniteUnits) (lt→ltb (unitsOf (fin false m e)) infiniteUnits (units-below (number f))))
 units-order (finite (number {m} {e} f)) (finite (number {m = n} {e = d} g)) = finite-order m e n d f g
 
 pub units-lt : {x y : Float} → Weight x → Weight y → T (lt x y) → unitsOf x < unitsOf y

@@ -51,10 +51,12 @@ value-cost bits =
     }
 
 -- a use's cost, at any reload and move cost
-pub spill-cost-cost : {reload move : Float} → Cost reload → Cost move → unitsOf move ≤ unitsOf reload → (kind field : ℕ) → Cost (spillCost reload move kind field)
+pub spill-cost-cost : {reload move : Float} → Cost reload → Cost move → unitsOf move ≤ unitsOf reload → (kind field : ℕ)
+    → Cost (spillCost reload move kind field)
 unfolding spillCost
 spill-cost-cost {reload} {move} r m h kind field =
-    cond-both Cost (ltb kind 2) (cond (eqb field 0) reload zeroWeight) (cond (ltb kind 4) (sub binary32 reload move) (cond (ltb kind 8) (valueOf costLimit field) zeroWeight))
+    cond-both Cost (ltb kind 2) (cond (eqb field 0) reload zeroWeight)
+    (cond (ltb kind 4) (sub binary32 reload move) (cond (ltb kind 8) (valueOf costLimit field) zeroWeight))
     (λ _. cond-both Cost (eqb field 0) reload zeroWeight (λ _. r) (λ _. zero-cost))
     (λ _. cond-both Cost (ltb kind 4) (sub binary32 reload move) (cond (ltb kind 8) (valueOf costLimit field) zeroWeight)
     (λ _. saved)
@@ -80,9 +82,12 @@ pub product-finite : {x y : Float} → Cost x → Cost y → Finite (mul binary3
 unfolding rounded
 product-finite {x} {y} a b =
     let p = product-round (a .weight) (b .weight) in
-    let l : unitsOf x * unitsOf y * 2 ^ 149 ≤ unitsOf square * (2 ^ 149 * 2 ^ 149) = le-trans (mul-le-mul-right (2 ^ 149) (mul-le-mul (a .limited) (b .limited))) (le-trans (lit≤ tt) (le-of-eq (ap (λ (u : ℕ). u * (2 ^ 149 * 2 ^ 149)) (sym square-units)))) in
+    let l : unitsOf x * unitsOf y * 2 ^ 149 ≤ unitsOf square * (2 ^ 149 * 2 ^ 149) =
+    le-trans (mul-le-mul-right (2 ^ 149) (mul-le-mul (a .limited) (b .limited)))
+    (le-trans (lit≤ tt) (le-of-eq (ap (λ (u : ℕ). u * (2 ^ 149 * 2 ^ 149)) (sym square-units)))) in
     finite-of-units (product-weight (a .weight) (b .weight))
-    (lt-of-le-of-lt (le-trans (le-of-eq (ap unitsOf p)) (round-at-most (finite square-finite) (unitsOf x * unitsOf y) (2 ^ 149 * 2 ^ 149) (mul-pos (pow-pos 149) (pow-pos 149)) l)) (units-below square-finite))
+    (lt-of-le-of-lt (le-trans (le-of-eq (ap unitsOf p)) (round-at-most (finite square-finite) (unitsOf x * unitsOf y) (2 ^ 149 * 2 ^ 149)
+    (mul-pos (pow-pos 149) (pow-pos 149)) l)) (units-below square-finite))
 
 -- the three scales of a job
 pub record Scales (s : RematScales) : Type 0 where

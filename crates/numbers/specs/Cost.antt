@@ -15,7 +15,8 @@ reloadCost = fin false 1 (pos 0)
 abbrev pub moveCost : Float
 moveCost = fin false 1 (negsuc 0)
 
--- a use's cost by its kind and cost field: fixed uses cost a reload unless in memory, tied uses and conflicts what a move saves, class uses the field, block parameters nothing
+-- a use's cost by its kind and cost field: fixed uses cost a reload unless in memory, tied uses and conflicts what a move saves, class uses
+-- the field, block parameters nothing
 unfoldable pub spillCost : Float → Float → ℕ → ℕ → Float
 unfolding valueOf
 spillCost reload move kind field =
@@ -32,7 +33,8 @@ scaled code scales cost =
 
 -- the scales that three bits give
 abbrev pub scalesOf : ℕ → ℕ → ℕ → RematScales
-scalesOf move load indirect = record { «cheaper_than_move» = valueOf costLimit move; «cheaper_than_load» = valueOf costLimit load; indirect = valueOf costLimit indirect }
+scalesOf move load indirect =
+    record { «cheaper_than_move» = valueOf costLimit move; «cheaper_than_load» = valueOf costLimit load; indirect = valueOf costLimit indirect }
 
 -- ---- for contracts of private functions
 -- the bits of a use's cost, at the costs 1.0 and 0.5

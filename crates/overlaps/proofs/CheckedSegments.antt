@@ -19,7 +19,8 @@ use Rattle.overlaps.specs.Live.{Segments}
 use Rattle.overlaps.specs.GapSegments.{Valued}
 
 module _ (limits : Limits) (starts ends values firsts lasts flags : List ℕ) (blocks : limits .end ≤ 4 * endLimit)
-    (passed : (i : ℕ) → i < length (segmentsOf starts ends values firsts lasts flags) → badSegment limits (segmentsOf starts ends values firsts lasts flags) i ≡ false) where
+    (passed : (i : ℕ) → i < length (segmentsOf starts ends values firsts lasts flags)
+    → badSegment limits (segmentsOf starts ends values firsts lasts flags) i ≡ false) where
   abbrev pub rows : List Segment
   rows = segmentsOf starts ends values firsts lasts flags
 
@@ -33,9 +34,11 @@ module _ (limits : Limits) (starts ends values firsts lasts flags : List ℕ) (b
   long k column h e = length-take-le (length rows) column (le-trans (le-of-eq count) (le-trans (shortest-at-most lengths k h) (le-of-eq (sym e))))
 
   -- a row's fields are the columns' numbers
-  field : (of : Segment → ℕ) (column : List ℕ) → ((i : ℕ) → of (segmentRow starts ends values firsts lasts flags i) ≡ getD column i 0) → (i : ℕ) → i < length rows → of (getD rows i noSegment) ≡ getD (take (length rows) column) i 0
+  field : (of : Segment → ℕ) (column : List ℕ) → ((i : ℕ) → of (segmentRow starts ends values firsts lasts flags i) ≡ getD column i 0) → (i : ℕ)
+      → i < length rows → of (getD rows i noSegment) ≡ getD (take (length rows) column) i 0
   field of column e i h =
-      ap of (table-at (segmentRow starts ends values firsts lasts flags) (shortest lengths) i noSegment (lt-of-lt-of-le h (le-of-eq count))) ∙ e i ∙ sym (getD-take (length rows) column i 0 h)
+      ap of (table-at (segmentRow starts ends values firsts lasts flags) (shortest lengths) i noSegment (lt-of-lt-of-le h (le-of-eq count))) ∙ e i
+      ∙ sym (getD-take (length rows) column i 0 h)
 
   pub start-at : (i : ℕ) → i < length rows → getD rows i noSegment .start ≡ getD (take (length rows) starts) i 0
   start-at = field (λ s. s .start) starts (λ i. refl)
@@ -57,8 +60,12 @@ module _ (limits : Limits) (starts ends values firsts lasts flags : List ℕ) (b
   checked-segments =
       record {
         long = long 1 ends (omega arith) refl ∙ sym starts-long;
-        nonempty = λ i h. let b = segment-bounded limits rows passed i (there h) .nonempty in let s = start-at i (there h) in let e = end-at i (there h) in omega (arith, b, s, e);
-        after = λ i h. let b = segment-bounded limits rows passed i (there h) .after in let s = start-at i (there h) in let e = end-before i (there h) in omega (arith, b, s, e);
+        nonempty =
+            λ i h. let b = segment-bounded limits rows passed i (there h) .nonempty in let s = start-at i (there h) in let e = end-at i (there h) in
+            omega (arith, b, s, e);
+        after =
+            λ i h. let b = segment-bounded limits rows passed i (there h) .after in let s = start-at i (there h) in let e = end-before i (there h) in
+            omega (arith, b, s, e);
         inside = λ i h. le-trans (le-of-eq (sym (end-at i (there h)))) (le-trans (segment-bounded limits rows passed i (there h) .inside) blocks);
       }
 

@@ -48,7 +48,8 @@ module _ (froms tos : List ℕ) (gaps : Gaps froms tos) (start end value : ℕ) 
       rows : length (fromOn lists (length froms) g) ≡ length (lists g) + length (fromOn lists (length froms) (g + 1))
       rows = ap length (joined-next lists g (length froms) inside) ∙ length-append (lists g) (fromOn lists (length froms) (g + 1))
 
-      by : (EndedBy froms tos end (g + 1) → Reaches froms tos end (g + 1) (fromOn lists (length froms) (g + 1))) → (4 * getD tos g 0 < end) ⊎ (end ≤ 4 * getD tos g 0) → Reaches froms tos end g (fromOn lists (length froms) g)
+      by : (EndedBy froms tos end (g + 1) → Reaches froms tos end (g + 1) (fromOn lists (length froms) (g + 1)))
+          → (4 * getD tos g 0 < end) ⊎ (end ≤ 4 * getD tos g 0) → Reaches froms tos end g (fromOn lists (length froms) g)
       by on (inl h) =
           let more = on (record { inside = let i = inside in omega (arith, i); ended = below-more _ _ (b .ended) (let l = h in omega (arith, l)) }) in
           record {
@@ -63,7 +64,8 @@ module _ (froms tos : List ℕ) (gaps : Gaps froms tos) (start end value : ℕ) 
 
   pub segment-reaches : (g : ℕ) → start ≤ end → EndedBy froms tos start g → Reaches froms tos end g (overlapsOf froms tos start end value)
   segment-reaches g h b =
-      subst (Reaches froms tos end g) (sym (overlaps-from froms tos gaps start end value g b)) (reaches (length froms - g) g refl (behind-later froms tos start end g h b))
+      subst (Reaches froms tos end g) (sym (overlaps-from froms tos gaps start end value g b))
+      (reaches (length froms - g) g refl (behind-later froms tos start end g h b))
 
 module _ (froms tos starts ends values : List ℕ) (gaps : Gaps froms tos) (segments : Segments starts ends) where
   abbrev rowsOf : ℕ → List Overlap
@@ -75,8 +77,10 @@ module _ (froms tos starts ends values : List ℕ) (gaps : Gaps froms tos) (segm
       let inside : i < length starts = omega (arith, e) in
       let after = segments .after i inside in
       let ordered = segments .nonempty i inside in
-      let r = segment-reaches froms tos gaps (getD starts i 0) (getD ends i 0) (getD values i 0) g (omega (arith, ordered)) (behind-later froms tos (rowBefore ends 0 i) (getD starts i 0) g after b) in
-      let next = few-from n (i + 1) (r .to) (omega (arith, e)) (behind-later froms tos (getD ends i 0) (rowBefore ends 0 (i + 1)) (r .to) (le-of-eq (before-next ends 0 i)) (r .behind)) in
+      let r = segment-reaches froms tos gaps (getD starts i 0) (getD ends i 0) (getD values i 0) g (omega (arith, ordered))
+      (behind-later froms tos (rowBefore ends 0 i) (getD starts i 0) g after b) in
+      let next = few-from n (i + 1) (r .to) (omega (arith, e))
+      (behind-later froms tos (getD ends i 0) (rowBefore ends 0 (i + 1)) (r .to) (le-of-eq (before-next ends 0 i)) (r .behind)) in
       let rows = ap length (joined-next rowsOf i (length starts) inside) ∙ length-append (rowsOf i) (fromOn rowsOf (length starts) (i + 1)) in
       let few = r .few in
       let order = r .order in

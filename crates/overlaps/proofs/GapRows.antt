@@ -16,7 +16,8 @@ use Rattle.columns.specs.Below.{joined}
 use Rattle.overlaps.proofs.LiveLaws.{gap-order}
 
 -- one overlap: stored, or none
-pub put-some : (from to value gap : ℕ) (c : SegmentColumns) → from < to → putOne (record { from = from; to = to; value = value; gap = gap }) c ≡ put (nonempty from to value gap) c
+pub put-some : (from to value gap : ℕ) (c : SegmentColumns) → from < to
+    → putOne (record { from = from; to = to; value = value; gap = gap }) c ≡ put (nonempty from to value gap) c
 unfolding storedIn
 put-some from to value gap c h = sym (ap (λ (rows : List Overlap). put rows c) (cond-true _ _ (lt-ltb from to h)))
 
@@ -66,7 +67,14 @@ left-one r rest all lent now w =
     let m = w .room in
     record {
       same = record { from = simp length-set (s .from); to = simp length-set (s .to); value = simp length-set (s .value); gap = simp length-set (s .gap) };
-      room = record { from = simp length-set (omega arith); to = simp length-set (omega arith); value = simp length-set (omega arith); gap = simp length-set (omega arith) };
+      room =
+          record {
+            from = simp length-set (omega arith);
+            to = simp length-set (omega arith);
+            value = simp length-set (omega arith);
+            gap =
+                simp length-set (omega arith);
+          };
       gives = w .gives;
     }
 
@@ -96,7 +104,8 @@ module _ (lists : ℕ → List Overlap) (m i : ℕ) (h : i < m) (all : List Over
   next-room = left-room (lists i) (fromOn lists m (i + 1)) all lent now next
 
   pub next-left : (after : SegmentColumns) → after ≡ put (lists i) now → Left (fromOn lists m (i + 1)) all lent after
-  next-left after e = subst (λ (c : SegmentColumns). Left (fromOn lists m (i + 1)) all lent c) (sym e) (left-put (lists i) (fromOn lists m (i + 1)) all lent now next)
+  next-left after e =
+      subst (λ (c : SegmentColumns). Left (fromOn lists m (i + 1)) all lent c) (sym e) (left-put (lists i) (fromOn lists m (i + 1)) all lent now next)
 
 -- a segment's overlaps: none with gaps that end by its start, or begin at its end or later
 module _ (froms tos : List ℕ) (gaps : Gaps froms tos) (start end value : ℕ) where
@@ -117,7 +126,8 @@ module _ (froms tos : List ℕ) (gaps : Gaps froms tos) (start end value : ℕ) 
       high s e f t h = omega (arith, h)
 
   -- from the gap on before which all end by its start, it has all its gap segments
-  pub overlaps-from : (g : ℕ) → EndedBy froms tos start g → overlapsOf froms tos start end value ≡ fromOn (overlapWith froms tos start end value) (length froms) g
+  pub overlaps-from : (g : ℕ) → EndedBy froms tos start g → overlapsOf froms tos start end value
+      ≡ fromOn (overlapWith froms tos start end value) (length froms) g
   unfolding overlapsOf
   overlaps-from g b =
       let a : length froms ≡ g + (length froms - g) = omega (arith, b .inside) in

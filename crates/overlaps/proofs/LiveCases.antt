@@ -21,6 +21,7 @@ unfolding sumBelow
 shared = refl
 
 -- a segment cut at a gap's end
-pub cut : gapSegments (0 ∷ 1 ∷ []) (1 ∷ 4 ∷ []) (2 ∷ []) (14 ∷ []) (7 ∷ []) ≡ record { from = 2; to = 4; value = 7; gap = 0 } ∷ record { from = 4; to = 14; value = 7; gap = 1 } ∷ []
+pub cut : gapSegments (0 ∷ 1 ∷ []) (1 ∷ 4 ∷ []) (2 ∷ []) (14 ∷ []) (7 ∷ [])
+    ≡ record { from = 2; to = 4; value = 7; gap = 0 } ∷ record { from = 4; to = 14; value = 7; gap = 1 } ∷ []
 unfolding joined overlapWith overlapsOf
 cut = refl

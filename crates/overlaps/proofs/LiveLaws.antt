@@ -88,7 +88,13 @@ added-none f lent = record { long = refl; done = λ g h. absurd (not-suc-le-zero
 
 module _ (f : ℕ → ℕ) (lent now : List ℕ) (n : ℕ) (w : Added f lent now n) where
   pub added-next : (r : ℕ) → n < length lent → r ≡ f n → Added f lent (set now n (getD now n 0 + r)) (n + 1)
-  added-next r h e = record { long = length-set now n x ∙ w .long; done = λ g l. by g l (split g n); rest = λ g l. getD-set-other now n g x 0 (later g l) ∙ w .rest g (omega (arith, l)) }
+  added-next r h e =
+      record {
+        long = length-set now n x ∙ w .long;
+        done = λ g l. by g l (split g n);
+        rest = λ g l. getD-set-other now n g x 0 (later g l)
+            ∙ w .rest g (omega (arith, l));
+      }
     where
       x : ℕ
       x = getD now n 0 + r
@@ -138,7 +144,9 @@ module _ (froms tos : List ℕ) (given : Gaps froms tos) where
 
   -- past the gaps there is nothing
   pub none-there : (a e g : ℕ) → length froms ≤ g → overlap a e (getD froms g 0) (getD tos g 0) ≡ 0
-  none-there a e g h = let z = List·getD-eq-default tos 0 (le-trans (le-of-eq (given .long)) h) in none-before a e (getD froms g 0) (getD tos g 0) (le-trans (le-of-eq z) zero-le)
+  none-there a e g h =
+      let z = List·getD-eq-default tos 0 (le-trans (le-of-eq (given .long)) h) in
+      none-before a e (getD froms g 0) (getD tos g 0) (le-trans (le-of-eq z) zero-le)
 
   -- nor behind a gap that reaches e
   pub none-later : (a e i : ℕ) → e ≤ getD tos i 0 → (g : ℕ) → i + 1 ≤ g → overlap a e (getD froms g 0) (getD tos g 0) ≡ 0
@@ -172,7 +180,8 @@ module _ (at : ℕ) (xs ys : List ℕ) (inside : at ≤ length xs) (same : lengt
   front = length-take-le at xs inside
 
   back-before : (g : ℕ) → g < at → getD (back at xs ys) g 0 ≡ getD xs g 0
-  back-before g h = List·getD-append (take at xs) (ys ++ drop (length xs - at) (drop at xs)) 0 g (lt-of-lt-of-le h (le-of-eq (sym front))) ∙ getD-take at xs g 0 h
+  back-before g h =
+      List·getD-append (take at xs) (ys ++ drop (length xs - at) (drop at xs)) 0 g (lt-of-lt-of-le h (le-of-eq (sym front))) ∙ getD-take at xs g 0 h
 
   -- nothing is left behind the rest
   back-from : (k : ℕ) → getD (back at xs ys) (at + k) 0 ≡ getD ys k 0
@@ -217,7 +226,8 @@ rest-gaps froms tos given at =
     later : (g : ℕ) → g + 1 < length (rest at froms) → at + g + 1 < length froms
     later g h = let l = rest-long at froms in omega (arith, h, l)
 
-module _ (starts ends froms tos lent now : List ℕ) (at i : ℕ) (segments : Segments starts ends) (gaps : Gaps froms tos) (uncounted : Uncounted (length froms) lent) (w : Sofar starts ends froms tos lent now at i) where
+module _ (starts ends froms tos lent now : List ℕ) (at i : ℕ) (segments : Segments starts ends) (gaps : Gaps froms tos)
+    (uncounted : Uncounted (length froms) lent) (w : Sofar starts ends froms tos lent now at i) where
   pub sofar-room : at ≤ length now
   sofar-room = let a = w .inside in let b = uncounted .room in let c = w .long in omega (arith, a, b, c)
 
@@ -231,7 +241,8 @@ module _ (starts ends froms tos lent now : List ℕ) (at i : ℕ) (segments : Se
             let p = rest-at at now g in
             let q = w .rows k in
             let z = uncounted .none k (there g l) in
-            let m = sum-at-most (liveAdded starts ends (getD froms k 0) (getD tos k 0)) (liveOf starts ends) i (λ j _. overlap-few (liveFrom starts ends j) (liveTo ends j) (getD froms k 0) (getD tos k 0)) in
+            let m = sum-at-most (liveAdded starts ends (getD froms k 0) (getD tos k 0)) (liveOf starts ends) i
+            (λ j _. overlap-few (liveFrom starts ends j) (liveTo ends j) (getD froms k 0) (getD tos k 0)) in
             let b = live-before starts ends segments i h in
             let f = from-last in
             omega (arith, p, q, z, m, b, f, e);
@@ -307,7 +318,8 @@ module _ (starts ends froms tos lent now : List ℕ) (at i : ℕ) (segments : Se
   sofar-all e =
       filled-is (λ (g : ℕ). liveInGap starts ends (getD froms g 0) (getD tos g 0)) (length froms) lent now 0 (uncounted .room) (w .long)
       (λ g h. let x = whole g in let z = uncounted .none g h in omega (arith, x, z))
-      (λ g h. let x = whole g in let z = sum-none (adds g) (length starts) (λ k _. none-there froms tos gaps (liveFrom starts ends k) (liveTo ends k) g h) in omega (arith, x, z))
+      (λ g h. let x = whole g in let z = sum-none (adds g) (length starts) (λ k _. none-there froms tos gaps (liveFrom starts ends k) (liveTo ends k) g h) in
+      omega (arith, x, z))
     where
       adds : ℕ → ℕ → ℕ
       adds g = liveAdded starts ends (getD froms g 0) (getD tos g 0)

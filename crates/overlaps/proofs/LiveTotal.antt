@@ -81,13 +81,15 @@ module _ (froms tos : List ℕ) (given : Gaps froms tos) where
       ∙ side-by-side a e (getD froms 0 0) (getD tos n 0) (getD tos (suc n) 0) low (omega (arith, next, here))
 
   -- gaps that hold the instructions from a to before e count each once
-  tiled : (a e : ℕ) → 0 < length froms → getD froms 0 0 ≤ a → e ≤ getD tos (length froms - 1) 0 → sumBelow (λ (g : ℕ). overlap a e (getD froms g 0) (getD tos g 0)) (length froms) ≡ e - a
+  tiled : (a e : ℕ) → 0 < length froms → getD froms 0 0 ≤ a → e ≤ getD tos (length froms - 1) 0
+      → sumBelow (λ (g : ℕ). overlap a e (getD froms g 0) (getD tos g 0)) (length froms) ≡ e - a
   tiled a e some low high =
       let one : suc (length froms - 1) ≡ length froms = omega (arith, some) in
       ap (sumBelow (λ (g : ℕ). overlap a e (getD froms g 0) (getD tos g 0))) (sym one) ∙ run a e (length froms - 1) (le-of-eq one)
       ∙ all-held a e (getD froms 0 0) (getD tos (length froms - 1) 0) low high
 
-pub live-total : (starts ends froms tos : List ℕ) → Gaps froms tos → Reach starts ends froms tos → sumBelow (λ (g : ℕ). liveInGap starts ends (getD froms g 0) (getD tos g 0)) (length froms) ≡ liveInsts starts ends
+pub live-total : (starts ends froms tos : List ℕ) → Gaps froms tos → Reach starts ends froms tos
+    → sumBelow (λ (g : ℕ). liveInGap starts ends (getD froms g 0) (getD tos g 0)) (length froms) ≡ liveInsts starts ends
 live-total starts ends froms tos given reach =
     sum-swap (λ (g : ℕ). liveAdded starts ends (getD froms g 0) (getD tos g 0)) (length froms) (length starts)
     ∙ sum-same (λ (i : ℕ). sumBelow (λ (g : ℕ). liveAdded starts ends (getD froms g 0) (getD tos g 0) i) (length froms)) (liveOf starts ends) (length starts)

@@ -18,26 +18,29 @@ use Rattle.use_rows.specs.declared.row.BestUse.the-variants as BestUse·is
 use Rattle.walks.specs.Meeting.{spillWeight}
 use Rattle.gaps.specs.Gaps.{initialGap}
 use Rattle.filling.specs.UseTables.{bestOf}
-use Rattle.region.specs.Growth.{ownSpan, usedUp, weightTest, growth}
-use Rattle.region.specs.Proposal.{regionOf}
-use Rattle.region.specs.Demand.{Around, Ended, FailedBefore, Demand3, sumOver, addedTo, gapsBeside, gapsGrown}
-use Rattle.region.specs.Evictions.{Each}
-use Rattle.region.specs.declared.proposal.SplitProposal.{SplitProposal}
-use Rattle.region.specs.declared.proposal.Region.{Region}
-use Rattle.region.specs.declared.proposal.Region.the-variants as Region·is
+use Rattle.growth.specs.Growth.{ownSpan, usedUp, weightTest, growth}
+use Rattle.growth.specs.Proposal.{regionOf}
+use Rattle.growth.specs.Demand.{Around, Ended, FailedBefore, Demand3, sumOver, addedTo, gapsBeside, gapsGrown}
+use Rattle.growth.specs.Evictions.{Each}
+use Rattle.growth.specs.declared.proposal.SplitProposal.{SplitProposal}
+use Rattle.growth.specs.declared.proposal.Region.{Region}
+use Rattle.growth.specs.declared.proposal.Region.the-variants as Region·is
 use Rattle.filling.specs.declared.lent.Rooms.{Rooms}
 use Rattle.refusals.specs.Job.{Job, sourceOfJob}
 use Rattle.rooms.specs.Rooms.{refusalOf}
 use Rattle.rooms.proofs.Refused.{job-accepted}
 use Rattle.tables.specs.JobTables.{usesOfJob}
 use Rattle.views.specs.View.{seenOfJob}
-use Rattle.proposer.specs.Answer.{ofRegion, ofBest, ofChecked, answerOf}
+use Rattle.outcome.specs.Outcome.{ofRegion}
+use Rattle.proposer.specs.Answer.{ofBest, ofChecked, answerOf}
 use Rattle.proposer.specs.Demand.{mainsOf, numberOf, bestNumber, AnswerDemand3}
 use Rattle.views.specs.Met.{FixedMet}
 use Rattle.proposer.specs.Evictions.{Entry, Evictions, JobEvictionsEnd, AnsweredJob, entryOf}
-use Rattle.proposer.specs.declared.propose.Answer.{Answer}
-use Rattle.proposer.specs.declared.propose.Answer.the-variants as Answer·is
-use Rattle.proposer.proofs.JobTheorems.{ProposalOf, job-best, job-no-best-exactly, job-nothing-exactly, job-around, job-ended, job-side-ends, job-demand3, job-use-weight, job-live-insts, job-strict, region-no-fixed, region-none-heavier, region-heaviest-met, job-evictions-end}
+use Rattle.outcome.specs.declared.grow.Answer.{Answer}
+use Rattle.outcome.specs.declared.grow.Answer.the-variants as Answer·is
+use Rattle.proposer.proofs.JobTheorems.{ProposalOf, job-best, job-no-best-exactly, job-nothing-exactly, job-around, job-ended, job-side-ends}
+use Rattle.proposer.proofs.JobTheorems.{job-demand3, job-use-weight, job-live-insts, job-strict, region-no-fixed, region-none-heavier}
+use Rattle.proposer.proofs.JobTheorems.{region-heaviest-met, job-evictions-end}
 
 -- ---- what an answer says of the verdict, the best use and the region
 region-found : (r : Region) (p : SplitProposal) → ofRegion r ≡ Answer·is.Found p → r ≡ Region·is.Found p
@@ -80,7 +83,8 @@ module _ (job : Job) where
   said-refused Checked·is.Sound (BestUse·is.At best) r e = absurd (region-refused (regionOf (seenOfJob job best)) r e)
 
   -- and back
-  answer-by : (rooms : Rooms) (c : Checked) (b : BestUse) → refusalOf job rooms ≡ c → bestOf (sourceOfJob job) ≡ b → answerOf job rooms ≡ ofChecked c (ofBest job b)
+  answer-by : (rooms : Rooms) (c : Checked) (b : BestUse) → refusalOf job rooms ≡ c → bestOf (sourceOfJob job) ≡ b
+      → answerOf job rooms ≡ ofChecked c (ofBest job b)
   answer-by rooms c b e f = ap₂ (λ (x : Checked) (y : BestUse). ofChecked x (ofBest job y)) e f
 
 -- ---- each answer, exactly
@@ -93,7 +97,8 @@ module _ (job : Job) (rooms : Rooms) where
   )
 
   -- none of kind 1 exactly if it is accepted and has no best use
-  pub no-best-use-exactly : (answerOf job rooms ≡ Answer·is.NoBestUse) ↔ ((refusalOf job rooms ≡ Checked·is.Sound) × (bestOf (sourceOfJob job) ≡ BestUse·is.Nothing))
+  pub no-best-use-exactly : (answerOf job rooms ≡ Answer·is.NoBestUse) ↔
+      ((refusalOf job rooms ≡ Checked·is.Sound) × (bestOf (sourceOfJob job) ≡ BestUse·is.Nothing))
   no-best-use-exactly = (
     said-best job (refusalOf job rooms) (bestOf (sourceOfJob job)),
     λ h. answer-by job rooms Checked·is.Sound BestUse·is.Nothing (h .0) (h .1),
@@ -101,7 +106,8 @@ module _ (job : Job) (rooms : Rooms) where
 
   -- that is, exactly if it is accepted and its use table has one row or no main weight above zero
   pub no-best-use-rows : (answerOf job rooms ≡ Answer·is.NoBestUse)
-      ↔ ((refusalOf job rooms ≡ Checked·is.Sound) × ((length (mainsOf job) ≤ 1) ⊎ ((k : ℕ) → k < length (mainsOf job) → unitsOf (getD (mainsOf job) k zeroWeight) ≡ 0)))
+      ↔ ((refusalOf job rooms ≡ Checked·is.Sound) × ((length (mainsOf job) ≤ 1)
+      ⊎ ((k : ℕ) → k < length (mainsOf job) → unitsOf (getD (mainsOf job) k zeroWeight) ≡ 0)))
   no-best-use-rows = (
     (λ e. let h = no-best-use-exactly .0 e in (h .0, job-no-best-exactly job (job-accepted job rooms (h .0)) .0 (h .1))),
     (λ h. no-best-use-exactly .1 (h .0, job-no-best-exactly job (job-accepted job rooms (h .0)) .1 (h .1))),
@@ -118,7 +124,8 @@ module _ (job : Job) (rooms : Rooms) where
   )
 
   -- a proposal exactly if it is accepted, has a best use and growth from it finds that region
-  pub found-exactly : (p : SplitProposal) → (answerOf job rooms ≡ Answer·is.Found p) ↔ ((refusalOf job rooms ≡ Checked·is.Sound) × (best : ℕ) × ProposalOf job best p)
+  pub found-exactly : (p : SplitProposal) → (answerOf job rooms ≡ Answer·is.Found p) ↔
+      ((refusalOf job rooms ≡ Checked·is.Sound) × (best : ℕ) × ProposalOf job best p)
   found-exactly p = (
     (λ e.
         let h = said-found job (refusalOf job rooms) (bestOf (sourceOfJob job)) p e in

@@ -22,18 +22,20 @@ use Rattle.jobs.specs.Lines.{badBounds, badList, badDef, badUse, badEnd, badSpa
 use Rattle.columns.specs.Below.{countBelow, sumBelow, joined, picked}
 use Rattle.use_rows.specs.Uses.{useTable, rowsFrom, carries, splitUse, addedToRow, partOf, costOf, frequencyAt, firstInst, lastInst, bestUse}
 use Rattle.overlaps.specs.GapSegments.{overlapWith, overlapsOf}
-use Rattle.walks.specs.Meeting.{meets, countsAsFixed, spillWeight, ofRegister, fixedAgainst, weighsAgainst, fixedMet, weightsWhere, weightsMet, fixedMetAny, weightsMetAll}
+use Rattle.walks.specs.Meeting.{meets, countsAsFixed, spillWeight, ofRegister, fixedAgainst, weighsAgainst, fixedMet, weightsWhere, weightsMet, fixedMetAny}
+use Rattle.walks.specs.Meeting.{weightsMetAll}
 use Rattle.numbers.specs.Sum.{plus}
 use Rattle.gaps.specs.Gaps.{cutGaps, cuts, gapsBetween, gapsOf}
-use Rattle.region.specs.Growth.{numbersFrom, weightsIn, weightTest, passes, sideOpen, leftFirst, sideTried, tryOn, try, growth, grown}
-use Rattle.region.specs.Proposal.{splitCost, endOf, proposalWith, regionOf}
+use Rattle.growth.specs.Growth.{numbersFrom, weightsIn, weightTest, passes, sideOpen, leftFirst, sideTried, tryOn, try, growth, grown}
+use Rattle.growth.specs.Proposal.{splitCost, endOf, proposalWith, regionOf}
 use Rattle.filling.specs.declared.lent.Rooms.{Rooms}
 use Rattle.refusals.specs.Job.{Job, sourceOfJob}
 use Rattle.refusals.specs.Refusals.{firstBroken, badParameters, someLong, badSizes}
-use Rattle.proposer.specs.Answer.{answerOf, noneKind}
+use Rattle.outcome.specs.Outcome.{noneKind}
+use Rattle.proposer.specs.Answer.{answerOf}
 use Rattle.filling.specs.SourceTables.{freqsOf}
-use Rattle.proposer.specs.declared.propose.Answer.{Answer}
-use Rattle.proposer.specs.declared.propose.Answer.the-variants as Answer·is
+use Rattle.outcome.specs.declared.grow.Answer.{Answer}
+use Rattle.outcome.specs.declared.grow.Answer.the-variants as Answer·is
 
 -- what is shown, in numbers: a proposal (left, right, the bits of its use weight, its live instructions, the bits of its
 -- interference weight and of its split cost), none and its kind, a refusal and its place, or the previous and the next links
@@ -52,7 +54,8 @@ abbrev pub bits : Float → ℕ
 bits w = toBits binary32 w
 
 abbrev pub shown : Answer → Shown
-shown (Answer·is.Found p) = Q (instShown (p .left)) (instShown (p .right)) (bits (p .«use_weight»)) (p .«live_insts») (bits (p .«interference_weight»)) (bits (p .«split_cost»))
+shown (Answer·is.Found p) =
+    Q (instShown (p .left)) (instShown (p .right)) (bits (p .«use_weight»)) (p .«live_insts») (bits (p .«interference_weight»)) (bits (p .«split_cost»))
 shown Answer·is.NoBestUse = N (noneKind Answer·is.NoBestUse)
 shown Answer·is.NoRegion = N (noneKind Answer·is.NoRegion)
 shown (Answer·is.Refused r) = R (r .number) (r .place)
@@ -62,7 +65,8 @@ abbrev blockRow : ℕ → ℕ → ℕ → BlockRow
 blockRow frequency first end = record { frequency = frequency; first = first; end = end }
 
 abbrev segmentRow : ℕ → ℕ → ℕ → ℕ → ℕ → ℕ → Segment
-segmentRow start end value first-use end-use flags = record { start = start; end = end; value = value; «first_use» = first-use; «end_use» = end-use; flags = flags }
+segmentRow start end value first-use end-use flags =
+    record { start = start; end = end; value = value; «first_use» = first-use; «end_use» = end-use; flags = flags }
 
 abbrev useRow : ℕ → ℕ → ℕ → Use
 useRow position kind cost = record { position = position; kind = kind; cost = cost }
@@ -180,5 +184,9 @@ cases =
 
 -- every case holds
 pub cases-hold : map (λ (c : Case). c .given) cases ≡ map (λ (c : Case). c .said) cases
-unfolding toBits firstBroken badParameters someLong badSizes isBad badBounds badList badDef badUse badEnd badSpan badKind badFixedUse countBelow bestUse useTable rowsFrom carries splitUse addedToRow partOf costOf frequencyAt firstInst lastInst valueOf ofBits spillCost scaled firstBelow blockOf add sub mul round eq lt table gapsOf gapsBetween cuts cutGaps plus joined follow lowerLink isLower sumBelow overlapWith overlapsOf anyOf meets countsAsFixed spillWeight ofRegister fixedAgainst weighsAgainst fixedMet weightsWhere weightsMet fixedMetAny weightsMetAll picked numbersFrom weightTest passes sideOpen leftFirst sideTried tryOn try growth grown splitCost endOf proposalWith regionOf normalised fraction exceeds div ofInt weightsIn
+unfolding toBits firstBroken badParameters someLong badSizes isBad badBounds badList badDef badUse badEnd badSpan badKind badFixedUse countBelow bestUse
+    useTable rowsFrom carries splitUse addedToRow partOf costOf frequencyAt firstInst lastInst valueOf ofBits spillCost scaled firstBelow blockOf add sub mul
+    round eq lt table gapsOf gapsBetween cuts cutGaps plus joined follow lowerLink isLower sumBelow overlapWith overlapsOf anyOf meets countsAsFixed spillWeight
+    ofRegister fixedAgainst weighsAgainst fixedMet weightsWhere weightsMet fixedMetAny weightsMetAll picked numbersFrom weightTest passes sideOpen leftFirst
+    sideTried tryOn try growth grown splitCost endOf proposalWith regionOf normalised fraction exceeds div ofInt weightsIn
 cases-hold = refl

@@ -30,16 +30,17 @@ use Rattle.uses.proofs.UseTable.{use-table-weights}
 use Rattle.walks.specs.Meeting.{spillWeight}
 use Rattle.gaps.specs.Gaps.{initialGap}
 use Rattle.filling.specs.GapTables.{fromsOf, tosOf}
-use Rattle.region.specs.Growth.{GapsSeen, Span, ownSpan, weightsIn, heaviestIn, weightTest, usedUp, growth}
-use Rattle.region.specs.Proposal.{regionOf, covers, gapsCovered}
-use Rattle.region.specs.Demand.{Around, Ended, In, FailedBefore, MeetsFixed, SoundGaps, Demand3, sumOver, addedTo, gapsBeside, gapsGrown}
-use Rattle.region.specs.Evictions.{Promise, Each, EvictsAfter, Evicts, EvictionsEnd, MeetsCarrier, member, promiseOf, Given, IsFound, promised}
-use Rattle.region.specs.declared.proposal.SplitProposal.{SplitProposal}
-use Rattle.region.specs.declared.proposal.Region.the-variants as Region·is
-use Rattle.region.proofs.Meetings.{met-of-gap, gap-of-met}
-use Rattle.region.proofs.Ends.{covers-exactly}
-use Rattle.region.proofs.Proposals.{nothing-exactly, found-ended, found-side-ends, found-demand3, found-around, found-use-weight, found-live-insts, found-no-fixed, found-heaviest, found-strict}
-use Rattle.region.proofs.Evictions.{found-evictions-end, carried-bits}
+use Rattle.growth.specs.Growth.{GapsSeen, Span, ownSpan, weightsIn, heaviestIn, weightTest, usedUp, growth}
+use Rattle.growth.specs.Proposal.{regionOf, covers, gapsCovered}
+use Rattle.growth.specs.Demand.{Around, Ended, In, FailedBefore, MeetsFixed, SoundGaps, Demand3, sumOver, addedTo, gapsBeside, gapsGrown}
+use Rattle.growth.specs.Evictions.{Promise, Each, EvictsAfter, Evicts, EvictionsEnd, MeetsCarrier, member, promiseOf, Given, IsFound, promised}
+use Rattle.growth.specs.declared.proposal.SplitProposal.{SplitProposal}
+use Rattle.growth.specs.declared.proposal.Region.the-variants as Region·is
+use Rattle.growth.proofs.Meetings.{met-of-gap, gap-of-met}
+use Rattle.growth.proofs.Ends.{covers-exactly}
+use Rattle.growth.proofs.Proposals.{nothing-exactly, found-ended, found-side-ends, found-demand3, found-around, found-use-weight, found-live-insts}
+use Rattle.growth.proofs.Proposals.{found-no-fixed, found-heaviest, found-strict}
+use Rattle.growth.proofs.Evictions.{found-evictions-end, carried-bits}
 use Rattle.refusals.specs.Job.{Job, sourceOfJob}
 use Rattle.refusals.proofs.Accepted.{Accepted}
 use Rattle.tables.specs.JobTables.{usesOfJob, gapsOfJob, segmentsOfJob}
@@ -64,7 +65,8 @@ pub job-best-inside : (job : Job) → Accepted job → (best : ℕ) → bestUse 
 job-best-inside job accepted best e = best-inside (sourceOfJob job) (accepted .scales) best e
 
 -- none of kind 1: exactly if the use table has one row, or no main weight is above zero
-pub job-no-best-exactly : (job : Job) → Accepted job → (bestUse (mainsOf job) ≡ Nothing) ↔ ((length (mainsOf job) ≤ 1) ⊎ ((k : ℕ) → k < length (mainsOf job) → unitsOf (getD (mainsOf job) k zeroWeight) ≡ 0))
+pub job-no-best-exactly : (job : Job) → Accepted job → (bestUse (mainsOf job) ≡ Nothing) ↔
+    ((length (mainsOf job) ≤ 1) ⊎ ((k : ℕ) → k < length (mainsOf job) → unitsOf (getD (mainsOf job) k zeroWeight) ≡ 0))
 job-no-best-exactly job accepted = no-best-exactly (mainsOf job) (use-table-weights (sourceOfJob job) (accepted .scales))
 
 -- ---- demand 3
@@ -92,11 +94,13 @@ module _ (job : Job) (best : ℕ) (p : SplitProposal) (given : ProposalOf job be
   job-around = found-around (seenOfJob job best) p (given .found) proposed-sound
 
   -- its use weight: the best use's gap's, and then those of the gaps grown, added in the order grown
-  pub job-use-weight : p .«use_weight» ≡ addedTo (seenOfJob job best .weight (seenOfJob job best .own)) (seenOfJob job best .weight) (gapsGrown (seenOfJob job best) (seenOfJob job best .count + 1))
+  pub job-use-weight : p .«use_weight» ≡ addedTo (seenOfJob job best .weight (seenOfJob job best .own)) (seenOfJob job best .weight)
+      (gapsGrown (seenOfJob job best) (seenOfJob job best .count + 1))
   job-use-weight = found-use-weight (seenOfJob job best) p (given .found) proposed-sound
 
   -- its live instructions: 1, and those of the region's other gaps
-  pub job-live-insts : p .«live_insts» ≡ 1 + sumOver (seenOfJob job best .live) (gapsBeside (ownSpan (seenOfJob job best)) (growth (seenOfJob job best) (seenOfJob job best .count + 1) .region))
+  pub job-live-insts : p .«live_insts» ≡ 1 + sumOver (seenOfJob job best .live)
+      (gapsBeside (ownSpan (seenOfJob job best)) (growth (seenOfJob job best) (seenOfJob job best .count + 1) .region))
   job-live-insts = found-live-insts (seenOfJob job best) p (given .found) proposed-sound
 
   -- what counts as fixed counts against it: its region meets none
@@ -114,7 +118,8 @@ module _ (job : Job) (best : ℕ) (p : SplitProposal) (given : ProposalOf job be
 -- none of kind 2: exactly if a gap segment of the best use's own gap meets something that counts as fixed, or the weight test fails for that gap
 -- alone, with 1 instruction
 pub job-nothing-exactly : (job : Job) (best : ℕ)
-    → (regionOf (seenOfJob job best) ≡ Region·is.Nothing) ↔ (FixedMet job best (initialGap (job .blocks) (usesOfJob job) best) ⊎ T (not (weightTest (seenOfJob job best) (ownSpan (seenOfJob job best)))))
+    → (regionOf (seenOfJob job best) ≡ Region·is.Nothing) ↔ (FixedMet job best (initialGap (job .blocks) (usesOfJob job) best)
+    ⊎ T (not (weightTest (seenOfJob job best) (ownSpan (seenOfJob job best)))))
 job-nothing-exactly job best =
     let own = gap-fixed-exactly job best (seenOfJob job best .own) in
     let all = nothing-exactly (seenOfJob job best) in (
@@ -124,9 +129,12 @@ job-nothing-exactly job best =
 
 -- ---- what a proposal's region meets, in the job's own rows
 -- the bits of a job's spill weights are those of the weights
-bits-of : (job : Job) → Accepted job → (i : ℕ) → toBits binary32 (spillWeight (job .weights) (reservationOf job i)) ≡ getD (job .weights) (reservationOf job i .index) 0
+bits-of : (job : Job) → Accepted job → (i : ℕ) → toBits binary32 (spillWeight (job .weights) (reservationOf job i))
+    ≡ getD (job .weights) (reservationOf job i .index) 0
 unfolding spillWeight
-bits-of job accepted i = carried-bits (getD (job .weights) x 0) (⊎-elim (accepted .weights x) (λ h. le-trans (le-of-eq (List·getD-eq-default (job .weights) 0 h)) (lit≤ tt)) (split x (length (job .weights))))
+bits-of job accepted i =
+    carried-bits (getD (job .weights) x 0) (⊎-elim (accepted .weights x) (λ h. le-trans (le-of-eq (List·getD-eq-default (job .weights) 0 h)) (lit≤ tt))
+    (split x (length (job .weights))))
   where
     x : ℕ
     x = reservationOf job i .index
@@ -139,12 +147,15 @@ module _ (job : Job) (best : ℕ) (p : SplitProposal) (given : ProposalOf job be
   region = growth (seenOfJob job best) (seenOfJob job best .count + 1) .region
 
   -- its gap segments are those of the gaps grown
-  pub region-gaps : (k : ℕ) → k < length (segmentsOfJob job best) → InRegion job best p k ↔ In (growth (seenOfJob job best) (seenOfJob job best .count + 1) .region) (gapOfSegment job best k)
+  pub region-gaps : (k : ℕ) → k < length (segmentsOfJob job best) → InRegion job best p k ↔ In
+      (growth (seenOfJob job best) (seenOfJob job best .count + 1) .region) (gapOfSegment job best k)
   region-gaps k h =
       subst (λ (q : SplitProposal). InRegion job best q k ↔ In region (gapOfSegment job best k)) (sym (job-demand3 job best p given .is-grown))
-      (covers-exactly seen (proposed-sound job best p given .rising) region (job-around job best p given) (heaviestIn seen region) (gapOfSegment job best k) (instOf (segmentOfJob job best k .from .0)) (inside .known)
+      (covers-exactly seen (proposed-sound job best p given .rising) region (job-around job best p given) (heaviestIn seen region) (gapOfSegment job best k)
+      (instOf (segmentOfJob job best k .from .0)) (inside .known)
       (let l = inside .low in from-inst (getD (fromsOf (gapsOfJob job best)) (gapOfSegment job best k) 0) (segmentOfJob job best k .from .0) l)
-      (λ m. before-inst (segmentOfJob job best k .from .0) (getD (toColumn (segmentsOfJob job best)) k 0) (getD (tosOf (gapsOfJob job best)) (gapOfSegment job best k) 0) (getD (fromsOf (gapsOfJob job best)) (gapOfSegment job best k + 1) 0)
+      (λ m. before-inst (segmentOfJob job best k .from .0) (getD (toColumn (segmentsOfJob job best)) k 0)
+      (getD (tosOf (gapsOfJob job best)) (gapOfSegment job best k) 0) (getD (fromsOf (gapsOfJob job best)) (gapOfSegment job best k + 1) 0)
       (inside .some) (inside .high) (tiles .follows (gapOfSegment job best k) m)))
     where
       best-in : best < length (usesOfJob job)
@@ -153,7 +164,8 @@ module _ (job : Job) (best : ℕ) (p : SplitProposal) (given : ProposalOf job be
       tiles : Gaps (fromsOf (gapsOfJob job best)) (tosOf (gapsOfJob job best))
       tiles = job-tiles job (given .accepted) best best-in
 
-      inside : InGap (fromsOf (gapsOfJob job best)) (tosOf (gapsOfJob job best)) (getD (fromColumn (segmentsOfJob job best)) k 0) (getD (toColumn (segmentsOfJob job best)) k 0) (gapOfSegment job best k)
+      inside : InGap (fromsOf (gapsOfJob job best)) (tosOf (gapsOfJob job best)) (getD (fromColumn (segmentsOfJob job best)) k 0)
+          (getD (toColumn (segmentsOfJob job best)) k 0) (gapOfSegment job best k)
       inside = segment-in-gap job (given .accepted) best best-in k h
 
       from-inst : (f x : ℕ) → 4 * f ≤ x → f ≤ x / 4
@@ -167,9 +179,11 @@ module _ (job : Job) (best : ℕ) (p : SplitProposal) (given : ProposalOf job be
   region-no-fixed k i r m = job-no-fixed job best p given (gapOfSegment job best k, region-gaps k (m .segment) .0 r, gap-fixed job best k i m)
 
   -- no kind 0 reservation that it meets is heavier than its interference weight
-  pub region-none-heavier : (k i : ℕ) → InRegion job best p k → Weighs job best k i → unitsOf (spillWeight (job .weights) (reservationOf job i)) ≤ unitsOf (p .«interference_weight»)
+  pub region-none-heavier : (k i : ℕ) → InRegion job best p k → Weighs job best k i
+      → unitsOf (spillWeight (job .weights) (reservationOf job i)) ≤ unitsOf (p .«interference_weight»)
   region-none-heavier k i r m =
-      job-demand3 job best p given .none-heavier (gapOfSegment job best k) (region-gaps k (m .segment) .0 r) (spillWeight (job .weights) (reservationOf job i)) (gap-weighs job best k i m)
+      job-demand3 job best p given .none-heavier (gapOfSegment job best k) (region-gaps k (m .segment) .0 r) (spillWeight (job .weights) (reservationOf job i))
+      (gap-weighs job best k i m)
 
   -- which is the weight of one that it meets, or zero
   pub region-heaviest-met : (p .«interference_weight» ≡ zeroWeight) ⊎ RegionMeets job best p (p .«interference_weight»)
@@ -192,8 +206,10 @@ module _ (job : Job) (best : ℕ) (p : SplitProposal) (given : ProposalOf job be
   carrying-exactly w = (
     (λ m. (
       spillWeight (job .weights) (reservationOf job (m .row)),
-      subst (λ (gs : List ℕ). Among (spillWeight (job .weights) (reservationOf job (m .row))) (weightsIn (seen .met) gs)) (sym (job-demand3 job best p given .covered))
-          (met-of-gap seen region (gapOfSegment job best (m .segment)) (spillWeight (job .weights) (reservationOf job (m .row))) (region-gaps (m .segment) (m .weighs .segment) .0 (m .in-region)) (gap-weighs job best (m .segment) (m .row) (m .weighs))),
+      subst (λ (gs : List ℕ). Among (spillWeight (job .weights) (reservationOf job (m .row))) (weightsIn (seen .met) gs))
+          (sym (job-demand3 job best p given .covered))
+          (met-of-gap seen region (gapOfSegment job best (m .segment)) (spillWeight (job .weights) (reservationOf job (m .row)))
+          (region-gaps (m .segment) (m .weighs .segment) .0 (m .in-region)) (gap-weighs job best (m .segment) (m .row) (m .weighs))),
       bits-of job (given .accepted) (m .row) ∙ m .carries,
     )),
     (λ c. back (c .0) (c .1) (c .2)),
@@ -267,7 +283,8 @@ job-evictions-end es given chain =
           let b = promise-at es j f t in
           ended .no-ring i j h (b .0)
           (subst (λ (q : Promise). MeetsCarrier q (member (promises es) j .weight)) (sym (a .1))
-          (subst (λ (q : Promise). MeetsCarrier (promised (givenOf e)) (q .weight)) (sym (b .1)) (carrying-exactly (e .job) (e .best) (e .proposal) (is-entry es given i e s) (weightIn f) .0 m)));
+          (subst (λ (q : Promise). MeetsCarrier (promised (givenOf e)) (q .weight)) (sym (b .1))
+          (carrying-exactly (e .job) (e .best) (e .proposal) (is-entry es given i e s) (weightIn f) .0 m)));
       few = let f = ended .few (each-2007 es) in let e = promises-long es in omega (arith, f, e);
       few-above-zero = λ e s z.
           subst (λ (n : ℕ). n ≤ longest) (promises-long es)

@@ -11,12 +11,13 @@ use Rattle.rooms.specs.Rooms.{refusalOf}
 use Rattle.proposer.specs.Answer.{IsProposed}
 use Rattle.tables.specs.JobTables.{ifAccepted, noTables}
 use Rattle.filling.specs.SourceTables.{Tables, tablesOfBest, WorkColumns, roomsOf, FilledBy}
-use Rattle.proposer.specs.declared.propose.Answer.the-variants as Answer·is
-use Rattle.proposer.specs.declared.propose.Proposed.{Proposed}
+use Rattle.outcome.specs.declared.grow.Answer.the-variants as Answer·is
+use Rattle.outcome.specs.declared.grow.Proposed.{Proposed}
 use Rattle.proposer.proofs.Answered.{refused-exactly}
 
 -- a refused job has no rows
-refused-tables : (job : Job) (c : Checked) (x : Refusal) → c ≡ Checked·is.Refused x → ifAccepted c (tablesOfBest (sourceOfJob job) (bestOf (sourceOfJob job))) noTables ≡ noTables
+refused-tables : (job : Job) (c : Checked) (x : Refusal) → c ≡ Checked·is.Refused x
+    → ifAccepted c (tablesOfBest (sourceOfJob job) (bestOf (sourceOfJob job))) noTables ≡ noTables
 refused-tables job (Checked·is.Refused q) x e = refl
 refused-tables job Checked·is.Sound x e = absurd (let z : _≡_ {A = ℕ} 0 1 = cc in omega arith)
 

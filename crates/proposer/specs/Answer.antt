@@ -1,6 +1,5 @@
 -- The answer to a job
 use mathlib.Core.Path.{_≡_}
-use Prim.Native.Nat.{ℕ}
 use lib.ListN.{length}
 use Rattle.links.specs.declared.blocks.Checked.{Checked}
 use Rattle.links.specs.declared.blocks.Checked.the-variants as Checked·is
@@ -9,21 +8,15 @@ use Rattle.use_rows.specs.declared.row.BestUse.the-variants as BestUse·is
 use Rattle.filling.specs.UseTables.{bestOf}
 use Rattle.filling.specs.SourceTables.{WorkColumns, roomsOf, FilledBy}
 use Rattle.filling.specs.declared.lent.Rooms.{Rooms}
-use Rattle.region.specs.Proposal.{regionOf}
-use Rattle.region.specs.declared.proposal.Region.{Region}
-use Rattle.region.specs.declared.proposal.Region.the-variants as Region·is
+use Rattle.growth.specs.Proposal.{regionOf}
 use Rattle.refusals.specs.Job.{Job, sourceOfJob}
 use Rattle.rooms.specs.Rooms.{refusalOf}
 use Rattle.tables.specs.JobTables.{tablesOf}
 use Rattle.views.specs.View.{seenOfJob}
-use Rattle.proposer.specs.declared.propose.Answer.{Answer}
-use Rattle.proposer.specs.declared.propose.Answer.the-variants as Answer·is
-use Rattle.proposer.specs.declared.propose.Proposed.{Proposed}
-
--- a region found is a proposal; none of kind 2: no region
-abbrev pub ofRegion : Region → Answer
-ofRegion (Region·is.Found p) = Answer·is.Found p
-ofRegion Region·is.Nothing = Answer·is.NoRegion
+use Rattle.outcome.specs.Outcome.{ofRegion}
+use Rattle.outcome.specs.declared.grow.Answer.{Answer}
+use Rattle.outcome.specs.declared.grow.Answer.the-variants as Answer·is
+use Rattle.outcome.specs.declared.grow.Proposed.{Proposed}
 
 -- none of kind 1: no best use
 abbrev pub ofBest : Job → BestUse → Answer
@@ -38,13 +31,6 @@ ofChecked (Checked·is.Refused r) answer = Answer·is.Refused r
 -- the answer to a job whose lent tables have so many rows
 abbrev pub answerOf : Job → Rooms → Answer
 answerOf job rooms = ofChecked (refusalOf job rooms) (ofBest job (bestOf (sourceOfJob job)))
-
--- document 01's kinds of none
-abbrev pub noneKind : Answer → ℕ
-noneKind Answer·is.NoBestUse = 1
-noneKind Answer·is.NoRegion = 2
-noneKind (Answer·is.Refused r) = 0
-noneKind (Answer·is.Found p) = 0
 
 -- what the call leaves: the answer, how many rows are used, and each lent column
 pub record IsProposed (job : Job) (lent now : WorkColumns) (r : Proposed) : Type 0 where

@@ -14,10 +14,10 @@ use Rattle.use_rows.specs.declared.row.BestUse.{BestUse}
 use Rattle.use_rows.specs.declared.row.BestUse.the-variants as BestUse·is
 use Rattle.walks.specs.Meeting.{spillWeight}
 use Rattle.filling.specs.UseTables.{bestOf}
-use Rattle.region.specs.Growth.{ownSpan, usedUp, growth}
-use Rattle.region.specs.Proposal.{covers}
-use Rattle.region.specs.Demand.{Around, Ended, FailedBefore, Demand3, sumOver, addedTo, gapsBeside, gapsGrown}
-use Rattle.region.specs.declared.proposal.SplitProposal.{SplitProposal}
+use Rattle.growth.specs.Growth.{ownSpan, usedUp, growth}
+use Rattle.growth.specs.Proposal.{covers}
+use Rattle.growth.specs.Demand.{Around, Ended, FailedBefore, Demand3, sumOver, addedTo, gapsBeside, gapsGrown}
+use Rattle.growth.specs.declared.proposal.SplitProposal.{SplitProposal}
 use Rattle.refusals.specs.Job.{Job, sourceOfJob}
 use Rattle.use_rows.specs.Uses.{IsBest}
 use Rattle.tables.specs.JobTables.{usesOfJob}
@@ -61,13 +61,17 @@ pub record AnswerDemand3 (job : Job) (best : ℕ) (p : SplitProposal) : Type 0 w
   -- it is the proposal of that region, and what holds of it over the gaps
   pub of-gaps : Demand3 (seenOfJob job best) (growth (seenOfJob job best) (seenOfJob job best .count + 1)) p
   -- its use weight: the best use's gap's, and then those of the gaps grown, added in the order grown
-  pub use-weight : p .«use_weight» ≡ addedTo (seenOfJob job best .weight (seenOfJob job best .own)) (seenOfJob job best .weight) (gapsGrown (seenOfJob job best) (seenOfJob job best .count + 1))
+  pub use-weight : p .«use_weight»
+      ≡ addedTo (seenOfJob job best .weight (seenOfJob job best .own)) (seenOfJob job best .weight)
+      (gapsGrown (seenOfJob job best) (seenOfJob job best .count + 1))
   -- its live instructions: 1, and those of the region's other gaps
-  pub live-insts : p .«live_insts» ≡ 1 + sumOver (seenOfJob job best .live) (gapsBeside (ownSpan (seenOfJob job best)) (growth (seenOfJob job best) (seenOfJob job best .count + 1) .region))
+  pub live-insts : p .«live_insts»
+      ≡ 1 + sumOver (seenOfJob job best .live) (gapsBeside (ownSpan (seenOfJob job best)) (growth (seenOfJob job best) (seenOfJob job best .count + 1) .region))
   -- no reservation of the job that its region meets counts as fixed
   pub no-fixed : (k i : ℕ) → InRegion job best p k → CountsAsFixed job best k i → ⊥
   -- no kind 0 reservation that it meets is heavier than its interference weight, which is the weight of one of them, or zero
-  pub none-heavier : (k i : ℕ) → InRegion job best p k → Weighs job best k i → unitsOf (spillWeight (job .weights) (reservationOf job i)) ≤ unitsOf (p .«interference_weight»)
+  pub none-heavier : (k i : ℕ) → InRegion job best p k → Weighs job best k i
+      → unitsOf (spillWeight (job .weights) (reservationOf job i)) ≤ unitsOf (p .«interference_weight»)
   pub heaviest-met : (p .«interference_weight» ≡ zeroWeight) ⊎ RegionMeets job best p (p .«interference_weight»)
   -- the normalised weight times 2007/2048, rounded once, strictly exceeds the interference weight
   pub strict : T (exceeds 2007 (normalised (p .«use_weight») (p .«live_insts») (job .k)) (p .«interference_weight»))

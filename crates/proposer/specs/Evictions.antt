@@ -7,13 +7,13 @@ use lib.ListN.{length, getD}
 use Rattle.numbers.specs.Weight.{unitsOf}
 use Rattle.numbers.specs.Normal.{normalised}
 use Rattle.numbers.specs.Chain.{longest}
-use Rattle.region.specs.declared.proposal.SplitProposal.{SplitProposal}
+use Rattle.growth.specs.declared.proposal.SplitProposal.{SplitProposal}
 use Rattle.filling.specs.declared.lent.Rooms.{Rooms}
 use Rattle.refusals.specs.Job.{Job}
 use Rattle.proposer.specs.Answer.{answerOf}
 use Rattle.proposer.specs.Demand.{bestNumber, InRegion}
 use Rattle.views.specs.Met.{reservationOf, Weighs}
-use Rattle.proposer.specs.declared.propose.Answer.the-variants as Answer·is
+use Rattle.outcome.specs.declared.grow.Answer.the-variants as Answer·is
 
 -- a proposal's region meets a reservation that carries a weight: kind 0, and the spill weight at its index has those bits
 pub record MeetsCarrying (job : Job) (best : ℕ) (p : SplitProposal) (w : Float) : Type 0 where

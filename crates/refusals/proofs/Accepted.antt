@@ -44,7 +44,8 @@ numbered-at n (l ∷ ls) t (suc i) h = numbered-at (suc n) ls (and-r (eqb (l .nu
     moved n i = omega arith
 
 -- ---- block columns of any lengths, cut to as many rows as there are blocks
-pub cut-columns : (freqs firsts ends : List ℕ) (n : ℕ) → n ≡ length (blocksOf freqs firsts ends) → SoundBlocks (blocksOf freqs firsts ends) → SoundColumns (take n freqs) (take n firsts) (take n ends)
+pub cut-columns : (freqs firsts ends : List ℕ) (n : ℕ) → n ≡ length (blocksOf freqs firsts ends) → SoundBlocks (blocksOf freqs firsts ends)
+    → SoundColumns (take n freqs) (take n firsts) (take n ends)
 cut-columns freqs firsts ends n e sound =
     let f = length-take-le n freqs (in-freqs freqs firsts ends n e) in
     record {

@@ -36,7 +36,8 @@ passed-none : (l : Line) → Passed l → l .places ≡ badPlace l
 passed-none l f = first-none (l .broken) (l .places) f
 
 -- ---- a list: what its first line makes of the answer
-pub answer-here : (l : Line) (ls : List Line) → firstBelow (l .broken) (l .places) < l .places → firstBroken (l ∷ ls) ≡ refusal (l .number) (firstBelow (l .broken) (l .places))
+pub answer-here : (l : Line) (ls : List Line) → firstBelow (l .broken) (l .places) < l .places
+    → firstBroken (l ∷ ls) ≡ refusal (l .number) (firstBelow (l .broken) (l .places))
 unfolding firstBroken
 answer-here l ls h = cond-true _ _ (lt-ltb (badPlace l) (l .places) h)
 
@@ -93,7 +94,8 @@ pub passed-accepted : (ls : List Line) → ((i : ℕ) → i < length ls → Pass
 passed-accepted [] f = empty-sound
 passed-accepted (l ∷ ls) f = answer-passed l ls (f 0 (suc-le-suc zero-le)) ∙ passed-accepted ls (λ i h. f (suc i) (suc-le-suc h))
 
-pub accepted-exactly : (ls : List Line) → (firstBroken ls ≡ Sound → (i : ℕ) → i < length ls → Passed (getD ls i noLine)) × (((i : ℕ) → i < length ls → Passed (getD ls i noLine)) → firstBroken ls ≡ Sound)
+pub accepted-exactly : (ls : List Line) → (firstBroken ls ≡ Sound → (i : ℕ) → i < length ls → Passed (getD ls i noLine))
+    × (((i : ℕ) → i < length ls → Passed (getD ls i noLine)) → firstBroken ls ≡ Sound)
 accepted-exactly ls = (accepted-passed ls, passed-accepted ls)
 
 -- ---- refused with a number and a place exactly if some line of that number is first broken there, and those before it have passed
@@ -120,7 +122,8 @@ refused-reported [] n p e = absurd (not-sound _ (sym e ∙ empty-sound))
 refused-reported (l ∷ ls) n p e =
     elim (split (badPlace l) (l .places)) [
       | inl h ↦ first (sym (answer-here l ls h) ∙ e) h
-      | inr h ↦ let r = refused-reported ls n p (sym (answer-on l ls h) ∙ e) in record { at = suc (r .at); reported = later l ls n p (r .at) (line-passed l h) (r .reported) }
+      | inr h ↦ let r =
+          refused-reported ls n p (sym (answer-on l ls h) ∙ e) in record { at = suc (r .at); reported = later l ls n p (r .at) (line-passed l h) (r .reported) }
     ]
   where
     first : refusal (l .number) (badPlace l) ≡ refusal n p → badPlace l < l .places → SomeReported (l ∷ ls) n p
@@ -129,7 +132,8 @@ refused-reported (l ∷ ls) n p e =
         let q : badPlace l ≡ p = ap placeOf e in
         record {
           at = 0;
-          reported = record { inside = suc-le-suc zero-le; number = m; here = subst (FirstAt l) q (line-first l h); before = λ j k. absurd (not-suc-le-zero k) };
+          reported =
+              record { inside = suc-le-suc zero-le; number = m; here = subst (FirstAt l) q (line-first l h); before = λ j k. absurd (not-suc-le-zero k) };
         }
 
 pub reported-refused : (ls : List Line) (n p i : ℕ) → Reported ls n p i → firstBroken ls ≡ refusal n p
@@ -137,7 +141,8 @@ reported-refused [] n p i r = absurd (not-suc-le-zero (r .inside))
 reported-refused (l ∷ ls) n p zero r = answer-at l ls p (r .here) ∙ ap (λ (m : ℕ). refusal m p) (r .number)
 reported-refused (l ∷ ls) n p (suc i) r =
     answer-passed l ls (r .before 0 (suc-le-suc zero-le))
-    ∙ reported-refused ls n p i (record { inside = le-of-suc-le-suc (r .inside); number = r .number; here = r .here; before = λ j h. r .before (suc j) (suc-le-suc h) })
+    ∙ reported-refused ls n p i
+    (record { inside = le-of-suc-le-suc (r .inside); number = r .number; here = r .here; before = λ j h. r .before (suc j) (suc-le-suc h) })
 
 pub refused-exactly : (ls : List Line) (n p : ℕ) → (firstBroken ls ≡ refusal n p → SomeReported ls n p) × (SomeReported ls n p → firstBroken ls ≡ refusal n p)
 refused-exactly ls n p = (refused-reported ls n p, λ r. reported-refused ls n p (r .at) (r .reported))

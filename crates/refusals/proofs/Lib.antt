@@ -4,3 +4,4 @@ pub mod Verdicts
 pub mod Sizes
 pub mod Stages
 pub mod Accepted
+pub mod Columns

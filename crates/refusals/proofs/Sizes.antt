@@ -93,5 +93,6 @@ sized units t e =
 -- ---- what the code finds
 -- sizes are equal by their fields
 pub sizes-by : {b b' v v' s s' u u' w w' e e' f f' : ℕ} → b ≡ b' → v ≡ v' → s ≡ s' → u ≡ u' → w ≡ w' → e ≡ e' → f ≡ f'
-    → _≡_ {A = Sizes} (record { blocks = b; values = v; segments = s; uses = u; weights = w; reservations = e; «fixed_uses» = f }) (record { blocks = b'; values = v'; segments = s'; uses = u'; weights = w'; reservations = e'; «fixed_uses» = f' })
+    → _≡_ {A = Sizes} (record { blocks = b; values = v; segments = s; uses = u; weights = w; reservations = e; «fixed_uses» = f })
+    (record { blocks = b'; values = v'; segments = s'; uses = u'; weights = w'; reservations = e'; «fixed_uses» = f' })
 sizes-by p1 p2 p3 p4 p5 p6 p7 = cc

@@ -18,7 +18,8 @@ use Rattle.links.proofs.Rows.{row-good}
 use Rattle.jobs.specs.declared.rows.Limits.{Limits}
 use Rattle.refusals.specs.declared.job.Sizes.{Sizes}
 use Rattle.refusals.specs.Job.{Job, sizesOf, limitsOf}
-use Rattle.refusals.specs.Refusals.{Line, firstBroken, line1, line2, line3, line4, line5, line6, line7, line8, line9, line10, line11, jobLines, LastEnd, FewSegments, Few, limitsBy}
+use Rattle.refusals.specs.Refusals.{Line, firstBroken, line1, line2, line3, line4, line5, line6, line7, line8, line9, line10, line11, jobLines, LastEnd}
+use Rattle.refusals.specs.Refusals.{FewSegments, Few, limitsBy}
 use Rattle.refusals.proofs.FirstBroken.{answer-here, answer-on, refused-stays, sound-goes-on, accepted-passed}
 use Rattle.refusals.proofs.Sizes.{Sized, sized}
 
@@ -46,7 +47,8 @@ module _ (job : Job) where
 
   abbrev pub segmentLines : List Line
   segmentLines =
-      line5 (limitsOf job) (job .segments) ∷ line6 (job .uses) (job .segments) ∷ line7 (limitsOf job) (job .uses) (job .segments) ∷ line8 (job .uses) (job .segments) ∷ []
+      line5 (limitsOf job) (job .segments) ∷ line6 (job .uses) (job .segments) ∷ line7 (limitsOf job) (job .uses) (job .segments) ∷ line8 (job .uses)
+      (job .segments) ∷ []
 
   abbrev pub reservationLines : List Line
   reservationLines = line9 (job .weights) ∷ line10 (limitsOf job) (job .fixedUses) (job .reservations) ∷ line11 (limitsOf job) (job .fixedUses) ∷ []
@@ -122,7 +124,8 @@ module _ (freqs firsts ends : List ℕ) where
         limited = subst (λ (x : ℕ). x ≤ endLimit) (sym (last-column freqs firsts ends n e (sound .some))) (last-limited blocks sound);
       }
 
-  pub limits-by : (job : Job) (t : Sizes) → job .blocks ≡ blocksOf freqs firsts ends → SoundBlocks (job .blocks) → t ≡ sizesOf job → limitsBy ends (job .units) t ≡ limitsOf job
+  pub limits-by : (job : Job) (t : Sizes) → job .blocks ≡ blocksOf freqs firsts ends → SoundBlocks (job .blocks) → t ≡ sizesOf job
+      → limitsBy ends (job .units) t ≡ limitsOf job
   limits-by job t same sound e =
       ap (limitsBy ends (job .units)) e
       ∙ ap (limitsTo job) last

@@ -15,7 +15,8 @@ use Rattle.refusals.proofs.FirstBroken.{answer-here, answer-on, answer-
 module _ (l : Line) (bad n : ℕ) (counted : n ≡ l .places) (found : bad ≡ firstBelow (l .broken) (l .places)) where
   pub verdict-here : (ls : List Line) (x : Checked) → bad < n → x ≡ verdictOf (l .number) bad n → x ≡ firstBroken (l ∷ ls)
   verdict-here ls x h e =
-      e ∙ cond-true _ _ (lt-ltb bad n h) ∙ ap (refusal (l .number)) found ∙ sym (answer-here l ls (subst (λ (m : ℕ). firstBelow (l .broken) (l .places) < m) counted (subst (λ (b : ℕ). b < n) found h)))
+      e ∙ cond-true _ _ (lt-ltb bad n h) ∙ ap (refusal (l .number)) found
+      ∙ sym (answer-here l ls (subst (λ (m : ℕ). firstBelow (l .broken) (l .places) < m) counted (subst (λ (b : ℕ). b < n) found h)))
 
   not-before : n ≤ bad → l .places ≤ firstBelow (l .broken) (l .places)
   not-before h = subst (λ (m : ℕ). m ≤ firstBelow (l .broken) (l .places)) counted (subst (λ (b : ℕ). n ≤ b) found h)
@@ -33,7 +34,8 @@ module _ (l : Line) (bad n : ℕ) (counted : n ≡ l .places) (found : bad ≡ f
 -- a line of one place
 pub one-here : (n : ℕ) (t : Bool) (ls : List Line) → t ≡ true → refusal n 0 ≡ firstBroken (record { number = n; places = 1; broken = λ (_ : ℕ). t } ∷ ls)
 one-here n t ls e =
-    sym (answer-at (record { number = n; places = 1; broken = λ (_ : ℕ). t }) ls 0 (record { inside = le-refl 1; broken = e; before = λ q h. absurd (not-suc-le-zero h) }))
+    sym (answer-at (record { number = n; places = 1; broken = λ (_ : ℕ). t }) ls 0
+    (record { inside = le-refl 1; broken = e; before = λ q h. absurd (not-suc-le-zero h) }))
 
 pub one-on : (n : ℕ) (t : Bool) (ls : List Line) → t ≡ false → firstBroken (record { number = n; places = 1; broken = λ (_ : ℕ). t } ∷ ls) ≡ firstBroken ls
 one-on n t ls e = answer-passed (record { number = n; places = 1; broken = λ (_ : ℕ). t }) ls (λ p h. e)

@@ -1,7 +1,7 @@
 -- What a job is
 use Prim.Native.Nat.{ℕ, _*_}
-use mathlib.Core.List.{List}
-use lib.ListN.{length}
+use mathlib.Core.List.{List, []}
+use lib.ListN.{length, getD}
 use Rattle.numbers.specs.Cost.{scalesOf}
 use Rattle.numbers.specs.declared.costs.RematScales.{RematScales}
 use Rattle.links.specs.Blocks.{BlockRow, blocksOf, startOf}
@@ -60,8 +60,10 @@ pub record JobColumns : Type 0 where
   pub useValues : List ℕ
 
 -- the 23 as one
-abbrev pub jobColumns : List ℕ → List ℕ → List ℕ → List ℕ → List ℕ → List ℕ → List ℕ → List ℕ → List ℕ → List ℕ → List ℕ → List ℕ → List ℕ → List ℕ → List ℕ → List ℕ → List ℕ → List ℕ → List ℕ → List ℕ → List ℕ → List ℕ → List ℕ → JobColumns
-jobColumns freqs firsts ends codes starts stops values firstUses endUses flags positions kinds costs weights units froms tos reservedKinds indices fixed useUnits points useValues =
+abbrev pub jobColumns : List ℕ → List ℕ → List ℕ → List ℕ → List ℕ → List ℕ → List ℕ → List ℕ → List ℕ → List ℕ → List ℕ → List ℕ
+    → List ℕ → List ℕ → List ℕ → List ℕ → List ℕ → List ℕ → List ℕ → List ℕ → List ℕ → List ℕ → List ℕ → JobColumns
+jobColumns freqs firsts ends codes starts stops values firstUses endUses flags positions kinds costs
+    weights units froms tos reservedKinds indices fixed useUnits points useValues =
     record {
       freqs = freqs;
       firsts = firsts;
@@ -87,6 +89,18 @@ jobColumns freqs firsts ends codes starts stops values firstUses endUses flags p
       points = points;
       useValues = useValues;
     }
+
+-- the 23 in their order: blocks, values, segments, uses, spill weights, reservations, fixed uses
+abbrev pub jobColumnsIn : List (List ℕ) → JobColumns
+jobColumnsIn cs =
+    jobColumns
+    (getD cs 0 []) (getD cs 1 []) (getD cs 2 [])
+    (getD cs 3 [])
+    (getD cs 4 []) (getD cs 5 []) (getD cs 6 []) (getD cs 7 []) (getD cs 8 []) (getD cs 9 [])
+    (getD cs 10 []) (getD cs 11 []) (getD cs 12 [])
+    (getD cs 13 [])
+    (getD cs 14 []) (getD cs 15 []) (getD cs 16 []) (getD cs 17 []) (getD cs 18 []) (getD cs 19 [])
+    (getD cs 20 []) (getD cs 21 []) (getD cs 22 [])
 
 -- the job of the parameters and the lent columns
 abbrev pub jobOf : Parameters → JobColumns → Job

@@ -28,20 +28,21 @@ use Rattle.overlaps.specs.GapSegments.{SegmentColumns}
 use Rattle.walks.proofs.GapWalk.{right-begins, left-begins, gaps-found}
 use Rattle.walks.proofs.GapSegments.{all-weights}
 use Rattle.links.specs.Links.{onSide}
-use Rattle.region.specs.Growth.{GapsSeen, Span, State, gapsIn, weightsIn, ownSpan, growth, grownBy, gapOutside, passes, passesOn, isOpen, sideTried}
-use Rattle.region.specs.Demand.{SoundGaps}
-use Rattle.region.specs.Columns.{floatAt, spanOf, stateOf, grownOf, triedOf, testedOf, startAt, afterTry, Going}
-use Rattle.region.specs.Proposal.{regionOf}
-use Rattle.region.specs.declared.proposal.Region.the-variants.{Nothing}
-use Rattle.region.specs.declared.growth.Grown.{Grown}
-use Rattle.region.specs.declared.growth.Growth.{Growth}
-use Rattle.region.specs.declared.growth.Tried.{Tried}
-use Rattle.region.specs.declared.growth.Tried.the-variants.{Grows, Fails}
-use Rattle.region.specs.declared.growth.Turn.{Turn}
-use Rattle.region.specs.declared.growth.Turn.the-variants.{Try, End}
-use Rattle.region.proofs.Tries.{not-is, open-free, open-left, leftToTry}
-use Rattle.region.proofs.Proposals.{growth-met}
-use Rattle.region.proofs.Loop.{TurnOf, Tries, tested-own, answer-nothing, going-start, going-open, going-inside, going-after, going-less, going-found, going-tested, going-count-fits, going-gap}
+use Rattle.growth.specs.Growth.{GapsSeen, Span, State, gapsIn, weightsIn, ownSpan, growth, grownBy, gapOutside, passes, passesOn, isOpen, sideTried}
+use Rattle.growth.specs.Demand.{SoundGaps}
+use Rattle.growth.specs.Columns.{floatAt, spanOf, stateOf, grownOf, triedOf, testedOf, startAt, afterTry, Going}
+use Rattle.growth.specs.Proposal.{regionOf}
+use Rattle.growth.specs.declared.proposal.Region.the-variants.{Nothing}
+use Rattle.growth.specs.declared.step.Grown.{Grown}
+use Rattle.growth.specs.declared.step.Growth.{Growth}
+use Rattle.growth.specs.declared.step.Tried.{Tried}
+use Rattle.growth.specs.declared.step.Tried.the-variants.{Grows, Fails}
+use Rattle.growth.specs.declared.step.Turn.{Turn}
+use Rattle.growth.specs.declared.step.Turn.the-variants.{Try, End}
+use Rattle.growth.proofs.Tries.{not-is, open-free, open-left, leftToTry}
+use Rattle.growth.proofs.Proposals.{growth-met}
+use Rattle.growth.proofs.Loop.{TurnOf, Tries, tested-own, answer-nothing, going-start, going-open, going-inside, going-after, going-less, going-found}
+use Rattle.growth.proofs.Loop.{going-tested, going-count-fits, going-gap}
 use Rattle.region.specs.OneTry.{gapOn, Triable, triedOn}
 use Rattle.region.specs.Find.{seenBy, InTable, Standing, Moved, Reached, Answers, pointAt}
 use Rattle.region.specs.declared.find.Stand.{Stand}
@@ -62,7 +63,9 @@ module _ (p : Register) (t : Reserved) (g : SegmentColumns) (froms : List ℕ) (
   module _ (table : InTable seen weights lives freqs) (s : Stand) (r : Reached seen p t g s) where
     -- the heaviest weight so far is a weight
     heaviest-is : Weight (s .growth .region .heaviest)
-    heaviest-is = subst (λ (x : Growth). Weight (x .region .heaviest)) (sym (r .going .is-after)) (heaviest-weight (weightsIn (seen .met) (gapsIn (growth seen (r .going .tries) .region))) (growth-met seen (table .sound) (r .going .tries)))
+    heaviest-is =
+        subst (λ (x : Growth). Weight (x .region .heaviest)) (sym (r .going .is-after))
+        (heaviest-weight (weightsIn (seen .met) (gapsIn (growth seen (r .going .tries) .region))) (growth-met seen (table .sound) (r .going .tries)))
 
     -- a try can be made
     pub try-ready : (side : Side) → TurnOf seen (s .growth) (Try side) → Triable side weights lives (s .growth) × Standing side p t g s
@@ -98,42 +101,58 @@ module _ (p : Register) (t : Reserved) (g : SegmentColumns) (froms : List ℕ) (
     tried-is Next turn = ap (λ (x : Tried). afterTry Next x (s .growth)) (going-tested seen (table .sound) refl (s .growth) Next (r .going) turn)
 
     -- after it the walkers stand right
-    module _ (side : Side) (turn : TurnOf seen (s .growth) (Try side)) (s' : Stand) (is : s' .growth ≡ triedOn side p t g weights lives k (s .growth)) (moved : Moved side p t g s s') where
+    module _ (side : Side) (turn : TurnOf seen (s .growth) (Try side)) (s' : Stand) (is : s' .growth ≡ triedOn side p t g weights lives k (s .growth))
+        (moved : Moved side p t g s s') where
       after-is : s' .growth ≡ afterTry side (gapTried side) (s .growth)
       after-is = is ∙ tried-is side turn
 
       pub try-less : leftToTry seen (stateOf (s' .growth)) < leftToTry seen (stateOf (s .growth))
-      try-less = subst (λ (x : Growth). leftToTry seen (stateOf x) < leftToTry seen (stateOf (s .growth))) (sym after-is) (going-less seen (s .growth) side (gapTried side) (r .going) turn refl)
+      try-less =
+          subst (λ (x : Growth). leftToTry seen (stateOf x) < leftToTry seen (stateOf (s .growth))) (sym after-is)
+          (going-less seen (s .growth) side (gapTried side) (r .going) turn refl)
 
-      left-after : (side : Side) → s' .growth ≡ afterTry side (gapTried side) (s .growth) → Moved side p t g s s' → s' .growth .«left_barred» ≡ false → Standing Previous p t g s'
+      left-after : (side : Side) → s' .growth ≡ afterTry side (gapTried side) (s .growth) → Moved side p t g s s' → s' .growth .«left_barred» ≡ false
+          → Standing Previous p t g s'
       left-after Previous e m b =
-          let pass = barred-not (s .growth .region) (passesOn Previous seen (spanOf (s .growth .region))) (grownOf seen (grownBy Previous seen (spanOf (s .growth .region)))) (s .growth) (sym (ap (λ (x : Growth). x .«left_barred») e) ∙ b) in
+          let pass = barred-not (s .growth .region) (passesOn Previous seen (spanOf (s .growth .region)))
+          (grownOf seen (grownBy Previous seen (spanOf (s .growth .region)))) (s .growth) (sym (ap (λ (x : Growth). x .«left_barred») e) ∙ b) in
           let to : s' .growth .region .left ≡ s .growth .region .left - 1 =
-          ap (λ (x : Growth). x .region .left) e ∙ ap (λ (b : Bool). afterTry Previous (triedOf b (grownOf seen (grownBy Previous seen (spanOf (s .growth .region))))) (s .growth) .region .left) pass in
+          ap (λ (x : Growth). x .region .left) e ∙ ap (λ (b : Bool). afterTry Previous
+          (triedOf b (grownOf seen (grownBy Previous seen (spanOf (s .growth .region))))) (s .growth) .region .left) pass in
           subst (λ (n : ℕ). LeftAt p (t .rows) g n (s' .left)) (sym to) (m .0)
       left-after Next e m b =
           let same = next-left (passesOn Next seen (spanOf (s .growth .region))) in
           let was = r .left (sym (ap (λ (x : Growth). x .«left_barred») e ∙ same .0) ∙ b) in
           let to : s' .growth .region .left ≡ s .growth .region .left = ap (λ (x : Growth). x .region .left) e ∙ same .1 in
-          subst (λ (n : ℕ). LeftAt p (t .rows) g n (s' .left)) (sym to) (subst (λ (w : LeftWalker). LeftAt p (t .rows) g (s .growth .region .left) w) (sym (m .1)) was)
+          subst (λ (n : ℕ). LeftAt p (t .rows) g n (s' .left)) (sym to)
+          (subst (λ (w : LeftWalker). LeftAt p (t .rows) g (s .growth .region .left) w) (sym (m .1)) was)
         where
-          next-left : (b : Bool) → (afterTry Next (triedOf b (grownOf seen (grownBy Next seen (spanOf (s .growth .region))))) (s .growth) .«left_barred» ≡ s .growth .«left_barred») × (afterTry Next (triedOf b (grownOf seen (grownBy Next seen (spanOf (s .growth .region))))) (s .growth) .region .left ≡ s .growth .region .left)
+          next-left : (b : Bool) → (afterTry Next (triedOf b (grownOf seen (grownBy Next seen (spanOf (s .growth .region))))) (s .growth) .«left_barred»
+              ≡ s .growth .«left_barred») × (afterTry Next (triedOf b (grownOf seen (grownBy Next seen (spanOf (s .growth .region))))) (s .growth) .region .left
+              ≡ s .growth .region .left)
           next-left true = (refl, refl)
           next-left false = (refl, refl)
 
-      right-after : (side : Side) → s' .growth ≡ afterTry side (gapTried side) (s .growth) → Moved side p t g s s' → s' .growth .«right_barred» ≡ false → Standing Next p t g s'
+      right-after : (side : Side) → s' .growth ≡ afterTry side (gapTried side) (s .growth) → Moved side p t g s s' → s' .growth .«right_barred» ≡ false
+          → Standing Next p t g s'
       right-after Next e m b =
-          let pass = barred-not-right (passesOn Next seen (spanOf (s .growth .region))) (grownOf seen (grownBy Next seen (spanOf (s .growth .region)))) (s .growth) (sym (ap (λ (x : Growth). x .«right_barred») e) ∙ b) in
+          let pass = barred-not-right (passesOn Next seen (spanOf (s .growth .region))) (grownOf seen (grownBy Next seen (spanOf (s .growth .region))))
+          (s .growth) (sym (ap (λ (x : Growth). x .«right_barred») e) ∙ b) in
           let to : s' .growth .region .right ≡ s .growth .region .right + 1 =
-          ap (λ (x : Growth). x .region .right) e ∙ ap (λ (b : Bool). afterTry Next (triedOf b (grownOf seen (grownBy Next seen (spanOf (s .growth .region))))) (s .growth) .region .right) pass in
+          ap (λ (x : Growth). x .region .right) e ∙ ap (λ (b : Bool). afterTry Next (triedOf b (grownOf seen (grownBy Next seen (spanOf (s .growth .region)))))
+          (s .growth) .region .right) pass in
           subst (λ (n : ℕ). RightAt p (t .rows) g n (s' .right)) (sym to) (m .0)
       right-after Previous e m b =
           let same = previous-right (passesOn Previous seen (spanOf (s .growth .region))) in
           let was = r .right (sym (ap (λ (x : Growth). x .«right_barred») e ∙ same .0) ∙ b) in
           let to : s' .growth .region .right ≡ s .growth .region .right = ap (λ (x : Growth). x .region .right) e ∙ same .1 in
-          subst (λ (n : ℕ). RightAt p (t .rows) g n (s' .right)) (sym to) (subst (λ (w : RightWalker). RightAt p (t .rows) g (s .growth .region .right) w) (sym (m .1)) was)
+          subst (λ (n : ℕ). RightAt p (t .rows) g n (s' .right)) (sym to)
+          (subst (λ (w : RightWalker). RightAt p (t .rows) g (s .growth .region .right) w) (sym (m .1)) was)
         where
-          previous-right : (b : Bool) → (afterTry Previous (triedOf b (grownOf seen (grownBy Previous seen (spanOf (s .growth .region))))) (s .growth) .«right_barred» ≡ s .growth .«right_barred») × (afterTry Previous (triedOf b (grownOf seen (grownBy Previous seen (spanOf (s .growth .region))))) (s .growth) .region .right ≡ s .growth .region .right)
+          previous-right : (b : Bool) → (afterTry Previous (triedOf b (grownOf seen (grownBy Previous seen (spanOf (s .growth .region)))))
+              (s .growth) .«right_barred» ≡ s .growth .«right_barred»)
+              × (afterTry Previous (triedOf b (grownOf seen (grownBy Previous seen (spanOf (s .growth .region))))) (s .growth) .region .right
+              ≡ s .growth .region .right)
           previous-right true = (refl, refl)
           previous-right false = (refl, refl)
 
@@ -147,11 +166,17 @@ module _ (p : Register) (t : Reserved) (g : SegmentColumns) (froms : List ℕ) (
 
     -- with no side open the region's proposal is the answer
     pub end-answers : TurnOf seen (s .growth) End → Answers seen (s .growth .region)
-    end-answers turn = record { inside = going-inside seen (table .sound .inside) (s .growth) (r .going); is = going-found seen (table .sound .inside) (s .growth) (r .going) turn }
+    end-answers turn =
+        record {
+          inside = going-inside seen (table .sound .inside) (s .growth) (r .going);
+          is =
+              going-found seen (table .sound .inside) (s .growth) (r .going) turn;
+        }
 
 -- ---- the start
 -- a walker to the right stands before the own gap's rows, and one to the left behind the rows before it
-module _ (p : Register) (t : Reserved) (g : SegmentColumns) (ordered : OrderedGaps g) (long : g .used ≡ length (g .from)) (own next : ℕ) (found : FirstIn (λ (k : ℕ). leb own (getD (g .gap) k 0)) 0 (g .used) next) where
+module _ (p : Register) (t : Reserved) (g : SegmentColumns) (ordered : OrderedGaps g) (long : g .used ≡ length (g .from)) (own next : ℕ)
+    (found : FirstIn (λ (k : ℕ). leb own (getD (g .gap) k 0)) 0 (g .used) next) where
   abbrev point : ℕ
   point = pointAt (g .from) next
 
@@ -172,12 +197,14 @@ module _ (p : Register) (t : Reserved) (g : SegmentColumns) (ordered : OrderedGa
   left-starts small w e s =
       left-begins g own point w (subst (GapsFrom g own) (sym e) (gaps-found g ordered own next found))
       (λ h. le-trans (le-of-eq (ap (λ (n : ℕ). getD (g .to) (n - 1) 0) e))
-      (⊎-elim (λ l. le-trans (ordered .apart (next - 1) next (let q = e in omega (arith, h, q)) l) (le-of-eq (sym (point-row l)))) (λ l. le-trans (small (next - 1)) (le-of-eq (sym (point-past l)))) (split next (g .used))))
+      (⊎-elim (λ l. le-trans (ordered .apart (next - 1) next (let q = e in omega (arith, h, q)) l) (le-of-eq (sym (point-row l))))
+      (λ l. le-trans (small (next - 1)) (le-of-eq (sym (point-past l)))) (split next (g .used))))
       s
 
 -- the heavier of zero and a weight is that weight
 heavier-zero : {w : Float} → Weight w → heavier zeroWeight w ≡ w
-heavier-zero {w} h = units-inj (heavier-weight (finite zero-finite) h) h (heavier-units (finite zero-finite) h ∙ none (unitsOf zeroWeight) (unitsOf w) zero-units)
+heavier-zero {w} h =
+    units-inj (heavier-weight (finite zero-finite) h) h (heavier-units (finite zero-finite) h ∙ none (unitsOf zeroWeight) (unitsOf w) zero-units)
   where
     none : (a b : ℕ) → a ≡ 0 → max a b ≡ b
     none a b e = omega (arith, e)
@@ -191,16 +218,19 @@ tried-grows : (b : Bool) (r s : Grown) → triedOf b r ≡ Grows s → T b × (s
 tried-grows true r s e = (tt, sym (ap (λ (x : Tried). elim x [ Grows y ↦ y | Fails ↦ r ]) e))
 tried-grows false r s e = absurd (true≢false (ap (λ (x : Tried). elim x [ Grows _ ↦ false | Fails ↦ true ]) e))
 
-module _ (p : Register) (t : Reserved) (g : SegmentColumns) (froms : List ℕ) (weights : List Float) (lives : List ℕ) (freqs : List Float) (own k : ℕ) (table : InTable (seenBy p t g froms weights lives freqs own k) weights lives freqs)
+module _ (p : Register) (t : Reserved) (g : SegmentColumns) (froms : List ℕ) (weights : List Float) (lives : List ℕ) (freqs : List Float) (own k : ℕ)
+    (table : InTable (seenBy p t g froms weights lives freqs own k) weights lives freqs)
     {free : Bool} {top : Float} {tried : Tried} (fixed-is : free ≡ fixedMetAny p t (segmentsOfGap g own)) (top-is : top ≡ heaviestInGap p t g own zeroWeight)
-    (tested : tried ≡ testedOf (not free) (record { left = own; right = own; weight = zeroWeight; insts = 0; heaviest = zeroWeight }) (floatAt weights own) 1 top k own (own + 1)) where
+    (tested : tried ≡ testedOf (not free) (record { left = own; right = own; weight = zeroWeight; insts = 0; heaviest = zeroWeight }) (floatAt weights own) 1
+    top k own (own + 1)) where
   abbrev view : GapsSeen
   view = seenBy p t g froms weights lives freqs own k
 
   own-tried : tried ≡ triedOf (passes view own (ownSpan view)) (grownOf view (ownSpan view))
   own-tried =
       tested
-      ∙ ap₂ (λ (f : Bool) (h : Float). testedOf (not f) (record { left = own; right = own; weight = zeroWeight; insts = 0; heaviest = zeroWeight }) (floatAt weights own) 1 h k own (own + 1)) fixed-is
+      ∙ ap₂ (λ (f : Bool) (h : Float). testedOf (not f) (record { left = own; right = own; weight = zeroWeight; insts = 0; heaviest = zeroWeight })
+      (floatAt weights own) 1 h k own (own + 1)) fixed-is
       (top-is ∙ heavier-zero (heaviest-weight (weightsMetAll p t (segmentsOfGap g own)) (all-weights p t (segmentsOfGap g own))))
       ∙ tested-own view refl (table .sound .weights own (table .sound .inside))
 
@@ -209,7 +239,8 @@ module _ (p : Register) (t : Reserved) (g : SegmentColumns) (froms : List ℕ) (
   own-fails e = answer-nothing view (tried-fails (passes view own (ownSpan view)) (grownOf view (ownSpan view)) (sym own-tried ∙ e))
 
   -- where it passes growth starts from it
-  pub own-reached : (region : Grown) → tried ≡ Grows region → (s : Stand) → s .growth ≡ startAt region → LeftAt p (t .rows) g own (s .left) → RightAt p (t .rows) g (own + 1) (s .right) → Reached view p t g s
+  pub own-reached : (region : Grown) → tried ≡ Grows region → (s : Stand) → s .growth ≡ startAt region → LeftAt p (t .rows) g own (s .left)
+      → RightAt p (t .rows) g (own + 1) (s .right) → Reached view p t g s
   own-reached region e s is l r =
       let q = tried-grows (passes view own (ownSpan view)) (grownOf view (ownSpan view)) region (sym own-tried ∙ e) in
       let f = is ∙ ap startAt (q .1) in

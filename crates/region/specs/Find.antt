@@ -12,18 +12,19 @@ use Rattle.walks.specs.declared.meeting.Register.{Register}
 use Rattle.walks.specs.Meeting.{Reserved, fixedMetAny, weightsMetAll}
 use Rattle.walks.specs.Gaps.{segmentsOfGap, RightAt, LeftAt}
 use Rattle.overlaps.specs.GapSegments.{SegmentColumns}
-use Rattle.region.specs.Growth.{GapsSeen}
-use Rattle.region.specs.Proposal.{proposalWith, regionOf}
-use Rattle.region.specs.Demand.{SoundGaps}
-use Rattle.region.specs.Columns.{seenIn, spanOf, InsideGaps, Going}
-use Rattle.region.specs.declared.growth.Grown.{Grown}
-use Rattle.region.specs.declared.proposal.Region.the-variants.{Found}
+use Rattle.growth.specs.Growth.{GapsSeen}
+use Rattle.growth.specs.Proposal.{proposalWith, regionOf}
+use Rattle.growth.specs.Demand.{SoundGaps}
+use Rattle.growth.specs.Columns.{seenIn, spanOf, InsideGaps, Going}
+use Rattle.growth.specs.declared.step.Grown.{Grown}
+use Rattle.growth.specs.declared.proposal.Region.the-variants.{Found}
 use Rattle.region.specs.declared.find.Stand.{Stand}
 
 -- what growth sees: the gaps in columns, and of each gap what its gap segments meet among the register's reservations
 abbrev pub seenBy : Register → Reserved → SegmentColumns → List ℕ → List Float → List ℕ → List Float → ℕ → ℕ → GapsSeen
 seenBy p t g froms weights lives freqs own k =
-    seenIn froms weights lives freqs (length froms) own (λ (gap : ℕ). fixedMetAny p t (segmentsOfGap g gap)) (λ (gap : ℕ). weightsMetAll p t (segmentsOfGap g gap)) k
+    seenIn froms weights lives freqs (length froms) own
+    (λ (gap : ℕ). fixedMetAny p t (segmentsOfGap g gap)) (λ (gap : ℕ). weightsMetAll p t (segmentsOfGap g gap)) k
 
 -- what growth relies on: sound gaps in columns as long as there are gaps
 pub record InTable (seen : GapsSeen) (weights : List Float) (lives : List ℕ) (freqs : List Float) : Type 0 where
@@ -34,7 +35,8 @@ pub record InTable (seen : GapsSeen) (weights : List Float) (lives : List ℕ) (
   pub freqs-long : length freqs ≡ seen .count
 
 -- rows that the columns of gaps and those of gap segments have
-pub record RowsInside (gaps : ℕ) (froms : List ℕ) (weights : List Float) (lives : List ℕ) (freqs : List Float) (segments : ℕ) (out-froms out-tos out-values out-gaps : List ℕ) : Type 0 where
+pub record RowsInside (gaps : ℕ) (froms : List ℕ) (weights : List Float) (lives : List ℕ) (freqs : List Float)
+    (segments : ℕ) (out-froms out-tos out-values out-gaps : List ℕ) : Type 0 where
   pub from : gaps ≤ length froms
   pub weight : gaps ≤ length weights
   pub live : gaps ≤ length lives

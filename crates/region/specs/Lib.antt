@@ -1,8 +1,3 @@
--- What the region layer computes: growth, the proposal, what demand 3 says of it, and evictions. Columns, and OneTry but for what the walkers rely on, are for private functions.
-pub mod Growth
-pub mod Proposal
-pub mod Demand
-pub mod Evictions
-pub mod Columns
+-- What growth sees of lent columns, and what it relies on. OneTry, but for what the walkers rely on, is for private functions.
 pub mod OneTry
 pub mod Find

@@ -12,8 +12,8 @@ use Rattle.walks.specs.Standing.{Ready, Known}
 use Rattle.walks.specs.Gaps.{segmentsOfGap, heaviestInGap, OrderedGaps}
 use Rattle.overlaps.specs.GapSegments.{SegmentColumns}
 use Rattle.links.specs.Links.{onSide}
-use Rattle.region.specs.Columns.{numberAt, floatAt, CountFits, testedOf, afterTry}
-use Rattle.region.specs.declared.growth.Growth.{Growth}
+use Rattle.growth.specs.Columns.{numberAt, floatAt, CountFits, testedOf, afterTry}
+use Rattle.growth.specs.declared.step.Growth.{Growth}
 
 -- what the walkers rely on
 pub record Walkable (p : Register) (t : Reserved) (g : SegmentColumns) : Type 0 where
@@ -40,6 +40,7 @@ abbrev pub triedOn : Side → Register → Reserved → SegmentColumns → List 
 triedOn side p t g weights lives k growth =
     let gap = gapOn side growth in
     afterTry side
-    (testedOf (not (fixedMetAny p t (segmentsOfGap g gap))) (growth .region) (floatAt weights gap) (numberAt lives gap) (heaviestInGap p t g gap (growth .region .heaviest)) k
+    (testedOf (not (fixedMetAny p t (segmentsOfGap g gap))) (growth .region) (floatAt weights gap) (numberAt lives gap)
+    (heaviestInGap p t g gap (growth .region .heaviest)) k
     (onSide side gap (growth .region .left)) (onSide side (growth .region .right) (gap + 1)))
     growth

@@ -1,15 +1,15 @@
 // The region around the best use's gap, grown try by try.
-use crate::growth::Grown;
-use crate::growth::Growth;
-use crate::growth::Tried;
-use crate::growth::Turn;
-use crate::growth::grow_next;
-use crate::growth::tested;
 use crate::one_try::try_left;
 use crate::one_try::try_right;
-use crate::proposal::Region;
-use crate::proposal::proposal_of;
 use columns::search::first_at_least;
+use growth::proposal::Region;
+use growth::proposal::proposal_of;
+use growth::step::Grown;
+use growth::step::Growth;
+use growth::step::Tried;
+use growth::step::Turn;
+use growth::step::grow_next;
+use growth::step::tested;
 use links::lower::Side;
 use numbers::Point;
 use walks::both::Walkers;
@@ -21,7 +21,7 @@ ghost use Prim.Native.Nat.{_≤_};
 ghost use lib.ListN.{length, take};
 ghost use Rattle.walks.specs.Meeting.{reservedOf};
 ghost use Rattle.overlaps.specs.GapSegments.{segmentColumns};
-ghost use Rattle.region.specs.Proposal.{regionOf};
+ghost use Rattle.growth.specs.Proposal.{regionOf};
 ghost use Rattle.region.specs.OneTry.{Walkable, Triable, triedOn};
 ghost use Rattle.region.specs.Find.{seenBy, InTable, RowsInside, Standing, Moved, Reached, Answers, pointAt};
 

@@ -1,6 +1,6 @@
 // One try of growth: the gap segments of the gap on a side, walked, and the region with that gap, tested.
-use crate::growth::Growth;
-use crate::growth::tested;
+use growth::step::Growth;
+use growth::step::tested;
 use links::lower::Side;
 use walks::left::LeftWalker;
 use walks::meeting::Register;

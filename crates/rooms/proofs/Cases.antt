@@ -60,7 +60,8 @@ answers =
     ∷ refusalOf (like 0 1 4 0 (segment 2 14 0) twoUses) (record { uses = 4; gaps = 5; «gap_segments» = 6; links = 0 })
     ∷ refusalOf (like 65537 9 4 4 (segment 2 14 0) twoUses) room
     ∷ refusalOf (like 0 1 4 4 (segment 14 2 0) twoUses) room
-    ∷ refusalOf (like 0 1 4 0 (segment 4 14 8) (record { position = 4294967295; kind = 99; cost = 7 } ∷ record { position = 3; kind = 4; cost = 1065353216 } ∷ [])) room
+    ∷ refusalOf (like 0 1 4 0 (segment 4 14 8) (record { position = 4294967295; kind = 99; cost = 7 } ∷ record
+    { position = 3; kind = 4; cost = 1065353216 } ∷ [])) room
     ∷ refusalOf (like 0 1 4 0 (segment 2 14 0) (record { position = 0; kind = 5; cost = 1065353216 } ∷ record { position = 3; kind = 99; cost = 7 } ∷ [])) room
     ∷ []
 

@@ -29,12 +29,14 @@ lines-numbered job rooms i h = numbered-at 0 (lines job rooms) tt i h ∙ from-z
 
 -- a job is refused by line n + 1 at place p exactly if that line is first broken there and lines 1 to n have passed
 pub job-refused-exactly : (job : Job) (rooms : Rooms) (n p : ℕ)
-    → (refusalOf job rooms ≡ refusal (suc n) p → Reported (lines job rooms) (suc n) p n) × (Reported (lines job rooms) (suc n) p n → refusalOf job rooms ≡ refusal (suc n) p)
+    → (refusalOf job rooms ≡ refusal (suc n) p → Reported (lines job rooms) (suc n) p n)
+    × (Reported (lines job rooms) (suc n) p n → refusalOf job rooms ≡ refusal (suc n) p)
 job-refused-exactly job rooms n p = refused-by-number (lines job rooms) (lines-numbered job rooms) n p
 
 -- it is accepted exactly if all twelve have passed
 pub job-accepted-exactly : (job : Job) (rooms : Rooms)
-    → (refusalOf job rooms ≡ Sound → (i : ℕ) → i < length (lines job rooms) → Passed (getD (lines job rooms) i noLine)) × (((i : ℕ) → i < length (lines job rooms) → Passed (getD (lines job rooms) i noLine)) → refusalOf job rooms ≡ Sound)
+    → (refusalOf job rooms ≡ Sound → (i : ℕ) → i < length (lines job rooms) → Passed (getD (lines job rooms) i noLine))
+    × (((i : ℕ) → i < length (lines job rooms) → Passed (getD (lines job rooms) i noLine)) → refusalOf job rooms ≡ Sound)
 job-accepted-exactly job rooms = (accepted-passed (lines job rooms), passed-accepted (lines job rooms))
 
 -- ---- line 12

@@ -1,6 +1,7 @@
 // Document 01's lines 1 to 12 in order, of a whole job and the tables that are lent with it.
 ghost use mathlib.Core.Path.{_≡_};
-ghost use Rattle.refusals.specs.Job.{jobOf, jobColumns};
+ghost use mathlib.Core.List.{map};
+ghost use Rattle.refusals.specs.Job.{jobOf, jobColumnsIn};
 ghost use Rattle.rooms.specs.Rooms.{refusalOf};
 use crate::rooms::check_rooms;
 use filling::lent::Rooms;
@@ -9,48 +10,33 @@ use refusals::job::Parameters;
 use refusals::job::sizes_of;
 use refusals::refusals::check_tables;
 
-// The first of lines 1 to 12 that a job and the tables lent with it break, or Sound.
-pub fn check_job(
-    freq: &[u32],
-    first: &[u32],
-    end: &[u32],
-    code: &[u32],
-    s_start: &[u32],
-    s_end: &[u32],
-    s_value: &[u32],
-    s_first_use: &[u32],
-    s_end_use: &[u32],
-    s_flags: &[u32],
-    position: &[u32],
-    u_kind: &[u32],
-    cost: &[u32],
-    weight: &[u32],
-    r_unit: &[u32],
-    r_start: &[u32],
-    r_end: &[u32],
-    r_kind: &[u32],
-    r_index: &[u32],
-    r_fixed: &[u32],
-    f_unit: &[u32],
-    point: &[u32],
-    f_value: &[u32],
-    parameters: Parameters,
-    rooms: Rooms,
-) -> Checked
-    ensures { λ r. ⌜
-        (let job = jobOf parameters (jobColumns
-        (now (freq .entry)) (now (first .entry)) (now (end .entry))
-        (now (code .entry))
-        (now («s_start» .entry)) (now («s_end» .entry)) (now («s_value» .entry))
-        (now («s_first_use» .entry)) (now («s_end_use» .entry)) (now («s_flags» .entry))
-        (now (position .entry)) (now («u_kind» .entry)) (now (cost .entry))
-        (now (weight .entry))
-        (now («r_unit» .entry)) (now («r_start» .entry)) (now («r_end» .entry))
-        (now («r_kind» .entry)) (now («r_index» .entry)) (now («r_fixed» .entry))
-        (now («f_unit» .entry)) (now (point .entry)) (now («f_value» .entry))) in
-        r ≡ refusalOf job rooms)
-        ⌝ }
+// The first of lines 1 to 12 that a job and the tables lent with it break, or Sound. The job's columns are in the order of `jobColumnsIn`.
+pub fn check_job<'a>(columns: [&'a [u32]; 23], parameters: Parameters, rooms: Rooms) -> Checked
+    ensures { λ r. ⌜ r ≡ refusalOf (jobOf parameters (jobColumnsIn (map now (columns .entry)))) rooms ⌝ }
 {
+    let freq = columns[0];
+    let first = columns[1];
+    let end = columns[2];
+    let code = columns[3];
+    let s_start = columns[4];
+    let s_end = columns[5];
+    let s_value = columns[6];
+    let s_first_use = columns[7];
+    let s_end_use = columns[8];
+    let s_flags = columns[9];
+    let position = columns[10];
+    let u_kind = columns[11];
+    let cost = columns[12];
+    let weight = columns[13];
+    let r_unit = columns[14];
+    let r_start = columns[15];
+    let r_end = columns[16];
+    let r_kind = columns[17];
+    let r_index = columns[18];
+    let r_fixed = columns[19];
+    let f_unit = columns[20];
+    let point = columns[21];
+    let f_value = columns[22];
     let checked = check_tables(
         freq,
         first,

@@ -41,7 +41,8 @@ unfolding text rows render textFrom linesText line lineText fieldsText field dig
 case-text = refl
 
 case-sound : verdict text ≡ Sound
-unfolding text verdict verdictBelow fault isLine areFields isField sameText value valueBehind field digits digitOrBlank linesOf kindOfLine kindOf position latest ofKind isInOrder letter fields limit width
+unfolding text verdict verdictBelow fault isLine areFields isField sameText value valueBehind field digits digitOrBlank linesOf kindOfLine kindOf position
+    latest ofKind isInOrder letter fields limit width
 case-sound = refl
 
 answer : Answer

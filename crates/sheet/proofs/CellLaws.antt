@@ -51,14 +51,16 @@ columns-length zero c k rows cells = refl
 columns-length (suc n) c k rows cells = columns-length n (suc c) k rows (sets cells (place k c) (column c rows)) ∙ length-sets cells (place k c) (column c rows)
 
 -- columns that a cell is outside of
-columns-outside : (n c k j : ℕ) (rows : List (List ℕ)) (cells : List ℕ) → ((d : ℕ) → c ≤ d → d < c + n → Outside j (place k d) (length rows)) → getD (storedColumns k rows c n cells) j 0 ≡ getD cells j 0
+columns-outside : (n c k j : ℕ) (rows : List (List ℕ)) (cells : List ℕ) → ((d : ℕ) → c ≤ d → d < c + n → Outside j (place k d) (length rows))
+    → getD (storedColumns k rows c n cells) j 0 ≡ getD cells j 0
 unfolding storedColumns
 columns-outside zero c k j rows cells o = refl
 columns-outside (suc n) c k j rows cells o =
     columns-outside n (suc c) k j rows (sets cells (place k c) (column c rows)) (λ d a b. o d (omega arith) (omega arith))
     ∙ sets-outside (column c rows) cells (place k c) j (subst (Outside j (place k c)) (sym (column-length c rows)) (o c (omega arith) (omega arith)))
 
-kinds-outside : (n k j : ℕ) (s : Sheet) (cells : List ℕ) → ((m d : ℕ) → k ≤ m → m < k + n → d < fields m → Outside j (place m d) (length (s m))) → getD (storedKinds s k n cells) j 0 ≡ getD cells j 0
+kinds-outside : (n k j : ℕ) (s : Sheet) (cells : List ℕ) → ((m d : ℕ) → k ≤ m → m < k + n → d < fields m → Outside j (place m d) (length (s m)))
+    → getD (storedKinds s k n cells) j 0 ≡ getD cells j 0
 unfolding storedKinds
 kinds-outside zero k j s cells o = refl
 kinds-outside (suc n) k j s cells o =
@@ -66,7 +68,8 @@ kinds-outside (suc n) k j s cells o =
     ∙ columns-outside (fields k) 0 k j (s k) cells (λ d a b. o k d (omega arith) (omega arith) (omega arith))
 
 -- every cell in no used row is kept
-pub cells-kept : (s : Sheet) (cells : List ℕ) (j : ℕ) → ((k c : ℕ) → k < kinds → c < fields k → Outside j (place k c) (length (s k))) → getD (stored s cells) j 0 ≡ getD cells j 0
+pub cells-kept : (s : Sheet) (cells : List ℕ) (j : ℕ) → ((k c : ℕ) → k < kinds → c < fields k → Outside j (place k c) (length (s k)))
+    → getD (stored s cells) j 0 ≡ getD cells j 0
 unfolding stored
 cells-kept s cells j o = kinds-outside kinds 0 j s cells (λ m d a b f. o m d b f)
 
@@ -120,26 +123,32 @@ module _ (s : Sheet) (within : Within s) (k c i : ℕ) (kind : k < kinds) (few :
       (omega (arith, column-length c (s k), place-fits (base k) (fields k) (limit k) c (length (s k)) cellCount few (within k kind) (base-fits k kind)))
       ∙ List·getD-map (λ (r : List ℕ). getD r c 0) (s k) i []
 
-  held-columns : (n d : ℕ) (cells : List ℕ) → d ≤ c → c < d + n → cellCount ≤ length cells → getD (storedColumns k (s k) d n cells) here 0 ≡ getD (getD (s k) i []) c 0
+  held-columns : (n d : ℕ) (cells : List ℕ) → d ≤ c → c < d + n → cellCount ≤ length cells
+      → getD (storedColumns k (s k) d n cells) here 0 ≡ getD (getD (s k) i []) c 0
   unfolding storedColumns
   held-columns zero d cells a b e = absurd (omega arith)
   held-columns (suc n) d cells a b e =
-      by (ℕ-discrete d c) (λ l. held-columns n (suc d) (sets cells (place k d) (column d (s k))) l (omega arith) (omega (arith, length-sets cells (place k d) (column d (s k)))))
+      by (ℕ-discrete d c) (λ l. held-columns n (suc d) (sets cells (place k d) (column d (s k))) l (omega arith)
+      (omega (arith, length-sets cells (place k d) (column d (s k)))))
     where
-      by : Dec (d ≡ c) → (suc d ≤ c → getD (storedColumns k (s k) (suc d) n (sets cells (place k d) (column d (s k)))) here 0 ≡ getD (getD (s k) i []) c 0) → getD (storedColumns k (s k) (suc d) n (sets cells (place k d) (column d (s k)))) here 0 ≡ getD (getD (s k) i []) c 0
+      by : Dec (d ≡ c) → (suc d ≤ c → getD (storedColumns k (s k) (suc d) n (sets cells (place k d) (column d (s k)))) here 0 ≡ getD (getD (s k) i []) c 0)
+          → getD (storedColumns k (s k) (suc d) n (sets cells (place k d) (column d (s k)))) here 0 ≡ getD (getD (s k) i []) c 0
       by (yes q) later =
           columns-outside n (suc d) k here (s k) (sets cells (place k d) (column d (s k))) (λ x y z. later-column x (omega arith))
           ∙ ap (λ (x : ℕ). getD (sets cells (place k x) (column x (s k))) here 0) q
           ∙ value-there cells e
       by (no q) later = later (omega arith)
 
-  held-kinds : (n m : ℕ) (cells : List ℕ) → m ≤ k → k < m + n → m + n ≤ kinds → cellCount ≤ length cells → getD (storedKinds s m n cells) here 0 ≡ getD (getD (s k) i []) c 0
+  held-kinds : (n m : ℕ) (cells : List ℕ) → m ≤ k → k < m + n → m + n ≤ kinds → cellCount ≤ length cells
+      → getD (storedKinds s m n cells) here 0 ≡ getD (getD (s k) i []) c 0
   unfolding storedKinds
   held-kinds zero m cells a b l e = absurd (omega arith)
   held-kinds (suc n) m cells a b l e =
-      by (ℕ-discrete m k) (λ g. held-kinds n (suc m) (storedColumns m (s m) 0 (fields m) cells) g (omega arith) (omega arith) (omega (arith, columns-length (fields m) 0 m (s m) cells)))
+      by (ℕ-discrete m k) (λ g. held-kinds n (suc m) (storedColumns m (s m) 0 (fields m) cells) g (omega arith) (omega arith)
+      (omega (arith, columns-length (fields m) 0 m (s m) cells)))
     where
-      by : Dec (m ≡ k) → (suc m ≤ k → getD (storedKinds s (suc m) n (storedColumns m (s m) 0 (fields m) cells)) here 0 ≡ getD (getD (s k) i []) c 0) → getD (storedKinds s (suc m) n (storedColumns m (s m) 0 (fields m) cells)) here 0 ≡ getD (getD (s k) i []) c 0
+      by : Dec (m ≡ k) → (suc m ≤ k → getD (storedKinds s (suc m) n (storedColumns m (s m) 0 (fields m) cells)) here 0 ≡ getD (getD (s k) i []) c 0)
+          → getD (storedKinds s (suc m) n (storedColumns m (s m) 0 (fields m) cells)) here 0 ≡ getD (getD (s k) i []) c 0
       by (yes q) later =
           kinds-outside n (suc m) here s (storedColumns m (s m) 0 (fields m) cells) (λ x d y z f. other-kind x d (omega arith) f (λ g. omega arith))
           ∙ ap (λ (x : ℕ). getD (storedColumns x (s x) 0 (fields x) cells) here 0) q
@@ -147,7 +156,8 @@ module _ (s : Sheet) (within : Within s) (k c i : ℕ) (kind : k < kinds) (few :
       by (no q) later = later (omega arith)
 
 -- each number of a stored sheet stands in its own cell
-pub cell-held : (s : Sheet) (cells : List ℕ) → Within s → cellCount ≤ length cells → (k c i : ℕ) → k < kinds → c < fields k → i < length (s k) → getD (stored s cells) (place k c + i) 0 ≡ getD (getD (s k) i []) c 0
+pub cell-held : (s : Sheet) (cells : List ℕ) → Within s → cellCount ≤ length cells → (k c i : ℕ) → k < kinds → c < fields k → i < length (s k)
+    → getD (stored s cells) (place k c + i) 0 ≡ getD (getD (s k) i []) c 0
 unfolding stored here
 cell-held s cells w e k c i h f r = held-kinds s w k c i h f r kinds 0 cells (omega arith) (omega arith) (omega arith) e
 
@@ -161,12 +171,14 @@ unfolding stored
 stored-length s cells = kinds-length kinds 0 s cells
 
 -- the used cells of a column are that column
-pub column-held : (s : Sheet) (cells : List ℕ) → Within s → cellCount ≤ length cells → (k c : ℕ) → k < kinds → c < fields k → take (length (s k)) (drop (place k c) (stored s cells)) ≡ column c (s k)
+pub column-held : (s : Sheet) (cells : List ℕ) → Within s → cellCount ≤ length cells → (k c : ℕ) → k < kinds → c < fields k
+    → take (length (s k)) (drop (place k c) (stored s cells)) ≡ column c (s k)
 unfolding column place
 column-held s cells w e k c h f =
     let x = stored s cells in
     let p = place-fits (base k) (fields k) (limit k) c (length (s k)) cellCount f (w k h) (base-fits k h) in
-    let n : length (take (length (s k)) (drop (place k c) x)) ≡ length (s k) = length-take-le (length (s k)) (drop (place k c) x) (omega (arith, length-drop (place k c) x, stored-length s cells)) in
+    let n : length (take (length (s k)) (drop (place k c) x)) ≡ length (s k) =
+    length-take-le (length (s k)) (drop (place k c) x) (omega (arith, length-drop (place k c) x, stored-length s cells)) in
     ext-getD 0 (take (length (s k)) (drop (place k c) x)) (column c (s k)) (n ∙ sym (column-length c (s k)))
     (λ i l.
     getD-take (length (s k)) (drop (place k c) x) i 0 (omega arith)
@@ -175,7 +187,8 @@ column-held s cells w e k c h f =
     ∙ sym (List·getD-map (λ (r : List ℕ). getD r c 0) (s k) i []))
 
 -- the sheet that was stored is held
-row-held : (n c k i : ℕ) (cells row : List ℕ) → length row ≡ c + n → ((d : ℕ) → d < length row → getD cells (place k d + i) 0 ≡ getD row d 0) → heldRow cells k i c n ≡ drop c row
+row-held : (n c k i : ℕ) (cells row : List ℕ) → length row ≡ c + n → ((d : ℕ) → d < length row → getD cells (place k d + i) 0 ≡ getD row d 0)
+    → heldRow cells k i c n ≡ drop c row
 unfolding heldRow
 row-held zero c k i cells row e h = sym (lib.ListN.drop-of-length-le row {i = c} (omega arith))
 row-held (suc n) c k i cells row e h =
@@ -189,17 +202,20 @@ are-row k i [] a h = absurd (omega arith)
 are-row k zero (row ∷ rows) a h = a .0
 are-row k (suc i) (row ∷ rows) a h = are-row k i rows (a .1) (omega arith)
 
-rows-held : (n i k : ℕ) (cells : List ℕ) (rows : List (List ℕ)) → length rows ≡ i + n → AreRows k rows → ((d j : ℕ) → d < fields k → j < length rows → getD cells (place k d + j) 0 ≡ getD (getD rows j []) d 0) → heldRows cells k i n ≡ drop i rows
+rows-held : (n i k : ℕ) (cells : List ℕ) (rows : List (List ℕ)) → length rows ≡ i + n → AreRows k rows
+    → ((d j : ℕ) → d < fields k → j < length rows → getD cells (place k d + j) 0 ≡ getD (getD rows j []) d 0) → heldRows cells k i n ≡ drop i rows
 unfolding heldRows
 rows-held zero i k cells rows e a h = sym (lib.ListN.drop-of-length-le rows {i = i} (omega arith))
 rows-held (suc n) i k cells rows e a h =
     let r = are-row k i rows a (omega arith) in
-    let t : heldRow cells k i 0 (fields k) ≡ getD rows i [] = row-held (fields k) 0 k i cells (getD rows i []) (omega (arith, r .count)) (λ d l. h d i (omega (arith, r .count)) (omega arith)) in
+    let t : heldRow cells k i 0 (fields k) ≡ getD rows i [] = row-held (fields k) 0 k i cells (getD rows i []) (omega (arith, r .count))
+    (λ d l. h d i (omega (arith, r .count)) (omega arith)) in
     ap (λ (x : List ℕ). x ∷ heldRows cells k (suc i) n) t
     ∙ ap (λ (x : List (List ℕ)). getD rows i [] ∷ x) (rows-held n (suc i) k cells rows (omega arith) a h)
     ∙ sym (lib.Seq.drop-cons rows i [] (omega arith))
 
-pub sheet-held : (s : Sheet) (cells counts : List ℕ) → Within s → cellCount ≤ length cells → (k : ℕ) → k < kinds → AreRows k (s k) → getD counts k 0 ≡ length (s k) → held (stored s cells) counts k ≡ s k
+pub sheet-held : (s : Sheet) (cells counts : List ℕ) → Within s → cellCount ≤ length cells → (k : ℕ) → k < kinds → AreRows k (s k)
+    → getD counts k 0 ≡ length (s k) → held (stored s cells) counts k ≡ s k
 unfolding held
 sheet-held s cells counts w e k h a n =
     rows-held (getD counts k 0) 0 k (stored s cells) (s k) (omega arith) a (λ d j f r. cell-held s cells w e k d j h f r)

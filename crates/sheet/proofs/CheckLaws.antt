@@ -7,14 +7,16 @@ use mathlib.Core.List.{List, [], _∷_, _++_, append-assoc, append-nil}
 use mathlib.Core.Logic.{_⊎_, inl, inr, ⊎-elim}
 use native.Mathlib.Omega.{arith}
 use native.Mathlib.Nat.{add-zero}
-use lib.ListN.{length, getD, take, drop, set, replicate, length-append, length-drop, length-take, length-set, length-map, take-append-drop, drop-of-length-le, getD-replicate}
+use lib.ListN.{length, getD, take, drop, set, replicate, length-append, length-drop, length-take, length-set, length-map, take-append-drop, drop-of-length-le}
+use lib.ListN.{getD-replicate}
 use lib.Seq.{take-at, drop-drop, getD-drop, getD-set-same, getD-set-other}
 use lib.Dec.{eqb, leb}
 use native.Mathlib.Decide.{ℕ-discrete}
 use borrow.Author.Tests.{eq-eqb, ne-eqb, leb-true, lt-ltb, le-ltb}
 use Rattle.sheet.specs.Kinds.{pick, kinds, limit, width, kindOf}
 use Rattle.sheet.specs.Sheet.{line}
-use Rattle.sheet.specs.Refusal.{linesOf, isLine, kindOfLine, latest, ofKind, isInOrder, fault, judged, verdictBelow, verdict, rowOf, sheetOf, Counted, Checked}
+use Rattle.sheet.specs.Refusal.{linesOf, isLine, kindOfLine, latest, ofKind, isInOrder, fault, judged, verdictBelow, verdict, rowOf, sheetOf, Counted}
+use Rattle.sheet.specs.Refusal.{Checked}
 use Rattle.sheet.specs.Next.{nextAt}
 use Rattle.sheet.specs.declared.check.Verdict.{Verdict}
 use Rattle.sheet.specs.declared.check.Verdict.the-variants.{Sound, Refused}
@@ -83,7 +85,8 @@ unfolding ofKind
 kind-more [] l k e = rw (eq-eqb (kindOfLine l) k e)
 kind-more (a ∷ bs) l k e = pick-append (eqb (kindOfLine a) k) (kind-more bs l k e)
   where
-    pick-append : (b : Bool) → ofKind k (bs ++ (l ∷ [])) ≡ ofKind k bs ++ (l ∷ []) → pick b (a ∷ ofKind k (bs ++ (l ∷ []))) (ofKind k (bs ++ (l ∷ []))) ≡ pick b (a ∷ ofKind k bs) (ofKind k bs) ++ (l ∷ [])
+    pick-append : (b : Bool) → ofKind k (bs ++ (l ∷ [])) ≡ ofKind k bs ++ (l ∷ [])
+        → pick b (a ∷ ofKind k (bs ++ (l ∷ []))) (ofKind k (bs ++ (l ∷ []))) ≡ pick b (a ∷ ofKind k bs) (ofKind k bs) ++ (l ∷ [])
     pick-append true r = ap (λ (t : List (List ℕ)). a ∷ t) r
     pick-append false r = r
 
@@ -136,7 +139,8 @@ unfolding total ofKind
 total-more zero l ls h = absurd (omega arith)
 total-more (suc n) l ls h = by (ℕ-discrete (kindOfLine l) n) (total-more n l ls)
   where
-    by : Dec (kindOfLine l ≡ n) → (kindOfLine l < n → total n (l ∷ ls) ≡ suc (total n ls)) → length (ofKind n (l ∷ ls)) + total n (l ∷ ls) ≡ suc (length (ofKind n ls) + total n ls)
+    by : Dec (kindOfLine l ≡ n) → (kindOfLine l < n → total n (l ∷ ls) ≡ suc (total n ls))
+        → length (ofKind n (l ∷ ls)) + total n (l ∷ ls) ≡ suc (length (ofKind n ls) + total n ls)
     by (yes e) m = rw (eq-eqb (kindOfLine l) n e) (omega (arith, total-same n l ls (omega arith)))
     by (no e) m = rw (ne-eqb (kindOfLine l) n e) (omega (arith, m (omega arith)))
 
@@ -227,7 +231,8 @@ module _ (text counts : List ℕ) (lines m at : ℕ) (u : Upto text counts lines
   pub next-good : (k e : ℕ) → Line k e ≡ nextAt text at lines m → Good text lines m at k e
   unfolding here
   next-good k e q =
-      let p = good-by (isLine here (take (width here) (drop at text))) (isInOrder lines m here) here (at + width here) k e (q ∙ sym (next-of text at lines m here refl)) in
+      let p = good-by (isLine here (take (width here) (drop at text))) (isInOrder lines m here) here (at + width here) k e
+      (q ∙ sym (next-of text at lines m here refl)) in
       let z : here ≡ k = p .2 in
       record {
         line = subst (λ (j : ℕ). isLine j (take (width j) (drop at text)) ≡ true) z (p .0);
@@ -250,7 +255,8 @@ module _ (text counts : List ℕ) (lines m at : ℕ) (u : Upto text counts lines
       let head : kindOfLine (f .line) ≡ here = kind-of-head f in
       ⊎-elim
       (λ n. said 14 (ap (verdictBelow (u .above)) (f .lines) ∙ malformed (u .above) (f .line) (f .others) here head (unknown x here f n)))
-      (λ p. said 14 (ap (verdictBelow (u .above)) (known x here (p .0)) ∙ disordered (u .above) (take (width here) x) (linesOf (drop (width here) x)) here (known-kind x here (p .0)) (p .0) (order-there here false (p .1))))
+      (λ p. said 14 (ap (verdictBelow (u .above)) (known x here (p .0))
+      ∙ disordered (u .above) (take (width here) x) (linesOf (drop (width here) x)) here (known-kind x here (p .0)) (p .0) (order-there here false (p .1))))
       (bad-by (isLine here (take (width here) x)) (isInOrder lines m here) here (at + width here) (q ∙ sym (next-of text at lines m here refl)))
 
   module _ (k e : ℕ) (g : Good text lines m at k e) where
@@ -265,7 +271,8 @@ module _ (text counts : List ℕ) (lines m at : ℕ) (u : Upto text counts lines
         let x = drop at text in
         said 15
         (ap (verdictBelow (u .above)) (known x k (g .line))
-        ∙ too-many (u .above) (take (width k) x) (linesOf (drop (width k) x)) k (known-kind x k (g .line)) (g .line) (order-there k true (g .order)) (omega (arith, rows-there)))
+        ∙ too-many (u .above) (take (width k) x) (linesOf (drop (width k) x)) k (known-kind x k (g .line)) (g .line) (order-there k true (g .order))
+        (omega (arith, rows-there)))
 
     rest-there : linesOf (drop at text) ≡ take (width k) (drop at text) ∷ linesOf (drop e text)
     rest-there =
@@ -273,11 +280,14 @@ module _ (text counts : List ℕ) (lines m at : ℕ) (u : Upto text counts lines
         ∙ ap (λ (r : List ℕ). take (width k) (drop at text) ∷ linesOf r) (drop-drop (width k) at text ∙ ap (λ (j : ℕ). drop j text) (sym (g .end)))
 
     -- the lines of each kind with one more above
-    counts-then : (j : ℕ) → j < kinds → Dec (j ≡ k) → (getD (set counts k (getD counts k 0 + 1)) j 0 ≡ length (ofKind j (u .above ++ (take (width k) (drop at text) ∷ [])))) × (getD counts k 0 < limit k → getD (set counts k (getD counts k 0 + 1)) j 0 ≤ limit j)
+    counts-then : (j : ℕ) → j < kinds → Dec (j ≡ k) → (getD (set counts k (getD counts k 0 + 1)) j 0
+        ≡ length (ofKind j (u .above ++ (take (width k) (drop at text) ∷ []))))
+        × (getD counts k 0 < limit k → getD (set counts k (getD counts k 0 + 1)) j 0 ≤ limit j)
     counts-then j h (yes p) =
         let l = take (width k) (drop at text) in
         let kind : kindOfLine l ≡ j = known-kind (drop at text) k (g .line) ∙ sym p in
-        let a : getD (set counts k (getD counts k 0 + 1)) j 0 ≡ getD counts k 0 + 1 = ap (λ (i : ℕ). getD (set counts k (getD counts k 0 + 1)) i 0) p ∙ getD-set-same counts k (getD counts k 0 + 1) 0 (omega (arith, good-kind, u .size)) in
+        let a : getD (set counts k (getD counts k 0 + 1)) j 0 ≡ getD counts k 0 + 1 = ap (λ (i : ℕ). getD (set counts k (getD counts k 0 + 1)) i 0) p
+        ∙ getD-set-same counts k (getD counts k 0 + 1) 0 (omega (arith, good-kind, u .size)) in
         let b : length (ofKind j (u .above ++ (l ∷ []))) ≡ length (ofKind j (u .above)) + 1 = ap length (kind-more (u .above) l j kind) ∙ simp length-append in
         let r : getD counts k 0 ≡ length (ofKind j (u .above)) = ap (λ (i : ℕ). getD counts i 0) (sym p) ∙ u .rows j h in
         let t : limit j ≡ limit k = ap limit p in
@@ -285,7 +295,8 @@ module _ (text counts : List ℕ) (lines m at : ℕ) (u : Upto text counts lines
     counts-then j h (no p) =
         let l = take (width k) (drop at text) in
         let a : getD (set counts k (getD counts k 0 + 1)) j 0 ≡ getD counts j 0 = getD-set-other counts k j (getD counts k 0 + 1) 0 p in
-        let b : length (ofKind j (u .above ++ (l ∷ []))) ≡ length (ofKind j (u .above)) = ap length (kind-other (u .above) l j (λ q. p (sym q ∙ known-kind (drop at text) k (g .line)))) in
+        let b : length (ofKind j (u .above ++ (l ∷ []))) ≡ length (ofKind j (u .above)) =
+        ap length (kind-other (u .above) l j (λ q. p (sym q ∙ known-kind (drop at text) k (g .line)))) in
         (omega (arith, u .rows j h), λ n. omega (arith, u .rows j h, u .within j h))
 
     pub next-pass : getD counts k 0 < limit k → Upto text (set counts k (getD counts k 0 + 1)) (lines + 1) k e
@@ -296,7 +307,9 @@ module _ (text counts : List ℕ) (lines m at : ℕ) (u : Upto text counts lines
           above = u .above ++ (l ∷ []);
           inside = omega (arith, known-inside (drop at text) k (g .line), length-drop at text, g .end);
           whole = append-assoc (u .above) (l ∷ []) (linesOf (drop e text)) ∙ ap (λ (r : List (List ℕ)). u .above ++ r) (sym rest-there) ∙ u .whole;
-          left = sym (ap (verdictBelow (u .above)) rest-there ∙ passed (u .above) l (linesOf (drop e text)) k kind (g .line) (order-there k true (g .order)) (omega (arith, rows-there))) ∙ u .left;
+          left =
+              sym (ap (verdictBelow (u .above)) rest-there ∙ passed (u .above) l (linesOf (drop e text)) k kind (g .line) (order-there k true (g .order))
+              (omega (arith, rows-there))) ∙ u .left;
           counted = simp length-append (omega (arith, u .counted));
           last = omega (arith, latest-more (u .above) l, kind, order-latest (u .above) k (order-there k true (g .order)));
           size = length-set counts k (getD counts k 0 + 1) ∙ u .size;

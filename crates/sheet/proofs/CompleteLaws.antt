@@ -52,13 +52,16 @@ record Before (above : List (List ℕ)) (k rows : ℕ) : Type 0 where
   room : length (ofKind k above) + rows ≤ limit k
 
 module _ (k : ℕ) (kind : k < kinds) (pos : 0 < k) where
-  one-more : (above : List (List ℕ)) (row : List ℕ) (n : ℕ) → IsRow k row → Before above k (suc n) → Passes above (line k row) × Before (above ++ (line k row ∷ [])) k n
+  one-more : (above : List (List ℕ)) (row : List ℕ) (n : ℕ) → IsRow k row → Before above k (suc n)
+      → Passes above (line k row) × Before (above ++ (line k row ∷ [])) k n
   one-more above row n r b =
       let e : kindOfLine (line k row) ≡ k = line-kind k row kind r in
-      let m : length (ofKind k (above ++ (line k row ∷ []))) ≡ length (ofKind k above) + 1 = ap length (kind-more above (line k row) k e) ∙ simp length-append in (
+      let m : length (ofKind k (above ++ (line k row ∷ []))) ≡ length (ofKind k above) + 1 = ap length (kind-more above (line k row) k e)
+      ∙ simp length-append in (
         record {
           good = subst (λ (j : ℕ). isLine j (line k row) ≡ true) (sym e) (is-line k row kind r);
-          order = subst (λ (j : ℕ). isInOrder (length above) (latest above) j ≡ true) (sym e) (in-order (length above) (latest above) k (b .some) pos (b .last));
+          order =
+              subst (λ (j : ℕ). isInOrder (length above) (latest above) j ≡ true) (sym e) (in-order (length above) (latest above) k (b .some) pos (b .last));
           room = subst (λ (j : ℕ). length (ofKind j above) < limit j) (sym e) (omega (arith, b .room));
         },
         record {
@@ -68,14 +71,21 @@ module _ (k : ℕ) (kind : k < kinds) (pos : 0 < k) where
         },
       )
 
-  pass-rows : (rows above rest : List (List ℕ)) → AreRows k rows → Before above k (length rows) → (Before (above ++ map (line k) rows) k 0 → AllPass (above ++ map (line k) rows) rest) → AllPass above (map (line k) rows ++ rest)
-  pass-rows [] above rest a b more = subst (λ (x : List (List ℕ)). AllPass x rest) (append-nil above) (more (subst (λ (x : List (List ℕ)). Before x k 0) (sym (append-nil above)) b))
+  pass-rows : (rows above rest : List (List ℕ)) → AreRows k rows → Before above k (length rows)
+      → (Before (above ++ map (line k) rows) k 0 → AllPass (above ++ map (line k) rows) rest) → AllPass above (map (line k) rows ++ rest)
+  pass-rows [] above rest a b more =
+      subst (λ (x : List (List ℕ)). AllPass x rest) (append-nil above) (more (subst (λ (x : List (List ℕ)). Before x k 0) (sym (append-nil above)) b))
   pass-rows (row ∷ rows) above rest a b more =
       let p = one-more above row (length rows) (a .0) b in
-      let e : (above ++ (line k row ∷ [])) ++ map (line k) rows ≡ above ++ (line k row ∷ map (line k) rows) = append-assoc above (line k row ∷ []) (map (line k) rows) in
-      (p .0, pass-rows rows (above ++ (line k row ∷ [])) rest (a .1) (p .1) (λ b′. subst (λ (x : List (List ℕ)). AllPass x rest) (sym e) (more (subst (λ (x : List (List ℕ)). Before x k 0) e b′))))
+      let e : (above ++ (line k row ∷ [])) ++ map (line k) rows ≡ above ++ (line k row ∷ map (line k) rows) =
+      append-assoc above (line k row ∷ []) (map (line k) rows) in (
+        p .0,
+        pass-rows rows (above ++ (line k row ∷ [])) rest (a .1) (p .1)
+            (λ b′. subst (λ (x : List (List ℕ)). AllPass x rest) (sym e) (more (subst (λ (x : List (List ℕ)). Before x k 0) e b′))),
+      )
 
-pass-kinds : (s : Sheet) (n k : ℕ) (above : List (List ℕ)) → k + n ≡ kinds → ((j : ℕ) → j < kinds → AreRows j (s j)) → Within s → 0 < length above → 0 < k → latest above < k → AllPass above (lineList s k n)
+pass-kinds : (s : Sheet) (n k : ℕ) (above : List (List ℕ)) → k + n ≡ kinds → ((j : ℕ) → j < kinds → AreRows j (s j)) → Within s → 0 < length above → 0 < k
+    → latest above < k → AllPass above (lineList s k n)
 unfolding lineList
 pass-kinds s zero k above e a w h p l = tt
 pass-kinds s (suc n) k above e a w h p l =
@@ -138,14 +148,16 @@ module _ (s : Sheet) (a : (j : ℕ) → j < kinds → AreRows j (s j)) (k : ℕ)
   kind-past : (n j : ℕ) → k < j → j + n ≤ kinds → ofKind k (lineList s j n) ≡ []
   unfolding ofKind lineList
   kind-past zero j h e = refl
-  kind-past (suc n) j h e = kind-not-rows (s j) (lineList s (suc j) n) j k (omega arith) (λ q. omega arith) (a j (omega arith)) ∙ kind-past n (suc j) (omega arith) (omega arith)
+  kind-past (suc n) j h e =
+      kind-not-rows (s j) (lineList s (suc j) n) j k (omega arith) (λ q. omega arith) (a j (omega arith)) ∙ kind-past n (suc j) (omega arith) (omega arith)
 
   kind-there : (n j : ℕ) → j ≤ k → k < j + n → j + n ≤ kinds → ofKind k (lineList s j n) ≡ map (line k) (s k)
   unfolding lineList
   kind-there zero j h g e = absurd (omega arith)
   kind-there (suc n) j h g e = by (ℕ-discrete j k) (λ l. kind-there n (suc j) l (omega arith) (omega arith))
     where
-      by : Dec (j ≡ k) → (suc j ≤ k → ofKind k (lineList s (suc j) n) ≡ map (line k) (s k)) → ofKind k (map (line j) (s j) ++ lineList s (suc j) n) ≡ map (line k) (s k)
+      by : Dec (j ≡ k) → (suc j ≤ k → ofKind k (lineList s (suc j) n) ≡ map (line k) (s k))
+          → ofKind k (map (line j) (s j) ++ lineList s (suc j) n) ≡ map (line k) (s k)
       by (yes q) later =
           ap (λ (i : ℕ). ofKind k (map (line i) (s i) ++ lineList s (suc j) n)) q
           ∙ kind-rows (s k) (lineList s (suc j) n) k (omega arith) (a k (omega arith))

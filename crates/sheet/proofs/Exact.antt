@@ -54,7 +54,8 @@ unfolding verdictBelow
 refused-first [] top n p e = let z : _≡_ {A = ℕ} 0 1 = cc in absurd (omega arith)
 refused-first (l ∷ ls) top n p e = by (fault top l) refl e (refused-first ls (top ++ (l ∷ [])) n p)
   where
-    by : (m : ℕ) → fault top l ≡ m → judged m (length top + 1) (verdictBelow (top ++ (l ∷ [])) ls) ≡ Refused n p → (verdictBelow (top ++ (l ∷ [])) ls ≡ Refused n p → FirstBad (top ++ (l ∷ [])) ls n p) → FirstBad top (l ∷ ls) n p
+    by : (m : ℕ) → fault top l ≡ m → judged m (length top + 1) (verdictBelow (top ++ (l ∷ [])) ls) ≡ Refused n p
+        → (verdictBelow (top ++ (l ∷ [])) ls ≡ Refused n p → FirstBad (top ++ (l ∷ [])) ls n p) → FirstBad top (l ∷ ls) n p
     by zero f q later =
         let b = later q in
         let a : (top ++ (l ∷ [])) ++ b .above ≡ top ++ l ∷ b .above = append-assoc top (l ∷ []) (b .above) in
@@ -82,7 +83,8 @@ refused-first (l ∷ ls) top n p e = by (fault top l) refl e (refused-first ls (
           there = subst (λ (x : List (List ℕ)). p ≡ length x + 1) a (sym (s .1));
         }
 
-first-refused : (above : List (List ℕ)) (top : List (List ℕ)) (l : List ℕ) (ls : List (List ℕ)) (n : ℕ) → AllPass top above → fault (top ++ above) l ≡ suc n → verdictBelow top (above ++ l ∷ ls) ≡ Refused (suc n) (length (top ++ above) + 1)
+first-refused : (above : List (List ℕ)) (top : List (List ℕ)) (l : List ℕ) (ls : List (List ℕ)) (n : ℕ) → AllPass top above → fault (top ++ above) l ≡ suc n
+    → verdictBelow top (above ++ l ∷ ls) ≡ Refused (suc n) (length (top ++ above) + 1)
 unfolding verdictBelow
 first-refused [] top l ls n p f =
     let a : top ++ [] ≡ top = append-nil top in
@@ -119,11 +121,13 @@ module _ (above : List (List ℕ)) (l : List ℕ) where
   fourteen d =
       ⊎-elim (λ e. rw e) (λ e. by (isLine (kindOfLine l) l) (ltb (length (ofKind (kindOfLine l) above)) (limit (kindOfLine l))) e) d
     where
-      by : (a c : Bool) → isInOrder (length above) (latest above) (kindOfLine l) ≡ false → _≡_ {A = ℕ} (pick a (pick (isInOrder (length above) (latest above) (kindOfLine l)) (pick c 0 15) 14) 14) 14
+      by : (a c : Bool) → isInOrder (length above) (latest above) (kindOfLine l) ≡ false
+          → _≡_ {A = ℕ} (pick a (pick (isInOrder (length above) (latest above) (kindOfLine l)) (pick c 0 15) 14) 14) 14
       by true c e = rw e
       by false c e = refl
 
-  pub fifteen : isLine (kindOfLine l) l ≡ true → isInOrder (length above) (latest above) (kindOfLine l) ≡ true → limit (kindOfLine l) ≤ length (ofKind (kindOfLine l) above) → fault above l ≡ 15
+  pub fifteen : isLine (kindOfLine l) l ≡ true → isInOrder (length above) (latest above) (kindOfLine l) ≡ true
+      → limit (kindOfLine l) ≤ length (ofKind (kindOfLine l) above) → fault above l ≡ 15
   unfolding fault
   fifteen a b h = rw (a, b, le-ltb (length (ofKind (kindOfLine l) above)) (limit (kindOfLine l)) h)
 

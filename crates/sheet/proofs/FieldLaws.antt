@@ -44,7 +44,8 @@ bound-small n i h b =
     omega arith
 
 -- the comparison of two texts
-pub same-step : (a b : List ℕ) (i : ℕ) → i < length a → length a ≡ length b → getD a i 0 ≡ getD b i 0 → sameText (drop (i + 1) a) (drop (i + 1) b) ≡ sameText (drop i a) (drop i b)
+pub same-step : (a b : List ℕ) (i : ℕ) → i < length a → length a ≡ length b → getD a i 0 ≡ getD b i 0
+    → sameText (drop (i + 1) a) (drop (i + 1) b) ≡ sameText (drop i a) (drop i b)
 unfolding sameText
 same-step a b i h l e =
     let hb : i < length b = omega arith in
@@ -79,12 +80,14 @@ unfolding field
 field-length n = simp length-append (omega (arith, columns-length 10 (n / 10)))
 
 -- a turn of the loop that writes a number, from its last column on
-pub put-step : (out whole : List ℕ) (at i left d : ℕ) → 0 < i → d ≡ digitOrBlank left → sets out at (digits i left) ≡ whole → sets (set out (at + (i - 1)) d) at (digits (i - 1) (left / 10)) ≡ whole
+pub put-step : (out whole : List ℕ) (at i left d : ℕ) → 0 < i → d ≡ digitOrBlank left → sets out at (digits i left) ≡ whole
+    → sets (set out (at + (i - 1)) d) at (digits (i - 1) (left / 10)) ≡ whole
 unfolding digits
 put-step out whole at i left d h e p =
     let j : i ≡ suc (i - 1) = omega arith in
     let q : sets out at (digits (suc (i - 1)) left) ≡ whole = subst (λ (w : ℕ). sets out at (digits w left) ≡ whole) j p in
-    let t : sets (set out (at + (i - 1)) (digitOrBlank left)) at (digits (i - 1) (left / 10)) ≡ sets out at (digits (i - 1) (left / 10) ++ (digitOrBlank left ∷ [])) =
+    let t : sets (set out (at + (i - 1)) (digitOrBlank left)) at (digits (i - 1) (left / 10))
+    ≡ sets out at (digits (i - 1) (left / 10) ++ (digitOrBlank left ∷ [])) =
     ap (λ (w : ℕ). sets (set out (at + w) (digitOrBlank left)) at (digits (i - 1) (left / 10))) (sym (columns-length (i - 1) (left / 10)))
     ∙ sym (sets-snoc (digits (i - 1) (left / 10)) out at (digitOrBlank left)) in
     rw e (t ∙ q)

@@ -29,12 +29,15 @@ module _ (text : List ℕ) (p step count i : ℕ) (h : i < count) where
   pub readable-more : Readable text p step (count - i) → Readable text p step (suc (count - (i + 1)))
   readable-more r = subst (Readable text p step) less r
 
-  pub fill-step : (cells whole : List ℕ) (place n w : ℕ) → w ≡ 11 → n ≡ value (take w (drop p text)) → sets cells (place + i) (fieldsAt text p step (count - i)) ≡ whole → sets (set cells (place + i) n) (place + (i + 1)) (fieldsAt text (p + step) step (count - (i + 1))) ≡ whole
+  pub fill-step : (cells whole : List ℕ) (place n w : ℕ) → w ≡ 11 → n ≡ value (take w (drop p text))
+      → sets cells (place + i) (fieldsAt text p step (count - i)) ≡ whole
+      → sets (set cells (place + i) n) (place + (i + 1)) (fieldsAt text (p + step) step (count - (i + 1))) ≡ whole
   unfolding fieldsAt
   fill-step cells whole place n w e v q =
       let m : n ≡ value (take 11 (drop p text)) = v ∙ ap (λ (j : ℕ). value (take j (drop p text))) e in
       let t : place + (i + 1) ≡ suc (place + i) = omega arith in
-      let r : sets cells (place + i) (fieldsAt text p step (suc (count - (i + 1)))) ≡ whole = subst (λ (j : ℕ). sets cells (place + i) (fieldsAt text p step j) ≡ whole) less q in
+      let r : sets cells (place + i) (fieldsAt text p step (suc (count - (i + 1)))) ≡ whole =
+      subst (λ (j : ℕ). sets cells (place + i) (fieldsAt text p step j) ≡ whole) less q in
       ap (λ (j : ℕ). sets (set cells (place + i) n) j (fieldsAt text (p + step) step (count - (i + 1)))) t
       ∙ ap (λ (d : ℕ). sets (set cells (place + i) d) (suc (place + i)) (fieldsAt text (p + step) step (count - (i + 1)))) m
       ∙ r
@@ -90,7 +93,8 @@ module _ (k c : ℕ) (few : c < fields k) (text : List ℕ) where
       let m : at + 1 + 11 * c + width k ≡ at + width k + 1 + 11 * c = omega arith in
       let a : value (take 11 (drop (at + 1 + 11 * c) text)) ≡ getD (rowOf k (drop at text)) c 0 = sym (row-at k c at text few) in
       let b : fieldsAt text (at + 1 + 11 * c + width k) (width k) count ≡ column c (rowsOf k count (drop (width k) (drop at text))) =
-      ap (λ (j : ℕ). fieldsAt text j (width k) count) m ∙ fields-column count (at + width k) ∙ ap (λ (x : List ℕ). column c (rowsOf k count x)) (sym (drop-drop (width k) at text)) in
+      ap (λ (j : ℕ). fieldsAt text j (width k) count) m ∙ fields-column count (at + width k)
+      ∙ ap (λ (x : List ℕ). column c (rowsOf k count x)) (sym (drop-drop (width k) at text)) in
       ap (λ (n : ℕ). n ∷ fieldsAt text (at + 1 + 11 * c + width k) (width k) count) a ∙ ap (λ (t : List ℕ). getD (rowOf k (drop at text)) c 0 ∷ t) b
 
   pub lines-readable : (count at : ℕ) → AreLines k count (drop at text) → Readable text (at + 1 + 11 * c) (width k) count
@@ -115,7 +119,8 @@ place-fits b n m c count most h g e =
     omega arith
 
 -- a turn of the loop over the columns of a kind
-pub column-step : (k c : ℕ) (rows : List (List ℕ)) (cells after whole : List ℕ) → c < fields k → after ≡ sets cells (place k c) (column c rows) → storedColumns k rows c (fields k - c) cells ≡ whole → storedColumns k rows (c + 1) (fields k - (c + 1)) after ≡ whole
+pub column-step : (k c : ℕ) (rows : List (List ℕ)) (cells after whole : List ℕ) → c < fields k → after ≡ sets cells (place k c) (column c rows)
+    → storedColumns k rows c (fields k - c) cells ≡ whole → storedColumns k rows (c + 1) (fields k - (c + 1)) after ≡ whole
 unfolding storedColumns
 column-step k c rows cells after whole h e q =
     let m : fields k - c ≡ suc (fields k - (c + 1)) = omega arith in
@@ -188,7 +193,8 @@ module _ (k n w most first : ℕ) (t : Entries k n w most first) (c : ℕ) (h : 
       subst (λ (j : ℕ). first + c * j + count ≤ cellCount) (sym (t .limit-is))
       (place-fits first (fields k) (limit k) c count cellCount (omega (arith, t .fields-are)) l (t .fits))
 
-  pub column-stored : (cells after : List ℕ) → after ≡ sets cells (first + c * most) (fieldsAt text (at + 1 + 11 * c) w count) → after ≡ sets cells (place k c) (column c (rowsOf k count (drop at text)))
+  pub column-stored : (cells after : List ℕ) → after ≡ sets cells (first + c * most) (fieldsAt text (at + 1 + 11 * c) w count)
+      → after ≡ sets cells (place k c) (column c (rowsOf k count (drop at text)))
   unfolding place
   column-stored cells after e =
       e
@@ -210,7 +216,8 @@ module _ (text : List ℕ) (sound : verdict text ≡ Sound) where
   unfolding stored render
   left-all cells = record { known = omega arith; inside = omega arith; same = refl; rest = sym (sound-sheet text sound .same); left = refl }
 
-  module _ (counts : List ℕ) (counted : (k : ℕ) → k < kinds → getD counts k 0 ≡ length (sheetOf text k)) (cells₀ cells : List ℕ) (at k : ℕ) (h : k < kinds) (u : Left text cells₀ cells at k) where
+  module _ (counts : List ℕ) (counted : (k : ℕ) → k < kinds → getD counts k 0 ≡ length (sheetOf text k)) (cells₀ cells : List ℕ) (at k : ℕ) (h : k < kinds)
+      (u : Left text cells₀ cells at k) where
     later : List ℕ
     later = textFrom (sheetOf text) (suc k) (kinds - (k + 1))
 
@@ -225,10 +232,13 @@ module _ (text : List ℕ) (sound : verdict text ≡ Sound) where
     there = u .rest ∙ ap (textFrom (sheetOf text) k) more
 
     pub kind-lines : AreLines k (getD counts k 0) (drop at text)
-    kind-lines = subst⁻¹ (λ (n : ℕ). AreLines k n (drop at text)) (counted k h) (subst⁻¹ (AreLines k (length (sheetOf text k))) there (lines-there k h later (sheetOf text k) rows))
+    kind-lines =
+        subst⁻¹ (λ (n : ℕ). AreLines k n (drop at text)) (counted k h)
+        (subst⁻¹ (AreLines k (length (sheetOf text k))) there (lines-there k h later (sheetOf text k) rows))
 
     kind-rows : rowsOf k (getD counts k 0) (drop at text) ≡ sheetOf text k
-    kind-rows = ap (λ (n : ℕ). rowsOf k n (drop at text)) (counted k h) ∙ ap (rowsOf k (length (sheetOf text k))) there ∙ rows-there k h later (sheetOf text k) rows
+    kind-rows =
+        ap (λ (n : ℕ). rowsOf k n (drop at text)) (counted k h) ∙ ap (rowsOf k (length (sheetOf text k))) there ∙ rows-there k h later (sheetOf text k) rows
 
     pub kind-count : getD counts k 0 ≤ limit k
     kind-count = omega (arith, counted k h, sound-sheet text sound .within k h)
@@ -238,14 +248,17 @@ module _ (text : List ℕ) (sound : verdict text ≡ Sound) where
 
     pub kind-room : (w : ℕ) → w ≡ width k → at + getD counts k 0 * w ≤ length text
     kind-room w e =
-        let a : length (drop at text) ≡ length (linesText k (sheetOf text k)) + length later = ap length there ∙ length-append (linesText k (sheetOf text k)) later in
+        let a : length (drop at text) ≡ length (linesText k (sheetOf text k)) + length later = ap length there
+        ∙ length-append (linesText k (sheetOf text k)) later in
         let b : getD counts k 0 * w ≡ getD counts k 0 * width k = ap (λ (j : ℕ). getD counts k 0 * j) e in
         omega (arith, size, length-drop at text, u .inside)
 
-    pub left-less : (after : List ℕ) (w : ℕ) → w ≡ width k → length after ≡ length cells → after ≡ storedColumns k (rowsOf k (getD counts k 0) (drop at text)) 0 (fields k) cells → Left text cells₀ after (at + getD counts k 0 * w) (k + 1)
+    pub left-less : (after : List ℕ) (w : ℕ) → w ≡ width k → length after ≡ length cells
+        → after ≡ storedColumns k (rowsOf k (getD counts k 0) (drop at text)) 0 (fields k) cells → Left text cells₀ after (at + getD counts k 0 * w) (k + 1)
     unfolding storedKinds later
     left-less after w e n q =
-        let z : storedKinds (sheetOf text) k (suc (kinds - (k + 1))) cells ≡ stored (sheetOf text) cells₀ = subst (λ (j : ℕ). storedKinds (sheetOf text) k j cells ≡ stored (sheetOf text) cells₀) more (u .left) in
+        let z : storedKinds (sheetOf text) k (suc (kinds - (k + 1))) cells ≡ stored (sheetOf text) cells₀ =
+        subst (λ (j : ℕ). storedKinds (sheetOf text) k j cells ≡ stored (sheetOf text) cells₀) more (u .left) in
         let o : k + 1 ≡ suc k = add-one k in
         let b : getD counts k 0 * w ≡ length (linesText k (sheetOf text k)) = ap (λ (j : ℕ). getD counts k 0 * j) e ∙ sym size in
         record {
@@ -259,7 +272,8 @@ module _ (text : List ℕ) (sound : verdict text ≡ Sound) where
               ∙ ap (λ (j : ℕ). textFrom (sheetOf text) j (kinds - (k + 1))) (sym o);
           left =
               ap (λ (j : ℕ). storedKinds (sheetOf text) j (kinds - (k + 1)) after) o
-              ∙ ap (λ (t : List ℕ). storedKinds (sheetOf text) (suc k) (kinds - (k + 1)) t) (q ∙ ap (λ (r : List (List ℕ)). storedColumns k r 0 (fields k) cells) kind-rows)
+              ∙ ap (λ (t : List ℕ). storedKinds (sheetOf text) (suc k) (kinds - (k + 1)) t)
+              (q ∙ ap (λ (r : List (List ℕ)). storedColumns k r 0 (fields k) cells) kind-rows)
               ∙ z;
         }
 

@@ -19,7 +19,8 @@ position-here c k h e p =
     let q : position c (drop k letters) ≡ 0 = rw (drop-next letters k h, eq-eqb (getD letters k 0) c e) in
     omega arith
 
-pub position-step : (c k : ℕ) → k < 8 → (getD letters k 0 ≡ c → ⊥) → kindOf c ≡ k + position c (drop k letters) → kindOf c ≡ k + 1 + position c (drop (k + 1) letters)
+pub position-step : (c k : ℕ) → k < 8 → (getD letters k 0 ≡ c → ⊥) → kindOf c ≡ k + position c (drop k letters)
+    → kindOf c ≡ k + 1 + position c (drop (k + 1) letters)
 unfolding position
 position-step c k h e p =
     let q : position c (drop k letters) ≡ suc (position c (drop (k + 1) letters)) = rw (drop-next letters k h, ne-eqb (getD letters k 0) c e) in
@@ -37,7 +38,8 @@ abbrev pub allBelow : ℕ → (ℕ → Bool) → Bool
 allBelow zero f = true
 allBelow (suc n) f = pick (f n) (allBelow n f) false
 
-all-by : (n : ℕ) (f : ℕ → Bool) (k : ℕ) → k < suc n → (b : Bool) → f n ≡ b → T (pick b (allBelow n f) false) → (T (allBelow n f) → k < n → f k ≡ true) → f k ≡ true
+all-by : (n : ℕ) (f : ℕ → Bool) (k : ℕ) → k < suc n → (b : Bool) → f n ≡ b → T (pick b (allBelow n f) false) → (T (allBelow n f) → k < n → f k ≡ true)
+    → f k ≡ true
 all-by n f k h true e u below = ⊎-elim (λ q. ap f q ∙ e) (λ l. below u l) (eq-or-lt-of-le (le-of-suc-le-suc h))
 all-by n f k h false e u below = absurd u
 

@@ -85,9 +85,11 @@ module _ (s : List ℕ) (n c : ℕ) (h : c < n) where
   turn =
       let m : n - c ≡ suc (n - (c + 1)) = omega arith in
       let d : 11 * c + 11 ≡ 11 * (c + 1) = omega arith in
-      rw m (ap (λ (t : List ℕ). pick (isField (take 11 (drop (11 * c) s))) (areFields (n - (c + 1)) t) false) (drop-drop 11 (11 * c) s ∙ ap (λ (j : ℕ). drop j s) d))
+      rw m (ap (λ (t : List ℕ). pick (isField (take 11 (drop (11 * c) s))) (areFields (n - (c + 1)) t) false)
+      (drop-drop 11 (11 * c) s ∙ ap (λ (j : ℕ). drop j s) d))
 
-  pub fields-step : (w : ℕ) → w ≡ 11 → isField (take w (drop (11 * c) s)) ≡ true → areFields (n - (c + 1)) (drop (11 * (c + 1)) s) ≡ areFields (n - c) (drop (11 * c) s)
+  pub fields-step : (w : ℕ) → w ≡ 11 → isField (take w (drop (11 * c) s)) ≡ true
+      → areFields (n - (c + 1)) (drop (11 * (c + 1)) s) ≡ areFields (n - c) (drop (11 * c) s)
   fields-step w e t =
       let u : isField (take 11 (drop (11 * c) s)) ≡ true = subst (λ (j : ℕ). isField (take j (drop (11 * c) s)) ≡ true) e t in
       sym (turn ∙ rw u)
@@ -138,7 +140,8 @@ line-is k l e =
     }
 
 -- the tests of a line, one by one
-pub line-test : (k : ℕ) (l : List ℕ) → k < kinds → length l ≡ width k → getD l 0 0 ≡ letter k → getD l (width k - 1) 0 ≡ 10 → isLine k l ≡ areFields (fields k) (drop 1 l)
+pub line-test : (k : ℕ) (l : List ℕ) → k < kinds → length l ≡ width k → getD l 0 0 ≡ letter k → getD l (width k - 1) 0 ≡ 10
+    → isLine k l ≡ areFields (fields k) (drop 1 l)
 unfolding isLine
 line-test k l h n c f = rw (lt-ltb k kinds h, eq-eqb (length l) (width k) n, eq-eqb (getD l 0 0) (letter k) c, eq-eqb (getD l (width k - 1) 0) 10 f)
 
@@ -177,7 +180,8 @@ module _ (k : ℕ) (row : List ℕ) (kind : k < kinds) (is : IsRow k row) where
   pub is-line : isLine k (line k row) ≡ true
   unfolding isLine width line lineText
   is-line =
-      let f : areFields (fields k) (fieldsText row ++ (10 ∷ [])) ≡ true = subst (λ (n : ℕ). areFields n (fieldsText row ++ (10 ∷ [])) ≡ true) (is .count) (are-fields row (10 ∷ []) (is .small)) in
+      let f : areFields (fields k) (fieldsText row ++ (10 ∷ [])) ≡ true =
+      subst (λ (n : ℕ). areFields n (fieldsText row ++ (10 ∷ [])) ≡ true) (is .count) (are-fields row (10 ∷ []) (is .small)) in
       let n : length (letter k ∷ fieldsText row ++ (10 ∷ [])) ≡ 2 + 11 * fields k = line-length in
       let w : 2 + 11 * fields k - 1 ≡ suc (length (fieldsText row)) = omega (arith, fields-length row, is .count) in
       let feed : getD (letter k ∷ fieldsText row ++ (10 ∷ [])) (2 + 11 * fields k - 1) 0 ≡ 10 =
@@ -212,7 +216,8 @@ pub record First (x : List ℕ) : Type 0 where
 
 first-by : (c : ℕ) (cs : List ℕ) (t : Bool) → eqb c 10 ≡ t → (ls : List (List ℕ)) → linesOf cs ≡ ls → (0 < length cs → First cs) → First (c ∷ cs)
 unfolding linesOf
-first-by c cs true e ls q more = record { line = 10 ∷ []; others = linesOf cs; rest = cs; lines = rw e; text = ap (λ (d : ℕ). d ∷ cs) (eqb-true c 10 e); head = sym (eqb-true c 10 e) }
+first-by c cs true e ls q more =
+    record { line = 10 ∷ []; others = linesOf cs; rest = cs; lines = rw e; text = ap (λ (d : ℕ). d ∷ cs) (eqb-true c 10 e); head = sym (eqb-true c 10 e) }
 first-by c [] false e ls q more = record { line = c ∷ []; others = []; rest = []; lines = rw e; text = refl; head = refl }
 first-by c (d ∷ ds) false e ls q more =
     let f = more (omega arith) in

@@ -12,7 +12,8 @@ use Rattle.sheet.specs.Next.{nextAt}
 use Rattle.sheet.specs.declared.check.Next.{Next}
 use Rattle.sheet.specs.declared.check.Next.the-variants.{Line, Bad}
 
-pub line-there : (text : List ℕ) (at k w : ℕ) (b : Bool) → w ≡ width k → isLine k (take (at + w - at) (drop at text)) ≡ b → isLine k (take (width k) (drop at text)) ≡ b
+pub line-there : (text : List ℕ) (at k w : ℕ) (b : Bool) → w ≡ width k → isLine k (take (at + w - at) (drop at text)) ≡ b
+    → isLine k (take (width k) (drop at text)) ≡ b
 line-there text at k w b e t =
     let z : at + w - at ≡ width k = omega arith in
     subst (λ (j : ℕ). isLine k (take j (drop at text)) ≡ b) z t
@@ -37,7 +38,8 @@ module _ (text : List ℕ) (at n m : ℕ) where
   pub next-not-order : (k : ℕ) → k ≡ kindOf (getD text at 0) → isInOrder n m k ≡ false → Bad ≡ nextAt text at n m
   next-not-order k e f = sym (order-or-not (isLine k (take (width k) (drop at text))) (isInOrder n m k) (Line k (at + width k)) f) ∙ next-of k e
 
-  pub next-line : (k w : ℕ) → k ≡ kindOf (getD text at 0) → w ≡ width k → isLine k (take (width k) (drop at text)) ≡ true → isInOrder n m k ≡ true → Line k (at + w) ≡ nextAt text at n m
+  pub next-line : (k w : ℕ) → k ≡ kindOf (getD text at 0) → w ≡ width k → isLine k (take (width k) (drop at text)) ≡ true → isInOrder n m k ≡ true
+      → Line k (at + w) ≡ nextAt text at n m
   next-line k w e v f g =
       let q : nextOf k ≡ Line k (at + width k) = rw (f, g) in
       ap (λ (j : ℕ). Line k (at + j)) v ∙ sym q ∙ next-of k e

@@ -79,11 +79,14 @@ module _ (counts : List ℕ) (k : ℕ) (inside : k < length counts) where
   bytes-more zero h = absurd (omega arith)
   bytes-more (suc n) h = by (ℕ-discrete n k) (bytes-more n)
     where
-      by : Dec (n ≡ k) → (k < n → bytes n (rowsOf more) ≡ bytes n (rowsOf counts) + width k) → getD more n 0 * width n + bytes n (rowsOf more) ≡ getD counts n 0 * width n + bytes n (rowsOf counts) + width k
+      by : Dec (n ≡ k) → (k < n → bytes n (rowsOf more) ≡ bytes n (rowsOf counts) + width k)
+          → getD more n 0 * width n + bytes n (rowsOf more) ≡ getD counts n 0 * width n + bytes n (rowsOf counts) + width k
       by (yes q) later =
-          let e : getD more n 0 ≡ getD counts n 0 + 1 = ap (λ (j : ℕ). getD more j 0) q ∙ getD-set-same counts k (getD counts k 0 + 1) 0 inside ∙ ap (λ (j : ℕ). getD counts j 0 + 1) (sym q) in
+          let e : getD more n 0 ≡ getD counts n 0 + 1 = ap (λ (j : ℕ). getD more j 0) q ∙ getD-set-same counts k (getD counts k 0 + 1) 0 inside
+          ∙ ap (λ (j : ℕ). getD counts j 0 + 1) (sym q) in
           let x : getD more n 0 * width n ≡ (getD counts n 0 + 1) * width n = ap (λ (j : ℕ). j * width n) e in
-          let w : (getD counts n 0 + 1) * width n ≡ getD counts n 0 * width n + width n = add-mul (getD counts n 0) 1 (width n) ∙ ap (λ (j : ℕ). getD counts n 0 * width n + j) (one-mul (width n)) in
+          let w : (getD counts n 0 + 1) * width n ≡ getD counts n 0 * width n + width n = add-mul (getD counts n 0) 1 (width n)
+          ∙ ap (λ (j : ℕ). getD counts n 0 * width n + j) (one-mul (width n)) in
           omega (arith, bytes-same n (omega arith), ap width q)
       by (no q) later =
           let e : getD more n 0 * width n ≡ getD counts n 0 * width n = ap (λ (j : ℕ). j * width n) (getD-set-other counts k n (getD counts k 0 + 1) 0 q) in
@@ -143,7 +146,9 @@ module _ (text : List ℕ) (n : ℕ) (long : longest + 68 ≤ n) (longer : n < l
 
   -- from any place on, where so many bytes more are past the longest sheet
   abbrev Same : ℕ → Type 0
-  Same fuel = (counts : List ℕ) (lines m at : ℕ) → Upto text counts lines m at → Upto front counts lines m at → at ≡ bytes kinds (rowsOf counts) → longest < at + fuel → verdict front ≡ verdict text
+  Same fuel =
+      (counts : List ℕ) (lines m at : ℕ) → Upto text counts lines m at → Upto front counts lines m at → at ≡ bytes kinds (rowsOf counts) → longest < at + fuel
+      → verdict front ≡ verdict text
 
   go : (fuel : ℕ) → Same fuel
   unfolding front
@@ -163,15 +168,22 @@ module _ (text : List ℕ) (n : ℕ) (long : longest + 68 ≤ n) (longer : n < l
       same : nextAt front at lines m ≡ nextAt text at lines m
       same = line-same text at n lines m (omega (arith, low))
 
-      count : (k e : ℕ) → Line k e ≡ nextAt text at lines m → (getD counts k 0 < limit k) ⊎ (limit k ≤ getD counts k 0) → Same fuel → verdict front ≡ verdict text
+      count : (k e : ℕ) → Line k e ≡ nextAt text at lines m → (getD counts k 0 < limit k) ⊎ (limit k ≤ getD counts k 0) → Same fuel
+          → verdict front ≡ verdict text
       count k e q (inr h) later =
           next-many front counts lines m at v b k e (next-good front counts lines m at v b k e (q ∙ sym same)) h
           ∙ sym (next-many text counts lines m at u a k e (next-good text counts lines m at u a k e q) h)
       count k e q (inl h) later =
           let g = next-good text counts lines m at u a k e q in
           let g′ = next-good front counts lines m at v b k e (q ∙ sym same) in
-          later (set counts k (getD counts k 0 + 1)) (lines + 1) k e (next-pass text counts lines m at u a k e g h) (next-pass front counts lines m at v b k e g′ h)
-          (omega (arith, g .end, bytes-more counts k (omega (arith, u .size, good-kind text counts lines m at u a k e g)) kinds (good-kind text counts lines m at u a k e g)))
+          later (set counts k (getD counts k 0 + 1)) (lines + 1) k e (next-pass text counts lines m at u a k e g h)
+          (next-pass front counts lines m at v b k e g′ h)
+          (omega (
+            arith,
+            g .end,
+            bytes-more counts k (omega (arith, u .size, good-kind text counts lines m at u a k e g)) kinds
+                (good-kind text counts lines m at u a k e g),
+          ))
           (omega (arith, good-moved text lines m at k e g))
 
       by : (x : Next) → x ≡ nextAt text at lines m → Same fuel → verdict front ≡ verdict text

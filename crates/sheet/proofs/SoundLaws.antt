@@ -42,7 +42,8 @@ zero-by false b c e = absurd (omega arith)
 pub fault-none : (above : List (List ℕ)) (l : List ℕ) → fault above l ≡ 0 → Passes above l
 unfolding fault
 fault-none above l e =
-    let p = zero-by (isLine (kindOfLine l) l) (isInOrder (length above) (latest above) (kindOfLine l)) (ltb (length (ofKind (kindOfLine l) above)) (limit (kindOfLine l))) e in
+    let p = zero-by (isLine (kindOfLine l) l) (isInOrder (length above) (latest above) (kindOfLine l))
+    (ltb (length (ofKind (kindOfLine l) above)) (limit (kindOfLine l))) e in
     record { good = p .0; order = p .1; room = ltb-true (length (ofKind (kindOfLine l) above)) (limit (kindOfLine l)) (p .2) }
 
 judged-sound : (n place : ℕ) (v : Verdict) → judged n place v ≡ Sound → (n ≡ 0) × (v ≡ Sound)
@@ -91,14 +92,17 @@ gather-none k (suc n) = gather-none (suc k) n
 gather-past : (l : List ℕ) (ls : List (List ℕ)) (k n : ℕ) → kindOfLine l < k → gather (l ∷ ls) k n ≡ gather ls k n
 unfolding gather ofKind
 gather-past l ls k zero h = refl
-gather-past l ls k (suc n) h = rw (ne-eqb (kindOfLine l) k (omega arith)) (ap (λ (r : List (List ℕ)). ofKind k ls ++ r) (gather-past l ls (suc k) n (omega arith)))
+gather-past l ls k (suc n) h =
+    rw (ne-eqb (kindOfLine l) k (omega arith)) (ap (λ (r : List (List ℕ)). ofKind k ls ++ r) (gather-past l ls (suc k) n (omega arith)))
 
-gather-cons : (l : List ℕ) (ls : List (List ℕ)) (k n : ℕ) → k ≤ kindOfLine l → kindOfLine l < k + n → Rising (kindOfLine l) ls → gather (l ∷ ls) k n ≡ l ∷ gather ls k n
+gather-cons : (l : List ℕ) (ls : List (List ℕ)) (k n : ℕ) → k ≤ kindOfLine l → kindOfLine l < k + n → Rising (kindOfLine l) ls
+    → gather (l ∷ ls) k n ≡ l ∷ gather ls k n
 unfolding gather ofKind
 gather-cons l ls k zero h g r = absurd (omega arith)
 gather-cons l ls k (suc n) h g r = by (ℕ-discrete (kindOfLine l) k) (λ b. gather-cons l ls (suc k) n b (omega arith) r)
   where
-    by : Dec (kindOfLine l ≡ k) → (suc k ≤ kindOfLine l → gather (l ∷ ls) (suc k) n ≡ l ∷ gather ls (suc k) n) → pick (eqb (kindOfLine l) k) (l ∷ ofKind k ls) (ofKind k ls) ++ gather (l ∷ ls) (suc k) n ≡ l ∷ (ofKind k ls ++ gather ls (suc k) n)
+    by : Dec (kindOfLine l ≡ k) → (suc k ≤ kindOfLine l → gather (l ∷ ls) (suc k) n ≡ l ∷ gather ls (suc k) n)
+        → pick (eqb (kindOfLine l) k) (l ∷ ofKind k ls) (ofKind k ls) ++ gather (l ∷ ls) (suc k) n ≡ l ∷ (ofKind k ls ++ gather ls (suc k) n)
     by (yes e) later = rw (eq-eqb (kindOfLine l) k e) (ap (λ (t : List (List ℕ)). l ∷ (ofKind k ls ++ t)) (gather-past l ls (suc k) n (omega arith)))
     by (no e) later = rw (ne-eqb (kindOfLine l) k e, rising-none ls (kindOfLine l) k (omega arith) r) (later (omega arith))
 
@@ -137,7 +141,9 @@ unfolding ofKind linesText joined
 rows-joined [] j k r = refl
 rows-joined (l ∷ ls) j k r = by (ℕ-discrete (kindOfLine l) k) (rows-joined ls (kindOfLine l) k (r .2))
   where
-    by : Dec (kindOfLine l ≡ k) → linesText k (map (rowOf k) (ofKind k ls)) ≡ joined (ofKind k ls) → linesText k (map (rowOf k) (pick (eqb (kindOfLine l) k) (l ∷ ofKind k ls) (ofKind k ls))) ≡ joined (pick (eqb (kindOfLine l) k) (l ∷ ofKind k ls) (ofKind k ls))
+    by : Dec (kindOfLine l ≡ k) → linesText k (map (rowOf k) (ofKind k ls)) ≡ joined (ofKind k ls)
+        → linesText k (map (rowOf k) (pick (eqb (kindOfLine l) k) (l ∷ ofKind k ls) (ofKind k ls)))
+        ≡ joined (pick (eqb (kindOfLine l) k) (l ∷ ofKind k ls) (ofKind k ls))
     by (yes e) more =
         let t : l ≡ line k (rowOf k l) = subst (λ (i : ℕ). l ≡ line i (rowOf i l)) e (r .1 .text) in
         rw (eq-eqb (kindOfLine l) k e) (ap (λ (x : List ℕ). x ++ linesText k (map (rowOf k) (ofKind k ls))) (sym t) ∙ ap (λ (x : List ℕ). l ++ x) more)
@@ -156,7 +162,8 @@ unfolding ofKind
 rows-are [] j k r = tt
 rows-are (l ∷ ls) j k r = by (ℕ-discrete (kindOfLine l) k) (rows-are ls (kindOfLine l) k (r .2))
   where
-    by : Dec (kindOfLine l ≡ k) → AreRows k (map (rowOf k) (ofKind k ls)) → AreRows k (map (rowOf k) (pick (eqb (kindOfLine l) k) (l ∷ ofKind k ls) (ofKind k ls)))
+    by : Dec (kindOfLine l ≡ k) → AreRows k (map (rowOf k) (ofKind k ls))
+        → AreRows k (map (rowOf k) (pick (eqb (kindOfLine l) k) (l ∷ ofKind k ls) (ofKind k ls)))
     by (yes e) more = rw (eq-eqb (kindOfLine l) k e) (subst (λ (i : ℕ). IsRow i (rowOf i l)) e (r .1 .row), more)
     by (no e) more = rw (ne-eqb (kindOfLine l) k e) more
 

@@ -29,7 +29,8 @@ pub record Put (before after : List ℕ) (at : ℕ) (text : List ℕ) (m : ℕ) 
 pub put-none : (out : List ℕ) (at : ℕ) → Put out out at [] 0
 put-none out at = record { stored = refl; size = refl }
 
-pub put-more : (before out after : List ℕ) (at : ℕ) (text more : List ℕ) (m n p : ℕ) → Put before out at text m → p ≡ at + m → length more ≡ n → after ≡ sets out p more → Put before after at (text ++ more) (m + n)
+pub put-more : (before out after : List ℕ) (at : ℕ) (text more : List ℕ) (m n p : ℕ) → Put before out at text m → p ≡ at + m → length more ≡ n
+    → after ≡ sets out p more → Put before after at (text ++ more) (m + n)
 put-more before out after at text more m n p u e l q =
     let f : p ≡ at + length text = e ∙ ap (λ (j : ℕ). at + j) (sym (u .size)) in
     record {
@@ -120,14 +121,20 @@ pub figures-length : (f : Figures) → length (figuresText f) ≡ 81
 unfolding figuresText
 figures-length f =
     simp length-append
-    (omega (arith, ends-length (f .left) (f .right), weights-length (f .«use_weight») (f .«live_insts») (f .«interference_weight») (f .«split_cost»), line-length-one 72 (f .thousandths)))
+    (omega (
+      arith,
+      ends-length (f .left) (f .right),
+      weights-length (f .«use_weight») (f .«live_insts») (f .«interference_weight») (f .«split_cost»),
+      line-length-one 72 (f .thousandths),
+    ))
 
 pub line-length-two : (c n p : ℕ) → length (lineText c (n ∷ p ∷ [])) ≡ 24
 unfolding lineText fieldsText
 line-length-two c n p = simp (length-append, field-length)
 
 -- a field written, and the fields left behind it
-pub fields-step : (fields out after : List ℕ) (p i : ℕ) → i < length fields → after ≡ sets out p (field (getD fields i 0)) → sets after (p + 11) (fieldsText (drop (i + 1) fields)) ≡ sets out p (fieldsText (drop i fields))
+pub fields-step : (fields out after : List ℕ) (p i : ℕ) → i < length fields → after ≡ sets out p (field (getD fields i 0))
+    → sets after (p + 11) (fieldsText (drop (i + 1) fields)) ≡ sets out p (fieldsText (drop i fields))
 unfolding fieldsText
 fields-step fields out after p i h e =
     let f = field (getD fields i 0) in

@@ -32,7 +32,8 @@ weightsText weight insts met cost = fieldsText (weight ∷ insts ∷ met ∷ cos
 -- a proposal's record in order, and the normalised use weight in thousandths
 unfoldable pub figuresText : Figures → List ℕ
 figuresText f =
-    endsText (f .left) (f .right) ++ weightsText (f .«use_weight») (f .«live_insts») (f .«interference_weight») (f .«split_cost») ++ lineText 72 (f .thousandths ∷ [])
+    endsText (f .left) (f .right) ++ weightsText (f .«use_weight») (f .«live_insts») (f .«interference_weight») (f .«split_cost»)
+    ++ lineText 72 (f .thousandths ∷ [])
 
 -- the text of an answer
 unfoldable pub answerText : Answer → List ℕ

@@ -31,7 +31,8 @@ areFields (suc n) x = pick (isField (take 11 x)) (areFields n (drop 11 x)) false
 unfoldable pub isLine : ℕ → List ℕ → Bool
 isLine k l =
     pick (ltb k kinds)
-    (pick (eqb (length l) (width k)) (pick (eqb (getD l 0 0) (letter k)) (pick (eqb (getD l (width k - 1) 0) 10) (areFields (fields k) (drop 1 l)) false) false) false)
+    (pick (eqb (length l) (width k))
+    (pick (eqb (getD l 0 0) (letter k)) (pick (eqb (getD l (width k - 1) 0) 10) (areFields (fields k) (drop 1 l)) false) false) false)
     false
 
 -- the kind that a line's letter names

@@ -31,16 +31,37 @@ use Rattle.work.specs.declared.fill.FilledTables.{FilledTables}
 use Rattle.work.specs.declared.fill.FilledTables.the-variants as FilledTables·is
 
 -- ---- a refused job: each lent column is as it was
-pub refused-filled : (job : Job) (lent : WorkColumns) (x : Refusal) → refusalOf job (roomsOf lent) ≡ Checked·is.Refused x → IsFilled job lent lent (FilledTables·is.Refused x)
+pub refused-filled : (job : Job) (lent : WorkColumns) (x : Refusal) → refusalOf job (roomsOf lent) ≡ Checked·is.Refused x
+    → IsFilled job lent lent (FilledTables·is.Refused x)
 refused-filled job lent x e =
     record {
       answer = sym (ap (λ (c : Checked). filledIf c (filledOfBest (sourceOfJob job) (bestOf (sourceOfJob job)))) e);
-      tables = subst (λ (t : Tables). FilledBy t lent lent) (sym (ap (λ (c : Checked). ifAccepted c (tablesOfBest (sourceOfJob job) (bestOf (sourceOfJob job))) noTables) e))
-          (record { prev = refl; next = refl; inst = refl; main = refl; left = refl; right = refl; from = refl; to = refl; weight = refl; live = refl; freq = refl; out-from = refl; out-to = refl; out-value = refl; out-gap = refl });
+      tables =
+          subst (λ (t : Tables). FilledBy t lent lent)
+          (sym (ap (λ (c : Checked). ifAccepted c (tablesOfBest (sourceOfJob job) (bestOf (sourceOfJob job))) noTables) e))
+          (record {
+            prev = refl;
+            next = refl;
+            inst = refl;
+            main = refl;
+            left = refl;
+            right = refl;
+            from = refl;
+            to = refl;
+            weight = refl;
+            live = refl;
+            freq =
+                refl;
+            out-from = refl;
+            out-to = refl;
+            out-value = refl;
+            out-gap = refl;
+          });
     }
 
 -- ---- an accepted job, whose blocks are cut to as many as there are
-module _ (prm : Parameters) (c : JobColumns) (lent : WorkColumns) (sound : refusalOf (jobOf prm c) (roomsOf lent) ≡ Checked·is.Sound) (n : ℕ) (long : n ≡ length (blocksOf (c .freqs) (c .firsts) (c .ends)))
+module _ (prm : Parameters) (c : JobColumns) (lent : WorkColumns) (sound : refusalOf (jobOf prm c) (roomsOf lent) ≡ Checked·is.Sound) (n : ℕ)
+    (long : n ≡ length (blocksOf (c .freqs) (c .firsts) (c .ends)))
     (scales : RematScales) (scaled : scales ≡ scalesOf (prm .«cheaper_than_move») (prm .«cheaper_than_load») (prm .indirect)) where
   abbrev job : Job
   job = jobOf prm c
@@ -48,12 +69,20 @@ module _ (prm : Parameters) (c : JobColumns) (lent : WorkColumns) (sound : refus
   abbrev cut : Source
   cut =
       sourceIn
-      (sourceColumns (take n (c .freqs)) (take n (c .firsts)) (take n (c .ends)) (c .codes) (c .starts) (c .stops) (c .values) (c .firstUses) (c .endUses) (c .flags) (c .positions) (c .kinds) (c .costs))
+      (sourceColumns (take n (c .freqs)) (take n (c .firsts)) (take n (c .ends)) (c .codes) (c .starts) (c .stops) (c .values) (c .firstUses) (c .endUses)
+      (c .flags) (c .positions) (c .kinds) (c .costs))
       scales
 
   cut-source : cut ≡ sourceOfJob job
   cut-source =
-      λ i. record { uses = job .uses; segments = job .segments; codes = job .codes; scales = scaled i; blocks = part-list (c .freqs) (c .firsts) (c .ends) n long i }
+      λ i. record {
+        uses = job .uses;
+        segments = job .segments;
+        codes = job .codes;
+        scales = scaled i;
+        blocks =
+            part-list (c .freqs) (c .firsts) (c .ends) n long i;
+      }
 
   accepted : Accepted job
   accepted = job-accepted job (roomsOf lent) sound
@@ -62,7 +91,8 @@ module _ (prm : Parameters) (c : JobColumns) (lent : WorkColumns) (sound : refus
   cut-sound = cut-columns (c .freqs) (c .firsts) (c .ends) n long (accepted .blocks)
 
   pub cut-checked : CheckedUses (sourceIn
-      (sourceColumns (take n (c .freqs)) (take n (c .firsts)) (take n (c .ends)) (c .codes) (c .starts) (c .stops) (c .values) (c .firstUses) (c .endUses) (c .flags) (c .positions) (c .kinds) (c .costs))
+      (sourceColumns (take n (c .freqs)) (take n (c .firsts)) (take n (c .ends)) (c .codes) (c .starts) (c .stops) (c .values) (c .firstUses) (c .endUses)
+      (c .flags) (c .positions) (c .kinds) (c .costs))
       scales)
   cut-checked = subst CheckedUses (sym cut-source) (accepted .uses)
 
@@ -70,19 +100,24 @@ module _ (prm : Parameters) (c : JobColumns) (lent : WorkColumns) (sound : refus
   cut-bits = record { move = prm .«cheaper_than_move»; load = prm .«cheaper_than_load»; indirectly = prm .indirect; is = scaled }
 
   pub cut-roomy : Roomy (length (cut .uses)) (length (cut .blocks)) (length (cut .segments)) (roomsOf lent)
-  cut-roomy = subst (λ (s : Source). Roomy (length (s .uses)) (length (s .blocks)) (length (s .segments)) (roomsOf lent)) (sym cut-source) (job-roomy job (roomsOf lent) sound)
+  cut-roomy =
+      subst (λ (s : Source). Roomy (length (s .uses)) (length (s .blocks)) (length (s .segments)) (roomsOf lent)) (sym cut-source)
+      (job-roomy job (roomsOf lent) sound)
 
   pub accepted-filled : (now : WorkColumns) (r : FilledTables) → IsFilledFrom cut lent now r → IsFilled (jobOf prm c) lent now r
   accepted-filled now r d =
       let e : IsFilledFrom (sourceOfJob job) lent now r = subst (λ (s : Source). IsFilledFrom s lent now r) cut-source d in
       record {
         answer = e .answer ∙ sym (ap (λ (x : Checked). filledIf x (filledOfBest (sourceOfJob job) (bestOf (sourceOfJob job)))) sound);
-        tables = subst (λ (t : Tables). FilledBy t lent now) (sym (ap (λ (x : Checked). ifAccepted x (tablesOfBest (sourceOfJob job) (bestOf (sourceOfJob job))) noTables) sound)) (e .tables);
+        tables =
+            subst (λ (t : Tables). FilledBy t lent now) (sym
+            (ap (λ (x : Checked). ifAccepted x (tablesOfBest (sourceOfJob job) (bestOf (sourceOfJob job))) noTables) sound)) (e .tables);
       }
 
 -- ---- what each answer says
 module _ (job : Job) where
-  said-refused : (c : Checked) (b : BestUse) (x : Refusal) → filledIf c (filledOfBest (sourceOfJob job) b) ≡ FilledTables·is.Refused x → c ≡ Checked·is.Refused x
+  said-refused : (c : Checked) (b : BestUse) (x : Refusal) → filledIf c (filledOfBest (sourceOfJob job) b) ≡ FilledTables·is.Refused x
+      → c ≡ Checked·is.Refused x
   said-refused (Checked·is.Refused r) b x e = let same : r ≡ x = cc in ap (λ (y : Refusal). Checked·is.Refused y) same
   said-refused Checked·is.Sound (BestUse·is.At best) x e = absurd (let z : _≡_ {A = ℕ} 0 1 = cc in omega arith)
   said-refused Checked·is.Sound BestUse·is.Nothing x e = absurd (let z : _≡_ {A = ℕ} 0 1 = cc in omega arith)
@@ -95,7 +130,13 @@ module _ (job : Job) where
 
   said-ready : (c : Checked) (b : BestUse) (r : ReadyTables) → filledIf c (filledOfBest (sourceOfJob job) b) ≡ FilledTables·is.Ready r
       → (c ≡ Checked·is.Sound) × (best : ℕ) × (b ≡ BestUse·is.At best)
-      × (r ≡ record { uses = length (usesOfJob job); gaps = length (gapsOfJob job best); «gap_segments» = length (segmentsOfJob job best); own = ownOfJob job best })
+      × (r ≡ record {
+        uses = length (usesOfJob job);
+        gaps = length (gapsOfJob job best);
+        «gap_segments» = length (segmentsOfJob job best);
+        own =
+            ownOfJob job best;
+      })
   said-ready (Checked·is.Refused x) b r e = absurd (let z : _≡_ {A = ℕ} 0 1 = cc in omega arith)
   said-ready Checked·is.Sound BestUse·is.Nothing r e = absurd (let z : _≡_ {A = ℕ} 0 1 = cc in omega arith)
   said-ready Checked·is.Sound (BestUse·is.At best) r e = (refl, best, refl, inside e)
@@ -108,10 +149,17 @@ module _ (job : Job) (rooms : Rooms) where
   pub filled-refused : (x : Refusal) → filledOf job rooms ≡ FilledTables·is.Refused x → refusalOf job rooms ≡ Checked·is.Refused x
   filled-refused x e = said-refused job (refusalOf job rooms) (bestOf (sourceOfJob job)) x e
 
-  pub filled-none : (n : ℕ) → filledOf job rooms ≡ FilledTables·is.NoBestUse n → (refusalOf job rooms ≡ Checked·is.Sound) × (bestOf (sourceOfJob job) ≡ BestUse·is.Nothing) × (n ≡ length (usesOfJob job))
+  pub filled-none : (n : ℕ) → filledOf job rooms ≡ FilledTables·is.NoBestUse n
+      → (refusalOf job rooms ≡ Checked·is.Sound) × (bestOf (sourceOfJob job) ≡ BestUse·is.Nothing) × (n ≡ length (usesOfJob job))
   filled-none n e = said-none job (refusalOf job rooms) (bestOf (sourceOfJob job)) n e
 
   pub filled-ready : (r : ReadyTables) → filledOf job rooms ≡ FilledTables·is.Ready r
       → (refusalOf job rooms ≡ Checked·is.Sound) × (best : ℕ) × (bestOf (sourceOfJob job) ≡ BestUse·is.At best)
-      × (r ≡ record { uses = length (usesOfJob job); gaps = length (gapsOfJob job best); «gap_segments» = length (segmentsOfJob job best); own = ownOfJob job best })
+      × (r ≡ record {
+        uses = length (usesOfJob job);
+        gaps = length (gapsOfJob job best);
+        «gap_segments» = length (segmentsOfJob job best);
+        own =
+            ownOfJob job best;
+      })
   filled-ready r e = said-ready job (refusalOf job rooms) (bestOf (sourceOfJob job)) r e

@@ -12,9 +12,10 @@ use rooms::job::check_job;
 use work::fill::FilledTables;
 use work::fill::fill_checked;
 ghost use mathlib.Core.Path.{_≡_};
+ghost use mathlib.Core.List.{map};
 ghost use Rattle.numbers.specs.Cost.{scalesOf};
 ghost use Rattle.filling.specs.SourceTables.{workColumns};
-ghost use Rattle.refusals.specs.Job.{jobOf, jobColumns};
+ghost use Rattle.refusals.specs.Job.{jobOf, jobColumnsIn};
 ghost use Rattle.tables.specs.Filled.{IsFilled};
 
 // The scales of a job, from their bits.
@@ -30,30 +31,9 @@ fn remat_scales(parameters: Parameters) -> RematScales
 
 // Checks a job by lines 1 to 12 and fills its tables: links, uses, gaps and gap segments in the lent columns, from their first row on. A
 // table has as many rows as its shortest column. What a refused job, or a job without a best use, does not fill, and all later rows, stay.
-pub fn fill_tables(
-    freq: &[u32],
-    first: &[u32],
-    end: &[u32],
-    code: &[u32],
-    s_start: &[u32],
-    s_end: &[u32],
-    s_value: &[u32],
-    s_first_use: &[u32],
-    s_end_use: &[u32],
-    s_flags: &[u32],
-    position: &[u32],
-    u_kind: &[u32],
-    cost: &[u32],
-    spill_weight: &[u32],
-    r_unit: &[u32],
-    r_start: &[u32],
-    r_end: &[u32],
-    r_kind: &[u32],
-    r_index: &[u32],
-    r_fixed: &[u32],
-    f_unit: &[u32],
-    f_point: &[u32],
-    f_value: &[u32],
+// The job's columns are in the order of `jobColumnsIn`.
+pub fn fill_tables<'a>(
+    columns: [&'a [u32]; 23],
     parameters: Parameters,
     prev_lower_freq: &mut [u32],
     next_lower_freq: &mut [u32],
@@ -72,16 +52,7 @@ pub fn fill_tables(
     out_gap: &mut [u32],
 ) -> FilledTables
     ensures { λ r. ⌜
-        (let job = jobOf parameters (jobColumns
-        (now (freq .entry)) (now (first .entry)) (now (end .entry))
-        (now (code .entry))
-        (now («s_start» .entry)) (now («s_end» .entry)) (now («s_value» .entry))
-        (now («s_first_use» .entry)) (now («s_end_use» .entry)) (now («s_flags» .entry))
-        (now (position .entry)) (now («u_kind» .entry)) (now (cost .entry))
-        (now («spill_weight» .entry))
-        (now («r_unit» .entry)) (now («r_start» .entry)) (now («r_end» .entry))
-        (now («r_kind» .entry)) (now («r_index» .entry)) (now («r_fixed» .entry))
-        (now («f_unit» .entry)) (now («f_point» .entry)) (now («f_value» .entry))) in
+        (let job = jobOf parameters (jobColumnsIn (map now (columns .entry))) in
         let lent = workColumns
         (now («prev_lower_freq» .entry)) (now («next_lower_freq» .entry))
         (now (inst .entry)) (now (weight .entry)) (now («left_weight» .entry)) (now («right_weight» .entry))
@@ -117,37 +88,24 @@ pub fn fill_tables(
         ),
         links: shorter(prev_lower_freq.len(), next_lower_freq.len()),
     };
-    let checked = check_job(
-        freq,
-        first,
-        end,
-        code,
-        s_start,
-        s_end,
-        s_value,
-        s_first_use,
-        s_end_use,
-        s_flags,
-        position,
-        u_kind,
-        cost,
-        spill_weight,
-        r_unit,
-        r_start,
-        r_end,
-        r_kind,
-        r_index,
-        r_fixed,
-        f_unit,
-        f_point,
-        f_value,
-        parameters,
-        rooms,
-    );
+    let checked = check_job(columns, parameters, rooms);
     if let Checked::Refused(r) = checked {
         return FilledTables::Refused(r);
     }
     let scales = remat_scales(parameters);
+    let freq = columns[0];
+    let first = columns[1];
+    let end = columns[2];
+    let code = columns[3];
+    let s_start = columns[4];
+    let s_end = columns[5];
+    let s_value = columns[6];
+    let s_first_use = columns[7];
+    let s_end_use = columns[8];
+    let s_flags = columns[9];
+    let position = columns[10];
+    let u_kind = columns[11];
+    let cost = columns[12];
     let blocks = count(freq, first, end);
     fill_checked(
         &freq[..blocks],

@@ -46,7 +46,8 @@ and-parts false b e = absurd (true≢false (sym e))
 fits : (limits : Limits) (s : Segment) (isFirst : Bool) (last u : Use) → Fitting limits s isFirst last u → badUse limits s isFirst last u ≡ false
 unfolding badUse
 fits limits s isFirst last u f =
-    or-none (or-none (or-none (or-none (le-ltb 9 (u .kind) (f .kind)) (le-ltb (costMost (u .kind)) (u .cost) (f .cost))) (lt-leb (limits .end) (4 * u .position) (f .blocked))) (rises isFirst (f .rises))) (inside (isFirst && fixedDef (s .flags)) (f .inside))
+    or-none (or-none (or-none (or-none (le-ltb 9 (u .kind) (f .kind)) (le-ltb (costMost (u .kind)) (u .cost) (f .cost)))
+    (lt-leb (limits .end) (4 * u .position) (f .blocked))) (rises isFirst (f .rises))) (inside (isFirst && fixedDef (s .flags)) (f .inside))
   where
     rises : (b : Bool) → (b ≡ false → last .position ≤ u .position) → (not b && ltb (u .position) (last .position)) ≡ false
     rises true h = refl
@@ -76,12 +77,14 @@ module _ (limits : Limits) (uses : List Use) (segments : List Segment) (lists : 
 
   -- ---- falls
   -- what stands over at a list stands over behind it
-  carried-by : (i d : ℕ) (b : Bool) → beginsLower uses (row i) ≡ b → i < length segments → lower i + d ≤ fallen (ended i) → lower i + cond b 1 0 + d ≤ fallen (row i .«end_use»)
+  carried-by : (i d : ℕ) (b : Bool) → beginsLower uses (row i) ≡ b → i < length segments → lower i + d ≤ fallen (ended i)
+      → lower i + cond b 1 0 + d ≤ fallen (row i .«end_use»)
   unfolding beginsLower
   carried-by i d true e h k =
       let p = and-parts (ltb (row i .«first_use») (row i .«end_use»)) (fallsAt uses (row i .«first_use»)) e in
       more (lower i) d (fallen (ended i)) (fallen (row i .«first_use»)) (fallen (row i .«end_use»)) k (ap fallen (lists .follows i h))
-      (count-hit (fallsAt uses) (row i .«first_use») (row i .«first_use») (row i .«end_use») (le-refl (row i .«first_use»)) (ltb-true (row i .«first_use») (row i .«end_use») (p .0)) (p .1))
+      (count-hit (fallsAt uses) (row i .«first_use») (row i .«first_use») (row i .«end_use») (le-refl (row i .«first_use»))
+      (ltb-true (row i .«first_use») (row i .«end_use») (p .0)) (p .1))
     where
       more : (a d x y z : ℕ) → a + d ≤ x → y ≡ x → y + 1 ≤ z → a + 1 + d ≤ z
       more a d x y z p e q = omega arith
@@ -116,23 +119,27 @@ module _ (limits : Limits) (uses : List Use) (segments : List Segment) (lists : 
   begun (suc i) h = carried i 0 h (begun i (earlier i (length segments) h))
 
   -- a fall within a list stands over behind it
-  over-by : (i u : ℕ) (b : Bool) → beginsLower uses (row i) ≡ b → i < length segments → row i .«first_use» < u → u < row i .«end_use» → fallsAt uses u ≡ true → lower i + cond b 1 0 + 1 ≤ fallen (row i .«end_use»)
+  over-by : (i u : ℕ) (b : Bool) → beginsLower uses (row i) ≡ b → i < length segments → row i .«first_use» < u → u < row i .«end_use» → fallsAt uses u ≡ true
+      → lower i + cond b 1 0 + 1 ≤ fallen (row i .«end_use»)
   unfolding beginsLower
   over-by i u true e h p q t =
       let f = row i .«first_use» in
       let c = and-parts (ltb f (row i .«end_use»)) (fallsAt uses f) e in
-      two (lower i) (fallen (ended i)) (fallen f) (fallen (suc f)) (fallen (row i .«end_use»)) (begun i (le-trans (next i) h)) (ap fallen (lists .follows i h)) (count-hit (fallsAt uses) f f (suc f) (le-refl f) (le-refl (suc f)) (c .1)) (count-hit (fallsAt uses) (suc f) u (row i .«end_use») p q t)
+      two (lower i) (fallen (ended i)) (fallen f) (fallen (suc f)) (fallen (row i .«end_use»)) (begun i (le-trans (next i) h)) (ap fallen (lists .follows i h))
+      (count-hit (fallsAt uses) f f (suc f) (le-refl f) (le-refl (suc f)) (c .1)) (count-hit (fallsAt uses) (suc f) u (row i .«end_use») p q t)
     where
       two : (a x y z w : ℕ) → a + 0 ≤ x → y ≡ x → y + 1 ≤ z → z + 1 ≤ w → a + 1 + 1 ≤ w
       two a x y z w p e q r = omega arith
   over-by i u false e h p q t =
       let f = row i .«first_use» in
-      one (lower i) (fallen (ended i)) (fallen f) (fallen (row i .«end_use»)) (begun i (le-trans (next i) h)) (ap fallen (lists .follows i h)) (count-hit (fallsAt uses) f u (row i .«end_use») (le-trans (next f) p) q t)
+      one (lower i) (fallen (ended i)) (fallen f) (fallen (row i .«end_use»)) (begun i (le-trans (next i) h)) (ap fallen (lists .follows i h))
+      (count-hit (fallsAt uses) f u (row i .«end_use») (le-trans (next f) p) q t)
     where
       one : (a x y z : ℕ) → a + 0 ≤ x → y ≡ x → y + 1 ≤ z → a + 0 + 1 ≤ z
       one a x y z p e q = omega arith
 
-  fall-over : (i u : ℕ) → i < length segments → row i .«first_use» < u → u < row i .«end_use» → fallsAt uses u ≡ true → lower (suc i) + 1 ≤ fallen (ended (suc i))
+  fall-over : (i u : ℕ) → i < length segments → row i .«first_use» < u → u < row i .«end_use» → fallsAt uses u ≡ true
+      → lower (suc i) + 1 ≤ fallen (ended (suc i))
   unfolding countBelow
   fall-over i u h p q t = over-by i u (beginsLower uses (row i)) refl h p q t
 
@@ -148,7 +155,9 @@ module _ (limits : Limits) (uses : List Use) (segments : List Segment) (lists : 
         rest i n l = omega arith
 
         never : (b : Bool) → fallsAt uses u ≡ b → b ≡ false
-        never true t = absurd (too-many (lower (length segments)) (fallen (length uses)) same (carried-on (length segments - suc i) (suc i) 1 (rest i (length segments) h) (fall-over i u h p q t)))
+        never true t =
+            absurd (too-many (lower (length segments)) (fallen (length uses)) same
+            (carried-on (length segments - suc i) (suc i) 1 (rest i (length segments) h) (fall-over i u h p q t)))
         never false t = refl
 
     rising : (i v u : ℕ) → i < length segments → row i .«first_use» ≤ v → v ≤ u → u < row i .«end_use» → place v ≤ place u
@@ -158,7 +167,8 @@ module _ (limits : Limits) (uses : List Use) (segments : List Segment) (lists : 
         none v p = omega arith
     rising i v (suc u) h f p q =
         ⊎-elim
-        (λ m. le-trans (rising i v u h f (inner v u m) (before u (row i .«end_use») q)) (ltb-false (place (suc u)) (place u) (no-fall i (suc u) h (later (row i .«first_use») v u f m) q)))
+        (λ m. le-trans (rising i v u h f (inner v u m) (before u (row i .«end_use») q))
+        (ltb-false (place (suc u)) (place u) (no-fall i (suc u) h (later (row i .«first_use») v u f m) q)))
         (λ m. le-of-eq (ap place (only v u p m))) (split v (suc u))
       where
         inner : (v u : ℕ) → v < suc u → v ≤ u
@@ -174,7 +184,8 @@ module _ (limits : Limits) (uses : List Use) (segments : List Segment) (lists : 
         only v u p m = omega arith
 
     -- ---- a list whose ends lie inside
-    module _ (i u : ℕ) (h : i < length segments) (first : row i .«first_use» ≤ u) (end : u < row i .«end_use») (sound : badField (getD uses u noUse) ≡ false) (held : strays limits uses (row i) ≡ false) where
+    module _ (i u : ℕ) (h : i < length segments) (first : row i .«first_use» ≤ u) (end : u < row i .«end_use») (sound : badField (getD uses u noUse) ≡ false)
+        (held : strays limits uses (row i) ≡ false) where
       abbrev s : Segment
       s = row i
 
@@ -191,7 +202,8 @@ module _ (limits : Limits) (uses : List Use) (segments : List Segment) (lists : 
           inner : (u e : ℕ) → u < e → e - 1 < e
           inner u e p = omega arith
 
-      parts : (leb (limits .end) (4 * place last) ≡ false) × ((ltb (heldFrom s) (s .«end_use») && (liesOutside s (getD uses (heldFrom s) noUse) || liesOutside s (getD uses last noUse))) ≡ false)
+      parts : (leb (limits .end) (4 * place last) ≡ false)
+          × ((ltb (heldFrom s) (s .«end_use») && (liesOutside s (getD uses (heldFrom s) noUse) || liesOutside s (getD uses last noUse))) ≡ false)
       unfolding strays
       parts = or-parts _ _ (and-rest (ltb (s .«first_use») (s .«end_use»)) _ (lt-ltb _ _ (lt-of-le-of-lt first end)) held)
 
@@ -213,10 +225,14 @@ module _ (limits : Limits) (uses : List Use) (segments : List Segment) (lists : 
       inside : (eqb u (s .«first_use») && fixedDef (s .flags)) ≡ false → (s .start < 4 * (place u + 1)) × (4 * place u ≤ s .end)
       inside e =
           let b = held-before (fixedDef (s .flags)) e in
-          let o = or-parts (liesOutside s (getD uses (heldFrom s) noUse)) (liesOutside s (getD uses last noUse)) (and-rest (ltb (heldFrom s) (s .«end_use»)) _ (lt-ltb _ _ (lt-of-le-of-lt b end)) (parts .1)) in
+          let o = or-parts (liesOutside s (getD uses (heldFrom s) noUse)) (liesOutside s (getD uses last noUse))
+          (and-rest (ltb (heldFrom s) (s .«end_use»)) _ (lt-ltb _ _ (lt-of-le-of-lt b end)) (parts .1)) in
           let low = or-parts (leb (4 * (place (heldFrom s) + 1)) (s .start)) (ltb (s .end) (4 * place (heldFrom s))) (o .0) in
-          let high = or-parts (leb (4 * (place last + 1)) (s .start)) (ltb (s .end) (4 * place last)) (o .1) in
-          (above (s .start) (place (heldFrom s)) (place u) (leb-false _ _ (low .0)) (rising i (heldFrom s) u h (grown (s .«first_use») (cond (fixedDef (s .flags)) 1 0)) b end), below (s .end) (place u) (place last) last-later (ltb-false _ _ (high .1)))
+          let high = or-parts (leb (4 * (place last + 1)) (s .start)) (ltb (s .end) (4 * place last)) (o .1) in (
+            above (s .start) (place (heldFrom s)) (place u) (leb-false _ _ (low .0))
+                (rising i (heldFrom s) u h (grown (s .«first_use») (cond (fixedDef (s .flags)) 1 0)) b end),
+            below (s .end) (place u) (place last) last-later (ltb-false _ _ (high .1)),
+          )
         where
           grown : (f d : ℕ) → f ≤ f + d
           grown f d = omega arith
@@ -235,7 +251,9 @@ module _ (limits : Limits) (uses : List Use) (segments : List Segment) (lists : 
             kind = ltb-false _ _ (f .0);
             cost = ltb-false _ _ (f .1);
             blocked = below (limits .end) (place u) (place last) last-later (leb-false _ _ (parts .0));
-            rises = λ e. ltb-false (place u) (rowBefore uses noUse u .position) (no-fall i u h (apart (s .«first_use») u first (eqb-false u (s .«first_use») e)) end);
+            rises =
+                λ e. ltb-false (place u) (rowBefore uses noUse u .position)
+                (no-fall i u h (apart (s .«first_use») u first (eqb-false u (s .«first_use») e)) end);
             inside = inside;
           }
         where
@@ -246,20 +264,26 @@ module _ (limits : Limits) (uses : List Use) (segments : List Segment) (lists : 
       listed-sound = fits limits s (eqb u (s .«first_use»)) (rowBefore uses noUse u) (getD uses u noUse) fitting
 
     -- ---- all lists
-    module _ (sound : (u : ℕ) → u < length uses → badField (getD uses u noUse) ≡ false) (held : (i : ℕ) → i < length segments → strays limits uses (row i) ≡ false) where
+    module _ (sound : (u : ℕ) → u < length uses → badField (getD uses u noUse) ≡ false)
+        (held : (i : ℕ) → i < length segments → strays limits uses (row i) ≡ false) where
       sound-upto : (i : ℕ) → i ≤ length segments → (u : ℕ) → u < ended i → badUseAt limits uses segments u ≡ false
       sound-upto zero h u l = absurd (not-suc-le-zero l)
       sound-upto (suc i) h u l =
           ⊎-elim
           (λ m. sound-upto i (earlier i (length segments) h) u m)
-          (λ m. let f = le-trans (le-of-eq (lists .follows i h)) m in sym (ap (λ (k : ℕ). badUseOf limits uses (getD segments k noSegment) u) (list-of (length uses) segments lists i u h f l)) ∙ listed-sound i u h f l (sound u (lt-of-lt-of-le l (lists .inside i h))) (held i h))
+          (λ m. let f = le-trans (le-of-eq (lists .follows i h)) m in sym
+          (ap (λ (k : ℕ). badUseOf limits uses (getD segments k noSegment) u) (list-of (length uses) segments lists i u h f l))
+          ∙ listed-sound i u h f l (sound u (lt-of-lt-of-le l (lists .inside i h))) (held i h))
           (split u (ended i))
 
   -- where the counts fit no use is bad
   pub all-fit : usesFit limits uses segments ≡ true → length uses ≡ firstBelow (badUseAt limits uses segments) (length uses)
   unfolding usesFit
   all-fit e =
-      let p = and-parts (eqb (countBelow (badFieldAt uses) (length uses)) 0 && eqb (countBelow (straysAt limits uses segments) (length segments)) 0) (eqb (lower (length segments)) (fallen (length uses))) e in
+      let p = and-parts (eqb (countBelow (badFieldAt uses) (length uses)) 0 && eqb (countBelow (straysAt limits uses segments) (length segments)) 0)
+      (eqb (lower (length segments)) (fallen (length uses))) e in
       let q = and-parts (eqb (countBelow (badFieldAt uses) (length uses)) 0) (eqb (countBelow (straysAt limits uses segments) (length segments)) 0) (p .0) in
       first-none (badUseAt limits uses segments) (length uses)
-      (λ u h. sound-upto (eqb-true _ _ (p .1)) (count-none (badFieldAt uses) (length uses) (eqb-true _ _ (q .0))) (count-none (straysAt limits uses segments) (length segments) (eqb-true _ _ (q .1))) (length segments) (le-refl (length segments)) u (lt-of-lt-of-le h (le-of-eq (sym (lists .all)))))
+      (λ u h. sound-upto (eqb-true _ _ (p .1)) (count-none (badFieldAt uses) (length uses) (eqb-true _ _ (q .0)))
+      (count-none (straysAt limits uses segments) (length segments) (eqb-true _ _ (q .1))) (length segments) (le-refl (length segments)) u
+      (lt-of-lt-of-le h (le-of-eq (sym (lists .all)))))

@@ -32,7 +32,9 @@ heldFrom s = s .«first_use» + cond (fixedDef (s .flags)) 1 0
 unfoldable pub strays : Limits → List Use → Segment → Bool
 strays limits uses s =
     let last = getD uses (s .«end_use» - 1) noUse in
-    ltb (s .«first_use») (s .«end_use») && (leb (limits .end) (4 * last .position) || (ltb (heldFrom s) (s .«end_use») && (liesOutside s (getD uses (heldFrom s) noUse) || liesOutside s last)))
+    ltb (s .«first_use») (s .«end_use»)
+    && (leb (limits .end) (4 * last .position)
+    || (ltb (heldFrom s) (s .«end_use») && (liesOutside s (getD uses (heldFrom s) noUse) || liesOutside s last)))
 
 -- the list of segment i strays
 abbrev pub straysAt : Limits → List Use → List Segment → ℕ → Bool

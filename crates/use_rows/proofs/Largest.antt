@@ -68,7 +68,8 @@ module _ (ws : List Float) (given : AllWeights ws) (i best : ℕ) (top : Float) 
       lighter : (k : ℕ) → k < i → unitsOf top < unitsOf (getD ws i zeroWeight) → unitsOf (getD ws k zeroWeight) < unitsOf (getD ws i zeroWeight)
       lighter k h more = let a = known .above k h in omega (arith, a, more)
 
-      by : (k : ℕ) → k < i + 1 → unitsOf top < unitsOf (getD ws i zeroWeight) → (k < i) ⊎ (i ≤ k) → unitsOf (getD ws k zeroWeight) ≤ unitsOf (getD ws i zeroWeight)
+      by : (k : ℕ) → k < i + 1 → unitsOf top < unitsOf (getD ws i zeroWeight) → (k < i) ⊎ (i ≤ k)
+          → unitsOf (getD ws k zeroWeight) ≤ unitsOf (getD ws i zeroWeight)
       by k h more (inl l) = let a = lighter k l more in omega (arith, a)
       by k h more (inr l) = let e : k ≡ i = omega (arith, h, l) in le-of-eq (ap (λ (j : ℕ). unitsOf (getD ws j zeroWeight)) e)
 
@@ -81,7 +82,8 @@ module _ (ws : List Float) (given : AllWeights ws) (i best : ℕ) (top : Float) 
       by k h most (inl l) = known .above k l
       by k h most (inr l) = let e : k ≡ i = omega (arith, h, l) in subst (λ (j : ℕ). unitsOf (getD ws j zeroWeight) ≤ unitsOf top) (sym e) most
 
-      later : (top ≡ zeroWeight) ⊎ ((best < i) × (getD ws best zeroWeight ≡ top) × ((k : ℕ) → k < best → unitsOf (getD ws k zeroWeight) < unitsOf top)) → (top ≡ zeroWeight) ⊎ ((best < i + 1) × (getD ws best zeroWeight ≡ top) × ((k : ℕ) → k < best → unitsOf (getD ws k zeroWeight) < unitsOf top))
+      later : (top ≡ zeroWeight) ⊎ ((best < i) × (getD ws best zeroWeight ≡ top) × ((k : ℕ) → k < best → unitsOf (getD ws k zeroWeight) < unitsOf top))
+          → (top ≡ zeroWeight) ⊎ ((best < i + 1) × (getD ws best zeroWeight ≡ top) × ((k : ℕ) → k < best → unitsOf (getD ws k zeroWeight) < unitsOf top))
       later (inl z) = inl z
       later (inr r) = inr (let b = r .0 in omega (arith, b), r .1, r .2)
 
@@ -90,7 +92,8 @@ module _ (ws : List Float) (given : AllWeights ws) (best : ℕ) (top : Float) (k
   pub largest-is : top ≡ heaviest ws
   largest-is = heaviest-only ws (weights-of ws given) top (by (known .zero-or)) (among-at (λ (w : Float). unitsOf w ≤ unitsOf top) ws (known .above))
     where
-      by : (top ≡ zeroWeight) ⊎ ((best < length ws) × (getD ws best zeroWeight ≡ top) × ((k : ℕ) → k < best → unitsOf (getD ws k zeroWeight) < unitsOf top)) → (top ≡ zeroWeight) ⊎ Among top ws
+      by : (top ≡ zeroWeight) ⊎ ((best < length ws) × (getD ws best zeroWeight ≡ top) × ((k : ℕ) → k < best → unitsOf (getD ws k zeroWeight) < unitsOf top))
+          → (top ≡ zeroWeight) ⊎ Among top ws
       by (inl z) = inl z
       by (inr r) = inr (subst (λ (w : Float). Among w ws) (r .1) (at-among ws best (r .0)))
 
@@ -101,7 +104,8 @@ module _ (ws : List Float) (given : AllWeights ws) (best : ℕ) (top : Float) (k
   pub largest-first : lt zeroWeight top ≡ true → best ≡ firstBelow (isLargest ws) (length ws)
   largest-first t = by (known .zero-or)
     where
-      by : (top ≡ zeroWeight) ⊎ ((best < length ws) × (getD ws best zeroWeight ≡ top) × ((k : ℕ) → k < best → unitsOf (getD ws k zeroWeight) < unitsOf top)) → best ≡ firstBelow (isLargest ws) (length ws)
+      by : (top ≡ zeroWeight) ⊎ ((best < length ws) × (getD ws best zeroWeight ≡ top) × ((k : ℕ) → k < best → unitsOf (getD ws k zeroWeight) < unitsOf top))
+          → best ≡ firstBelow (isLargest ws) (length ws)
       by (inl z) =
           let more = units-lt (finite zero-finite) (known .weight) (subst T (sym t) tt) in
           let same = ap unitsOf z in

@@ -1,2 +1,3 @@
--- The largest weight of a column
+-- The largest weight of a column, and rows of columns
 pub mod Largest
+pub mod Rows

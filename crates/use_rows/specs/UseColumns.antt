@@ -28,12 +28,18 @@ pub record Inside (at : ℕ) (cols : UseColumns) : Type 0 where
 -- the columns with a row stored
 abbrev pub withUse : UseColumns → ℕ → SplitUse → UseColumns
 withUse cols at u =
-    useColumns (set (cols .insts) at (u .inst .0)) (set (cols .mains) at (u .weight)) (set (cols .lefts) at (u .«left_weight»)) (set (cols .rights) at (u .«right_weight»))
+    useColumns (set (cols .insts) at (u .inst .0)) (set (cols .mains) at (u .weight))
+    (set (cols .lefts) at (u .«left_weight»)) (set (cols .rights) at (u .«right_weight»))
 
 -- the row that the columns hold
 abbrev pub useIn : UseColumns → ℕ → SplitUse
 useIn cols at =
-    record { inst = record { 0 = getD (cols .insts) at 0 }; weight = getD (cols .mains) at zeroWeight; «left_weight» = getD (cols .lefts) at zeroWeight; «right_weight» = getD (cols .rights) at zeroWeight }
+    record {
+      inst = record { 0 = getD (cols .insts) at 0 };
+      weight = getD (cols .mains) at zeroWeight;
+      «left_weight» = getD (cols .lefts) at zeroWeight;
+      «right_weight» = getD (cols .rights) at zeroWeight;
+    }
 
 -- the columns after their first rows are filled with a table
 abbrev pub filledWith : List SplitUse → UseColumns → UseColumns

@@ -30,9 +30,12 @@ noWeights p = record { inst = record { 0 = p }; weight = zeroWeight; «left_weig
 
 -- a row with a weight added to one of its three
 unfoldable pub addedToRow : SplitUse → Part → Float → SplitUse
-addedToRow u Part·is.Main w = record { inst = u .inst; weight = add binary32 (u .weight) w; «left_weight» = u .«left_weight»; «right_weight» = u .«right_weight» }
-addedToRow u Part·is.Left w = record { inst = u .inst; weight = u .weight; «left_weight» = add binary32 (u .«left_weight») w; «right_weight» = u .«right_weight» }
-addedToRow u Part·is.Right w = record { inst = u .inst; weight = u .weight; «left_weight» = u .«left_weight»; «right_weight» = add binary32 (u .«right_weight») w }
+addedToRow u Part·is.Main w =
+    record { inst = u .inst; weight = add binary32 (u .weight) w; «left_weight» = u .«left_weight»; «right_weight» = u .«right_weight» }
+addedToRow u Part·is.Left w =
+    record { inst = u .inst; weight = u .weight; «left_weight» = add binary32 (u .«left_weight») w; «right_weight» = u .«right_weight» }
+addedToRow u Part·is.Right w =
+    record { inst = u .inst; weight = u .weight; «left_weight» = u .«left_weight»; «right_weight» = add binary32 (u .«right_weight») w }
 
 -- the uses as the use table sees them: whether use u counts, its instruction, its part and its weight
 pub record Seen : Type 0 where

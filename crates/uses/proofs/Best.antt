@@ -81,7 +81,9 @@ module _ (ws : List Float) (given : AllWeights ws) where
         inside = inside;
         above-zero = let z = units-lt (finite zero-finite) heaviest-is t in let h = top in omega (arith, z, h);
         largest = λ k h. le-trans (at-most-heaviest k h) top;
-        earliest = λ k h. lt-of-lt-of-le (units-lt (given k (lt-trans h inside)) heaviest-is (unnot (lt (getD ws k zeroWeight) (heaviest ws)) (first-in (isLargest ws) (length ws) .passed k zero-le h))) top;
+        earliest =
+            λ k h. lt-of-lt-of-le (units-lt (given k (lt-trans h inside)) heaviest-is
+            (unnot (lt (getD ws k zeroWeight) (heaviest ws)) (first-in (isLargest ws) (length ws) .passed k zero-le h))) top;
       }
     where
       best : ℕ
@@ -100,7 +102,8 @@ module _ (ws : List Float) (given : AllWeights ws) where
   unfolding bestUse
   best-is best e = by (leb (length ws) 1) (lt zeroWeight (heaviest ws)) refl refl e
     where
-      by : (a b : Bool) → leb (length ws) 1 ≡ a → lt zeroWeight (heaviest ws) ≡ b → cond a Nothing (cond b (At (firstBelow (isLargest ws) (length ws))) Nothing) ≡ At best → IsBest ws best
+      by : (a b : Bool) → leb (length ws) 1 ≡ a → lt zeroWeight (heaviest ws) ≡ b
+          → cond a Nothing (cond b (At (firstBelow (isLargest ws) (length ws))) Nothing) ≡ At best → IsBest ws best
       by true b p q e = absurd (let z : _≡_ {A = ℕ} 0 1 = cc in omega arith)
       by false false p q e = absurd (let z : _≡_ {A = ℕ} 0 1 = cc in omega arith)
       by false true p q e =
@@ -112,29 +115,34 @@ module _ (ws : List Float) (given : AllWeights ws) where
   unfolding bestUse
   no-best-exactly = (none (leb (length ws) 1) (lt zeroWeight (heaviest ws)) refl refl, λ h. ⊎-elim short light h)
     where
-      none : (a b : Bool) → leb (length ws) 1 ≡ a → lt zeroWeight (heaviest ws) ≡ b → cond a Nothing (cond b (At (firstBelow (isLargest ws) (length ws))) Nothing) ≡ Nothing
+      none : (a b : Bool) → leb (length ws) 1 ≡ a → lt zeroWeight (heaviest ws) ≡ b
+          → cond a Nothing (cond b (At (firstBelow (isLargest ws) (length ws))) Nothing) ≡ Nothing
           → (length ws ≤ 1) ⊎ ((k : ℕ) → k < length ws → unitsOf (getD ws k zeroWeight) ≡ 0)
       none true b p q e = inl (leb→le (length ws) 1 (subst T (sym p) tt))
       none false true p q e = absurd (let z : _≡_ {A = ℕ} 0 1 = cc in omega arith)
       none false false p q e =
           inr (λ k h.
           let l = at-most-heaviest k h in
-          let z = nltb→le (unitsOf zeroWeight) (unitsOf (heaviest ws)) (subst (λ (b : Bool). T (not b)) (sym q ∙ units-order (finite zero-finite) heaviest-is) tt) in
+          let z = nltb→le (unitsOf zeroWeight) (unitsOf (heaviest ws))
+          (subst (λ (b : Bool). T (not b)) (sym q ∙ units-order (finite zero-finite) heaviest-is) tt) in
           let n = zero-units in
           omega (arith, l, z, n))
 
-      short : length ws ≤ 1 → cond (leb (length ws) 1) Nothing (cond (lt zeroWeight (heaviest ws)) (At (firstBelow (isLargest ws) (length ws))) Nothing) ≡ Nothing
+      short : length ws ≤ 1 → cond (leb (length ws) 1) Nothing (cond (lt zeroWeight (heaviest ws)) (At (firstBelow (isLargest ws) (length ws))) Nothing)
+          ≡ Nothing
       short h = cond-true Nothing (cond (lt zeroWeight (heaviest ws)) (At (firstBelow (isLargest ws) (length ws))) Nothing) (le-leb (length ws) 1 h)
 
       either : (a : Bool) → cond a Nothing Nothing ≡ Nothing
       either true = refl
       either false = refl
 
-      light : ((k : ℕ) → k < length ws → unitsOf (getD ws k zeroWeight) ≡ 0) → cond (leb (length ws) 1) Nothing (cond (lt zeroWeight (heaviest ws)) (At (firstBelow (isLargest ws) (length ws))) Nothing) ≡ Nothing
+      light : ((k : ℕ) → k < length ws → unitsOf (getD ws k zeroWeight) ≡ 0)
+          → cond (leb (length ws) 1) Nothing (cond (lt zeroWeight (heaviest ws)) (At (firstBelow (isLargest ws) (length ws))) Nothing) ≡ Nothing
       light h =
           ap (λ (x : BestUse). cond (leb (length ws) 1) Nothing x)
           (cond-false (At (firstBelow (isLargest ws) (length ws))) Nothing
-          (units-order (finite zero-finite) heaviest-is ∙ le-ltb (unitsOf zeroWeight) (unitsOf (heaviest ws)) (le-trans (le-of-eq (by (heaviest-among ws))) zero-le)))
+          (units-order (finite zero-finite) heaviest-is ∙ le-ltb (unitsOf zeroWeight) (unitsOf (heaviest ws))
+          (le-trans (le-of-eq (by (heaviest-among ws))) zero-le)))
           ∙ either (leb (length ws) 1)
         where
           by : (heaviest ws ≡ zeroWeight) ⊎ Among (heaviest ws) ws → unitsOf (heaviest ws) ≡ 0
@@ -142,7 +150,8 @@ module _ (ws : List Float) (given : AllWeights ws) where
           by (inr a) = let r = among-row ws (heaviest ws) a in ap unitsOf (sym (r .2)) ∙ h (r .0) (r .1)
 
 -- a job's best use is a row of its use table
-pub best-inside : (source : Source) → Scales (source .scales) → (best : ℕ) → bestUse (map (λ (u : SplitUse). u .weight) (useTableOf source)) ≡ At best → best < length (useTableOf source)
+pub best-inside : (source : Source) → Scales (source .scales) → (best : ℕ) → bestUse (map (λ (u : SplitUse). u .weight) (useTableOf source)) ≡ At best
+    → best < length (useTableOf source)
 best-inside source scales best e =
     let i = best-is (map (λ (u : SplitUse). u .weight) (useTableOf source)) (use-table-weights source scales) best e .inside in
     let l = length-map (useTableOf source) (λ (u : SplitUse). u .weight) in

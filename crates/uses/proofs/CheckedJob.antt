@@ -23,13 +23,17 @@ use Rattle.jobs.proofs.SoundUses.{Defined, defined, Fitting, fitting, LivesOut,
 use Rattle.jobs.proofs.UseLists.{list-of}
 use Rattle.use_rows.specs.Uses.{Source, firstInst, lastInst}
 use Rattle.uses.specs.CheckedUses.{CheckedUses}
-use Rattle.uses.specs.Collecting.{Listings, Starting, Ending}
+use Rattle.use_lists.specs.Collecting.{Listings}
+use Rattle.uses.specs.FirstLast.{Starting, Ending}
 use Rattle.uses.proofs.UseOrder.{last-out, last-use, first-out, first-use-last}
 
 -- the checks of lines 5 to 8 have answered the number of rows
-pub checked-uses : (job : Source) (limits : Limits) → 0 < length (job .segments) → limits .end ≡ 4 * startOf (job .blocks) (length (job .blocks)) → limits .uses ≡ length (job .uses) → limits .values ≡ length (job .codes)
-    → firstBelow (badSegment limits (job .segments)) (length (job .segments)) ≡ length (job .segments) → firstBelow (badDefAt (job .uses) (job .segments)) (length (job .segments)) ≡ length (job .segments)
-    → firstBelow (badUseAt limits (job .uses) (job .segments)) (length (job .uses)) ≡ length (job .uses) → firstBelow (badEndAt (job .uses) (job .segments)) (length (job .segments)) ≡ length (job .segments) → CheckedUses job
+pub checked-uses : (job : Source) (limits : Limits) → 0 < length (job .segments) → limits .end ≡ 4 * startOf (job .blocks) (length (job .blocks))
+    → limits .uses ≡ length (job .uses) → limits .values ≡ length (job .codes)
+    → firstBelow (badSegment limits (job .segments)) (length (job .segments)) ≡ length (job .segments)
+    → firstBelow (badDefAt (job .uses) (job .segments)) (length (job .segments)) ≡ length (job .segments)
+    → firstBelow (badUseAt limits (job .uses) (job .segments)) (length (job .uses)) ≡ length (job .uses)
+    → firstBelow (badEndAt (job .uses) (job .segments)) (length (job .segments)) ≡ length (job .segments) → CheckedUses job
 checked-uses job limits some e f g l5 l6 l7 l8 =
     record {
       some = some;
@@ -63,16 +67,23 @@ module _ (job : Source) (checked : CheckedUses job) where
   pub job-bounded : (i : ℕ) → i < length (job .segments) → Bounded (checked .limits) (rowBefore (job .segments) noSegment i) (getD (job .segments) i noSegment)
   job-bounded = segment-bounded (checked .limits) (job .segments) (checked .line5)
 
-  pub job-defined : (i : ℕ) → i < length (job .segments) → fixedDef (getD (job .segments) i noSegment .flags) ≡ true → Defined (job .uses) (getD (job .segments) i noSegment)
+  pub job-defined : (i : ℕ) → i < length (job .segments) → fixedDef (getD (job .segments) i noSegment .flags) ≡ true
+      → Defined (job .uses) (getD (job .segments) i noSegment)
   job-defined i h f = defined (job .uses) (seg i) f (checked .line6 i h)
 
   -- a use in the list that has it
-  use-fitting : (u : ℕ) → u < length (job .uses) → Fitting (checked .limits) (seg (listOf segs u)) (eqb u (seg (listOf segs u) .«first_use»)) (rowBefore (job .uses) noUse u) (getD (job .uses) u noUse)
-  use-fitting u h = fitting (checked .limits) (seg (listOf segs u)) (eqb u (seg (listOf segs u) .«first_use»)) (rowBefore (job .uses) noUse u) (getD (job .uses) u noUse) (checked .line7 u h)
+  use-fitting : (u : ℕ) → u < length (job .uses) → Fitting (checked .limits) (seg (listOf segs u)) (eqb u (seg (listOf segs u) .«first_use»))
+      (rowBefore (job .uses) noUse u) (getD (job .uses) u noUse)
+  use-fitting u h =
+      fitting (checked .limits) (seg (listOf segs u)) (eqb u (seg (listOf segs u) .«first_use»)) (rowBefore (job .uses) noUse u) (getD (job .uses) u noUse)
+      (checked .line7 u h)
 
-  pub job-fitting : (i u : ℕ) → i < length (job .segments) → getD (job .segments) i noSegment .«first_use» ≤ u → u < getD (job .segments) i noSegment .«end_use» → Fitting (checked .limits) (getD (job .segments) i noSegment) (eqb u (getD (job .segments) i noSegment .«first_use»)) (rowBefore (job .uses) noUse u) (getD (job .uses) u noUse)
+  pub job-fitting : (i u : ℕ) → i < length (job .segments) → getD (job .segments) i noSegment .«first_use» ≤ u → u < getD (job .segments) i noSegment .«end_use»
+      → Fitting (checked .limits) (getD (job .segments) i noSegment) (eqb u (getD (job .segments) i noSegment .«first_use»)) (rowBefore (job .uses) noUse u)
+      (getD (job .uses) u noUse)
   job-fitting i u h p q =
-      subst (λ (k : ℕ). Fitting (checked .limits) (seg k) (eqb u (seg k .«first_use»)) (rowBefore (job .uses) noUse u) (getD (job .uses) u noUse)) (sym (list-of (length (job .uses)) segs job-lists i u h p q))
+      subst (λ (k : ℕ). Fitting (checked .limits) (seg k) (eqb u (seg k .«first_use»)) (rowBefore (job .uses) noUse u) (getD (job .uses) u noUse))
+      (sym (list-of (length (job .uses)) segs job-lists i u h p q))
       (use-fitting u (let l = job-lists .inside i h in omega (arith, l, q)))
 
   -- a use lies in a block
@@ -108,7 +119,8 @@ module _ (job : Source) (checked : CheckedUses job) where
       one n h = omega (arith, h)
 
   -- what holds of both of its ends holds of the last instruction
-  by-end : (P : ℕ → Type 0) → (LivesOut (job .uses) (seg z) → P (seg z .end / 4 - 1)) → (Ended (job .uses) (seg z) → P (at (seg z .«end_use» - 1))) → P (lastInst (job .uses) (job .segments))
+  by-end : (P : ℕ → Type 0) → (LivesOut (job .uses) (seg z) → P (seg z .end / 4 - 1)) → (Ended (job .uses) (seg z) → P (at (seg z .«end_use» - 1)))
+      → P (lastInst (job .uses) (job .segments))
   unfolding lastInst
   by-end P f g = by (liveOut (seg z .flags)) refl
     where
@@ -129,7 +141,8 @@ module _ (job : Source) (checked : CheckedUses job) where
 
   pub last-in-blocks : lastInst (job .uses) (job .segments) < startOf (job .blocks) (length (job .blocks))
   last-in-blocks =
-      by-end (λ (p : ℕ). p < blocksEnd) (λ o. below (seg z .start) (seg z .end) (checked .limits .end) blocksEnd (job-bounded z z-inside .nonempty) (o .boundary) (job-bounded z z-inside .inside) (checked .end))
+      by-end (λ (p : ℕ). p < blocksEnd) (λ o. below (seg z .start) (seg z .end) (checked .limits .end) blocksEnd (job-bounded z z-inside .nonempty)
+      (o .boundary) (job-bounded z z-inside .inside) (checked .end))
       (λ e. use-in-blocks (seg z .«end_use» - 1) (let s = e .some in let l = job-lists .inside z z-inside in omega (arith, s, l)))
     where
       below : (s x y e : ℕ) → s < x → x % 4 ≡ 0 → x ≤ y → y ≡ 4 * e → x / 4 - 1 < e
@@ -165,7 +178,8 @@ module _ (job : Source) (checked : CheckedUses job) where
       let l = z-inside in
       let b = ends-before i (z - i) (omega (arith, e, l)) in
       let c = ap (λ (x : ℕ). seg x .end) e in
-      by-end (λ (p : ℕ). roundUp (seg i .end) ≤ p + 1) (λ o. out-covers (seg i .end) (seg z .end) (seg z .start) (omega (arith, b, c)) (o .boundary) (job-bounded z z-inside .nonempty))
+      by-end (λ (p : ℕ). roundUp (seg i .end) ≤ p + 1) (λ o. out-covers (seg i .end) (seg z .end) (seg z .start) (omega (arith, b, c)) (o .boundary)
+      (job-bounded z z-inside .nonempty))
       (λ u. use-covers (seg i .end) (seg z .end) (omega (arith, b, c)) (u .near))
     where
       out-covers : (x y s : ℕ) → x ≤ y → y % 4 ≡ 0 → s < y → (x + 3) / 4 ≤ y / 4 - 1 + 1
@@ -189,10 +203,13 @@ module _ (job : Source) (checked : CheckedUses job) where
       four : (s x : ℕ) → s < x → x % 4 ≡ 0 → 4 ≤ x
       four s x n b = omega (arith, n, b)
 
-  pub job-listings : (fs ss es : List ℕ) → SoundColumns fs ss es → job .blocks ≡ blocksOf fs ss es → Listings (job .uses) es (length fs) (length (job .codes)) (job .segments)
+  pub job-listings : (fs ss es : List ℕ) → SoundColumns fs ss es → job .blocks ≡ blocksOf fs ss es
+      → Listings (job .uses) es (length fs) (length (job .codes)) (job .segments)
   job-listings fs ss es w e =
       record {
         lists = job-lists;
-        blocked = λ u h. ends-of-sound fs ss es w (at u) (subst (λ (x : ℕ). at u < x) (last-of-sound fs ss es w) (subst (λ b. at u < startOf b (length b)) e (use-in-blocks u h)));
+        blocked =
+            λ u h. ends-of-sound fs ss es w (at u) (subst (λ (x : ℕ). at u < x) (last-of-sound fs ss es w)
+            (subst (λ b. at u < startOf b (length b)) e (use-in-blocks u h)));
         known = λ i h. subst (λ (n : ℕ). seg i .value < n) (checked .values) (job-bounded i h .known);
       }

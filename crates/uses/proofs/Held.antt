@@ -12,9 +12,10 @@ use Rattle.links.specs.Blocks.{blocksOf, SoundColumns}
 use Rattle.use_rows.specs.Uses.{Source, seenOf, noWeights, firstInst, lastInst, useTableOf}
 use Rattle.use_rows.specs.UseColumns.{UseColumns, Inside, Holds}
 use Rattle.uses.specs.CheckedUses.{CheckedUses}
-use Rattle.uses.specs.Collecting.{Collecting, countedLists, RowsLeft, Held, withLast}
+use Rattle.use_lists.specs.Collecting.{Collecting, countedLists, RowsLeft, Held, withLast}
 use Rattle.uses.proofs.Fills.{fill-inside}
-use Rattle.uses.proofs.Adding.{Stored, stored-first, inside-less}
+use Rattle.uses.proofs.Adding.{Stored, stored-first}
+use Rattle.use_rows.proofs.Rows.{inside-less}
 use Rattle.uses.proofs.OneList.{all-stored, rows-near}
 use Rattle.uses.proofs.WholeTable.{whole-same, whole-later, count-same, count-later}
 use Rattle.uses.proofs.CheckedJob.{job-lists, job-bounded, job-defined, job-fitting, uses-before, first-before}
@@ -22,19 +23,25 @@ use Rattle.uses.proofs.CheckedJob.{job-lists, job-bounded, job-defined,
 module _ (job : Source) (checked : CheckedUses job) (fs ss es : List ℕ) (w : SoundColumns fs ss es) (blocks : job .blocks ≡ blocksOf fs ss es)
     (lent : UseColumns) (room : Inside (length (job .uses) + 1) lent) where
   abbrev collected : Collecting
-  collected = countedLists (job .uses) fs es (job .segments) (job .codes) (job .scales) (length (job .segments)) (record { cols = lent; rows = 0; latest = noWeights (firstInst (job .segments)) })
+  collected =
+      countedLists (job .uses) fs es (job .segments) (job .codes) (job .scales) (length (job .segments))
+      (record { cols = lent; rows = 0; latest = noWeights (firstInst (job .segments)) })
 
   abbrev last : ℕ
   last = lastInst (job .uses) (job .segments)
 
   stored : Stored (seenOf job) (firstInst (job .segments)) (length (job .uses)) lent collected
   stored =
-      all-stored (checked .limits) job (job-lists job checked) (job-bounded job checked) (job-defined job checked) (job-fitting job checked) fs ss es (w .firsts-long) (w .ends-long) blocks (w .sound) lent
-      (inside-less (length (job .uses)) (length (job .uses) + 1) lent (omega arith) room) (record { cols = lent; rows = 0; latest = noWeights (firstInst (job .segments)) }) (stored-first (seenOf job) (firstInst (job .segments)) lent)
+      all-stored (checked .limits) job (job-lists job checked) (job-bounded job checked) (job-defined job checked) (job-fitting job checked) fs ss es
+      (w .firsts-long) (w .ends-long) blocks (w .sound) lent
+      (inside-less (length (job .uses)) (length (job .uses) + 1) lent (omega arith) room)
+      (record { cols = lent; rows = 0; latest = noWeights (firstInst (job .segments)) }) (stored-first (seenOf job) (firstInst (job .segments)) lent)
 
   -- the latest row's instruction is no later than the last one
   within : stored .at ≤ last
-  within = rows-near (seenOf job) (firstInst (job .segments)) (length (job .uses)) last (first-before job checked) (uses-before job checked) (stored .at) (stored .pending .has)
+  within =
+      rows-near (seenOf job) (firstInst (job .segments)) (length (job .uses)) last (first-before job checked) (uses-before job checked) (stored .at)
+      (stored .pending .has)
 
   -- there is room for the last rows
   pub last-room : RowsLeft 1 collected
@@ -54,8 +61,16 @@ module _ (job : Source) (checked : CheckedUses job) (fs ss es : List ℕ) (w : S
       by true e =
           let f = eqb-true (collected .latest .inst .0) last e in
           subst (λ (x : Held). Holds (useTableOf job) lent (x .cols) (x .rows)) (sym (cond-true _ _ e))
-          (record { cols = whole-same (seenOf job) (firstInst (job .segments)) last (length (job .uses)) lent collected stored room within f; count = count-same (seenOf job) (firstInst (job .segments)) last (length (job .uses)) lent collected stored room within f })
+          (record {
+            cols = whole-same (seenOf job) (firstInst (job .segments)) last (length (job .uses)) lent collected stored room within f;
+            count =
+                count-same (seenOf job) (firstInst (job .segments)) last (length (job .uses)) lent collected stored room within f;
+          })
       by false e =
           let f = eqb-false (collected .latest .inst .0) last e in
           subst (λ (x : Held). Holds (useTableOf job) lent (x .cols) (x .rows)) (sym (cond-false _ _ e))
-          (record { cols = whole-later (seenOf job) (firstInst (job .segments)) last (length (job .uses)) lent collected stored room within f; count = count-later (seenOf job) (firstInst (job .segments)) last (length (job .uses)) lent collected stored room within f })
+          (record {
+            cols = whole-later (seenOf job) (firstInst (job .segments)) last (length (job .uses)) lent collected stored room within f;
+            count =
+                count-later (seenOf job) (firstInst (job .segments)) last (length (job .uses)) lent collected stored room within f;
+          })

@@ -2,10 +2,8 @@
 pub mod UseRows
 pub mod Pending
 pub mod UseCases
-pub mod Storing
 pub mod Fills
 pub mod Adding
-pub mod ListWalk
 pub mod UseOrder
 pub mod OneList
 pub mod WholeTable

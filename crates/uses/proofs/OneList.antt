@@ -26,8 +26,9 @@ use Rattle.jobs.proofs.SoundUses.{Defined, Fitting}
 use Rattle.jobs.proofs.UseLists.{list-of}
 use Rattle.use_rows.specs.Uses.{Seen, countsAt, carries, hasRow, frequencyAt, Source, segmentOf, costOf, seenOf, firstInst}
 use Rattle.use_rows.specs.UseColumns.{UseColumns, Inside}
-use Rattle.uses.specs.Collecting.{Collecting, added, weightAt, counted, countedList, countedLists}
-use Rattle.uses.proofs.Adding.{Stored, stored-skipped, stored-added, inside-less}
+use Rattle.use_lists.specs.Collecting.{Collecting, added, weightAt, counted, countedList, countedLists}
+use Rattle.uses.proofs.Adding.{Stored, stored-skipped, stored-added}
+use Rattle.use_rows.proofs.Rows.{inside-less}
 use Rattle.uses.proofs.UseOrder.{use-near, use-inside}
 
 -- a use that counts at an instruction
@@ -50,7 +51,8 @@ carried seen (suc n) p e = by (carries seen n p) refl e (carried seen n p)
     by false c f later = record { one = n; seen-before = le-refl (suc n); there = eqb-true (seen .inst n) p (own (seen .counts n) (eqb (seen .inst n) p) f) }
 
 -- an instruction with a row is the first, or a use counts there
-pub rows-near : (seen : Seen) (first n most : ℕ) → first ≤ most → ((m : ℕ) → m < n → seen .inst m ≤ most) → (p : ℕ) → hasRow seen n first first p ≡ true → p ≤ most
+pub rows-near : (seen : Seen) (first n most : ℕ) → first ≤ most → ((m : ℕ) → m < n → seen .inst m ≤ most) → (p : ℕ) → hasRow seen n first first p ≡ true
+    → p ≤ most
 rows-near seen first n most h uses p e = by (eqb p first) refl (carries seen n p) refl e
   where
     by : (a : Bool) → eqb p first ≡ a → (b : Bool) → carries seen n p ≡ b → (a || a || b) ≡ true → p ≤ most
@@ -59,7 +61,8 @@ rows-near seen first n most h uses p e = by (eqb p first) refl (carries seen n p
     by false f false g t = absurd (true≢false (sym t))
 
 -- a use's weight by the columns is its weight by the blocks
-pub weight-blocks : (fs ss es : List ℕ) → length ss ≡ length fs → length es ≡ length fs → SoundBlocks (blocksOf fs ss es) → (cost : Float) (p : ℕ) → weightAt fs es cost p ≡ mul binary32 cost (frequencyAt (blocksOf fs ss es) p)
+pub weight-blocks : (fs ss es : List ℕ) → length ss ≡ length fs → length es ≡ length fs → SoundBlocks (blocksOf fs ss es) → (cost : Float) (p : ℕ)
+    → weightAt fs es cost p ≡ mul binary32 cost (frequencyAt (blocksOf fs ss es) p)
 unfolding weightAt frequencyAt
 weight-blocks fs ss es a b sound cost p =
     let found = block-of-sound fs ss es (record { firsts-long = a; ends-long = b; sound = sound }) p in
@@ -69,9 +72,13 @@ weight-blocks fs ss es a b sound cost p =
 -- ---- a checked job
 module _ (limits : Limits) (job : Source) (lists : Lists (length (job .uses)) (job .segments))
     (bounded : (i : ℕ) → i < length (job .segments) → Bounded limits (rowBefore (job .segments) noSegment i) (getD (job .segments) i noSegment))
-    (defined : (i : ℕ) → i < length (job .segments) → fixedDef (getD (job .segments) i noSegment .flags) ≡ true → Defined (job .uses) (getD (job .segments) i noSegment))
-    (fitting : (i u : ℕ) → i < length (job .segments) → getD (job .segments) i noSegment .«first_use» ≤ u → u < getD (job .segments) i noSegment .«end_use» → Fitting limits (getD (job .segments) i noSegment) (eqb u (getD (job .segments) i noSegment .«first_use»)) (rowBefore (job .uses) noUse u) (getD (job .uses) u noUse))
-    (fs ss es : List ℕ) (as-long : length ss ≡ length fs) (as-long-too : length es ≡ length fs) (blocks : job .blocks ≡ blocksOf fs ss es) (sound : SoundBlocks (blocksOf fs ss es))
+    (defined : (i : ℕ) → i < length (job .segments) → fixedDef (getD (job .segments) i noSegment .flags) ≡ true
+    → Defined (job .uses) (getD (job .segments) i noSegment))
+    (fitting : (i u : ℕ) → i < length (job .segments) → getD (job .segments) i noSegment .«first_use» ≤ u → u < getD (job .segments) i noSegment .«end_use»
+    → Fitting limits (getD (job .segments) i noSegment) (eqb u (getD (job .segments) i noSegment .«first_use»)) (rowBefore (job .uses) noUse u)
+    (getD (job .uses) u noUse))
+    (fs ss es : List ℕ) (as-long : length ss ≡ length fs) (as-long-too : length es ≡ length fs) (blocks : job .blocks ≡ blocksOf fs ss es)
+    (sound : SoundBlocks (blocksOf fs ss es))
     (lent : UseColumns) (room : Inside (length (job .uses)) lent) where
   abbrev seg : ℕ → Segment
   seg i = getD (job .segments) i noSegment
@@ -80,7 +87,8 @@ module _ (limits : Limits) (job : Source) (lists : Lists (length (job .uses)) (j
   codeOf s = getD (job .codes) (s .value) 0
 
   -- use n of segment i, added or ignored
-  module _ (i n : ℕ) (h : i < length (job .segments)) (p : seg i .«first_use» ≤ n) (q : n < seg i .«end_use») (c : Collecting) (known : Stored (seenOf job) (firstInst (job .segments)) n lent c) where
+  module _ (i n : ℕ) (h : i < length (job .segments)) (p : seg i .«first_use» ≤ n) (q : n < seg i .«end_use») (c : Collecting)
+      (known : Stored (seenOf job) (firstInst (job .segments)) n lent c) where
     own-segment : seg i ≡ segmentOf job n
     own-segment = ap seg (list-of (length (job .uses)) (job .segments) lists i n h p q)
 
@@ -88,37 +96,55 @@ module _ (limits : Limits) (job : Source) (lists : Lists (length (job .uses)) (j
     inside-uses = let l = lists .inside i h in omega (arith, l, q)
 
     -- what the code adds is what the table sees of the use
-    as-seen : counted fs es (seg i) (getD (job .uses) n noUse .position) (scaled (codeOf (seg i)) (job .scales) (spillCost reloadCost moveCost (getD (job .uses) n noUse .kind) (getD (job .uses) n noUse .cost))) c ≡ cond (eq (costOf job n) zeroWeight) c (added c (seenOf job .inst n) (seenOf job .part n) (seenOf job .weight n))
+    as-seen : counted fs es (seg i) (getD (job .uses) n noUse .position)
+        (scaled (codeOf (seg i)) (job .scales) (spillCost reloadCost moveCost (getD (job .uses) n noUse .kind) (getD (job .uses) n noUse .cost))) c
+        ≡ cond (eq (costOf job n) zeroWeight) c (added c (seenOf job .inst n) (seenOf job .part n) (seenOf job .weight n))
     unfolding counted costOf
     as-seen =
-        ap (λ (s : Segment). counted fs es s (getD (job .uses) n noUse .position) (scaled (codeOf s) (job .scales) (spillCost reloadCost moveCost (getD (job .uses) n noUse .kind) (getD (job .uses) n noUse .cost))) c) own-segment
-        ∙ ap (λ (w : Float). cond (eq (costOf job n) zeroWeight) c (added c (seenOf job .inst n) (seenOf job .part n) w)) (weight-blocks fs ss es as-long as-long-too sound (costOf job n) (getD (job .uses) n noUse .position) ∙ ap (λ (b : List BlockRow). mul binary32 (costOf job n) (frequencyAt b (getD (job .uses) n noUse .position))) (sym blocks))
+        ap (λ (s : Segment). counted fs es s (getD (job .uses) n noUse .position)
+        (scaled (codeOf s) (job .scales) (spillCost reloadCost moveCost (getD (job .uses) n noUse .kind) (getD (job .uses) n noUse .cost))) c) own-segment
+        ∙ ap (λ (w : Float). cond (eq (costOf job n) zeroWeight) c (added c (seenOf job .inst n) (seenOf job .part n) w))
+        (weight-blocks fs ss es as-long as-long-too sound (costOf job n) (getD (job .uses) n noUse .position)
+        ∙ ap (λ (b : List BlockRow). mul binary32 (costOf job n) (frequencyAt b (getD (job .uses) n noUse .position))) (sym blocks))
 
-    use-stored : Stored (seenOf job) (firstInst (job .segments)) (suc n) lent (counted fs es (seg i) (getD (job .uses) n noUse .position) (scaled (codeOf (seg i)) (job .scales) (spillCost reloadCost moveCost (getD (job .uses) n noUse .kind) (getD (job .uses) n noUse .cost))) c)
+    use-stored : Stored (seenOf job) (firstInst (job .segments)) (suc n) lent
+        (counted fs es (seg i) (getD (job .uses) n noUse .position)
+        (scaled (codeOf (seg i)) (job .scales) (spillCost reloadCost moveCost (getD (job .uses) n noUse .kind) (getD (job .uses) n noUse .cost))) c)
     use-stored = by (eq (costOf job n) zeroWeight) refl
       where
         first-before : firstInst (job .segments) ≤ seenOf job .inst n
         first-before = use-inside limits (job .uses) (job .segments) lists bounded defined fitting i n h p q
 
-        by : (b : Bool) → eq (costOf job n) zeroWeight ≡ b → Stored (seenOf job) (firstInst (job .segments)) (suc n) lent (counted fs es (seg i) (getD (job .uses) n noUse .position) (scaled (codeOf (seg i)) (job .scales) (spillCost reloadCost moveCost (getD (job .uses) n noUse .kind) (getD (job .uses) n noUse .cost))) c)
-        by true e = subst (Stored (seenOf job) (firstInst (job .segments)) (suc n) lent) (sym (as-seen ∙ cond-true _ _ e)) (stored-skipped (seenOf job) (firstInst (job .segments)) lent n c known (ap not e))
+        by : (b : Bool) → eq (costOf job n) zeroWeight ≡ b → Stored (seenOf job) (firstInst (job .segments)) (suc n) lent
+            (counted fs es (seg i) (getD (job .uses) n noUse .position)
+            (scaled (codeOf (seg i)) (job .scales) (spillCost reloadCost moveCost (getD (job .uses) n noUse .kind) (getD (job .uses) n noUse .cost))) c)
+        by true e =
+            subst (Stored (seenOf job) (firstInst (job .segments)) (suc n) lent) (sym (as-seen ∙ cond-true _ _ e))
+            (stored-skipped (seenOf job) (firstInst (job .segments)) lent n c known (ap not e))
         by false e =
             subst (Stored (seenOf job) (firstInst (job .segments)) (suc n) lent) (sym (as-seen ∙ cond-false _ _ e))
             (stored-added (seenOf job) (firstInst (job .segments)) lent n c known (ap not e) first-before
-            (rows-near (seenOf job) (firstInst (job .segments)) n (seenOf job .inst n + 1) (let f = first-before in omega (arith, f)) (λ m l. use-near limits (job .uses) (job .segments) lists bounded defined fitting i m n h p q l))
+            (rows-near (seenOf job) (firstInst (job .segments)) n (seenOf job .inst n + 1) (let f = first-before in omega (arith, f))
+            (λ m l. use-near limits (job .uses) (job .segments) lists bounded defined fitting i m n h p q l))
             (inside-less n (length (job .uses)) lent (let l = inside-uses in omega (arith, l)) room))
 
   -- the first k uses of a list
-  pub list-stored : (i k : ℕ) → i < length (job .segments) → seg i .«first_use» + k ≤ seg i .«end_use» → (c : Collecting) → Stored (seenOf job) (firstInst (job .segments)) (seg i .«first_use») lent c → Stored (seenOf job) (firstInst (job .segments)) (seg i .«first_use» + k) lent (countedList (job .uses) fs es (seg i) (codeOf (seg i)) (job .scales) k c)
+  pub list-stored : (i k : ℕ) → i < length (job .segments) → seg i .«first_use» + k ≤ seg i .«end_use» → (c : Collecting)
+      → Stored (seenOf job) (firstInst (job .segments)) (seg i .«first_use») lent c
+      → Stored (seenOf job) (firstInst (job .segments)) (seg i .«first_use» + k) lent (countedList (job .uses) fs es (seg i) (codeOf (seg i)) (job .scales) k c)
   unfolding countedList
   list-stored i zero h l c known = subst (λ (n : ℕ). Stored (seenOf job) (firstInst (job .segments)) n lent c) (sym (add-zero (seg i .«first_use»))) known
   list-stored i (suc k) h l c known =
       let e = add-suc (seg i .«first_use») k in
-      subst (λ (n : ℕ). Stored (seenOf job) (firstInst (job .segments)) n lent (countedList (job .uses) fs es (seg i) (codeOf (seg i)) (job .scales) (suc k) c)) (sym e)
-      (use-stored i (seg i .«first_use» + k) h (omega arith) (omega (arith, e, l)) (countedList (job .uses) fs es (seg i) (codeOf (seg i)) (job .scales) k c) (list-stored i k h (omega (arith, e, l)) c known))
+      subst (λ (n : ℕ). Stored (seenOf job) (firstInst (job .segments)) n lent (countedList (job .uses) fs es (seg i) (codeOf (seg i)) (job .scales) (suc k) c))
+      (sym e)
+      (use-stored i (seg i .«first_use» + k) h (omega arith) (omega (arith, e, l)) (countedList (job .uses) fs es (seg i) (codeOf (seg i)) (job .scales) k c)
+      (list-stored i k h (omega (arith, e, l)) c known))
 
   -- the lists of the first n segments
-  pub lists-stored : (n : ℕ) → n ≤ length (job .segments) → (c : Collecting) → Stored (seenOf job) (firstInst (job .segments)) 0 lent c → Stored (seenOf job) (firstInst (job .segments)) (rowBefore (job .segments) noSegment n .«end_use») lent (countedLists (job .uses) fs es (job .segments) (job .codes) (job .scales) n c)
+  pub lists-stored : (n : ℕ) → n ≤ length (job .segments) → (c : Collecting) → Stored (seenOf job) (firstInst (job .segments)) 0 lent c
+      → Stored (seenOf job) (firstInst (job .segments)) (rowBefore (job .segments) noSegment n .«end_use») lent
+      (countedLists (job .uses) fs es (job .segments) (job .codes) (job .scales) n c)
   unfolding countedLists
   lists-stored zero h c known = known
   lists-stored (suc i) h c known =
@@ -126,10 +152,16 @@ module _ (limits : Limits) (job : Source) (lists : Lists (length (job .uses)) (j
       let o = lists .forward i h in
       let whole : seg i .«first_use» + (seg i .«end_use» - seg i .«first_use») ≡ seg i .«end_use» = omega (arith, o) in
       let before = countedLists (job .uses) fs es (job .segments) (job .codes) (job .scales) i c in
-      subst (λ (n : ℕ). Stored (seenOf job) (firstInst (job .segments)) n lent (countedList (job .uses) fs es (seg i) (codeOf (seg i)) (job .scales) (seg i .«end_use» - seg i .«first_use») before)) whole
+      subst (λ (n : ℕ). Stored (seenOf job) (firstInst (job .segments)) n lent
+      (countedList (job .uses) fs es (seg i) (codeOf (seg i)) (job .scales) (seg i .«end_use» - seg i .«first_use») before)) whole
       (list-stored i (seg i .«end_use» - seg i .«first_use») h (omega (arith, o)) before
       (subst (λ (n : ℕ). Stored (seenOf job) (firstInst (job .segments)) n lent before) (sym f) (lists-stored i (omega (arith, h)) c known)))
 
   -- all of them
-  pub all-stored : (c : Collecting) → Stored (seenOf job) (firstInst (job .segments)) 0 lent c → Stored (seenOf job) (firstInst (job .segments)) (length (job .uses)) lent (countedLists (job .uses) fs es (job .segments) (job .codes) (job .scales) (length (job .segments)) c)
-  all-stored c known = subst (λ (n : ℕ). Stored (seenOf job) (firstInst (job .segments)) n lent (countedLists (job .uses) fs es (job .segments) (job .codes) (job .scales) (length (job .segments)) c)) (lists .all) (lists-stored (length (job .segments)) (le-refl (length (job .segments))) c known)
+  pub all-stored : (c : Collecting) → Stored (seenOf job) (firstInst (job .segments)) 0 lent c
+      → Stored (seenOf job) (firstInst (job .segments)) (length (job .uses)) lent
+      (countedLists (job .uses) fs es (job .segments) (job .codes) (job .scales) (length (job .segments)) c)
+  all-stored c known =
+      subst (λ (n : ℕ). Stored (seenOf job) (firstInst (job .segments)) n lent
+      (countedLists (job .uses) fs es (job .segments) (job .codes) (job .scales) (length (job .segments)) c)) (lists .all)
+      (lists-stored (length (job .segments)) (le-refl (length (job .segments))) c known)

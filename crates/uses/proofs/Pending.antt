@@ -14,7 +14,8 @@ use Rattle.use_rows.specs.declared.row.Part.the-variants as Part·is
 use Rattle.use_rows.specs.declared.row.SplitUse.{SplitUse}
 use Rattle.use_rows.specs.Uses.{noWeights, addedToRow, Seen, countsAt, carries, splitUse, hasRow, rowsFrom, useTable}
 use Rattle.jobs.proofs.Sound.{or-parts}
-use Rattle.uses.proofs.UseRows.{skipped-carries, skipped-row, other-carries, other-row, own-carries, own-row, row-none, rows-split, rows-none, rows-one, rows-same, or-all}
+use Rattle.uses.proofs.UseRows.{skipped-carries, skipped-row, other-carries, other-row, own-carries, own-row, row-none, rows-split, rows-none, rows-one}
+use Rattle.uses.proofs.UseRows.{rows-same, or-all}
 
 -- n uses are seen: the rows before instruction p are written, `latest` is the row of p, and none is after it
 pub record Pending (seen : Seen) (first n p : ℕ) (written : List SplitUse) (latest : SplitUse) : Type 0 where
@@ -91,12 +92,16 @@ module _ (seen : Seen) (first : ℕ) where
           }
 
       -- after it: that row is written, and the use's own is the latest
-      pub pending-later : p < seen .inst n → Pending seen first (suc n) (seen .inst n) (written ++ (latest ∷ [])) (addedToRow (noWeights (seen .inst n)) (seen .part n) (seen .weight n))
+      pub pending-later : p < seen .inst n → Pending seen first (suc n) (seen .inst n) (written ++ (latest ∷ []))
+          (addedToRow (noWeights (seen .inst n)) (seen .part n) (seen .weight n))
       pending-later h =
           record {
             from = let f = known .from in omega (arith, f, h);
             rows = all;
-            row = ap (λ (u : SplitUse). addedToRow u (seen .part n) (seen .weight n)) (sym (row-none seen n (seen .inst n) (or-parts (eqb (seen .inst n) first || eqb (seen .inst n) first) (carries seen n (seen .inst n)) (known .none (seen .inst n) h) .1))) ∙ sym (own-row seen n counted);
+            row =
+                ap (λ (u : SplitUse). addedToRow u (seen .part n) (seen .weight n))
+                (sym (row-none seen n (seen .inst n) (or-parts (eqb (seen .inst n) first || eqb (seen .inst n) first) (carries seen n (seen .inst n))
+                (known .none (seen .inst n) h) .1))) ∙ sym (own-row seen n counted);
             has = own-has;
             none = λ q l. other-has q (λ f. omega (arith, f, l)) ∙ known .none q (omega (arith, h, l));
           }
@@ -107,7 +112,12 @@ module _ (seen : Seen) (first : ℕ) where
               let f = known .from in
               let count : seen .inst n - first ≡ (p - first) + (1 + (seen .inst n - p - 1)) = omega (arith, f, h) in
               let here : first + (p - first) ≡ p = omega (arith, f) in
-              ap₂ (λ (a b : List SplitUse). a ++ b) (known .rows) (ap (λ (u : SplitUse). u ∷ []) (known .row) ∙ sym (rows-one seen n first first p (known .has)) ∙ sym (append-nil _) ∙ ap (λ (r : List SplitUse). rowsFrom seen n first first p 1 ++ r) (sym (rows-none seen n first first (p + 1) (seen .inst n - p - 1) (λ q a b. known .none q (omega (arith, a))))) ∙ sym (rows-split seen n first first p 1 (seen .inst n - p - 1)) ∙ ap (λ (x : ℕ). rowsFrom seen n first first x (1 + (seen .inst n - p - 1))) (sym here))
+              ap₂ (λ (a b : List SplitUse). a ++ b) (known .rows)
+              (ap (λ (u : SplitUse). u ∷ []) (known .row) ∙ sym (rows-one seen n first first p (known .has)) ∙ sym (append-nil _)
+              ∙ ap (λ (r : List SplitUse). rowsFrom seen n first first p 1 ++ r)
+              (sym (rows-none seen n first first (p + 1) (seen .inst n - p - 1) (λ q a b. known .none q (omega (arith, a)))))
+              ∙ sym (rows-split seen n first first p 1 (seen .inst n - p - 1))
+              ∙ ap (λ (x : ℕ). rowsFrom seen n first first x (1 + (seen .inst n - p - 1))) (sym here))
               ∙ sym (rows-split seen n first first first (p - first) (1 + (seen .inst n - p - 1)))
               ∙ ap (rowsFrom seen n first first first) (sym count)
               ∙ others first (seen .inst n - first) (λ x a b e. omega (arith, a, b, e, f, h))
@@ -126,7 +136,9 @@ module _ (seen : Seen) (first : ℕ) where
 
         -- the rows before the latest: those before the use, and its own
         cut : (m : ℕ) → rowsFrom seen m first first first (p - first) ≡ front m ++ rowsFrom seen m first first (seen .inst n) 1
-        cut m = ap (rowsFrom seen m first first first) front-count ∙ rows-split seen m first first first (seen .inst n - first) 1 ∙ ap (λ (x : ℕ). front m ++ rowsFrom seen m first first x 1) here
+        cut m =
+            ap (rowsFrom seen m first first first) front-count ∙ rows-split seen m first first first (seen .inst n - first) 1
+            ∙ ap (λ (x : ℕ). front m ++ rowsFrom seen m first first x 1) here
 
         front-same : front n ≡ front (suc n)
         front-same = others first (seen .inst n - first) (λ x a b e. let h = inside in omega (arith, a, b, e, h))
@@ -134,7 +146,8 @@ module _ (seen : Seen) (first : ℕ) where
         own-after : rowsFrom seen (suc n) first first (seen .inst n) 1 ≡ addedToRow (splitUse seen n (seen .inst n)) (seen .part n) (seen .weight n) ∷ []
         own-after = rows-one seen (suc n) first first (seen .inst n) own-has ∙ ap (λ (u : SplitUse). u ∷ []) (own-row seen n counted)
 
-        step : (rows : List SplitUse) → rows ≡ front n ++ (addedToRow (splitUse seen n (seen .inst n)) (seen .part n) (seen .weight n) ∷ []) → Pending seen first (suc n) p rows latest
+        step : (rows : List SplitUse) → rows ≡ front n ++ (addedToRow (splitUse seen n (seen .inst n)) (seen .part n) (seen .weight n) ∷ [])
+            → Pending seen first (suc n) p rows latest
         step rows e =
             record {
               from = known .from;
@@ -149,14 +162,17 @@ module _ (seen : Seen) (first : ℕ) where
         written-front e =
             known .rows
             ∙ cut n
-            ∙ ap (λ (r : List SplitUse). front n ++ r) (rows-none seen n first first (seen .inst n) 1 (λ q a b. let same : q ≡ seen .inst n = omega (arith, a, b) in subst (λ (x : ℕ). hasRow seen n first first x ≡ false) (sym same) e))
+            ∙ ap (λ (r : List SplitUse). front n ++ r) (rows-none seen n first first (seen .inst n) 1
+            (λ q a b. let same : q ≡ seen .inst n = omega (arith, a, b) in subst (λ (x : ℕ). hasRow seen n first first x ≡ false) (sym same) e))
             ∙ append-nil (front n)
 
-        pub pending-before : hasRow seen n first first (seen .inst n) ≡ false → Pending seen first (suc n) p (written ++ (addedToRow (noWeights (seen .inst n)) (seen .part n) (seen .weight n) ∷ [])) latest
+        pub pending-before : hasRow seen n first first (seen .inst n) ≡ false
+            → Pending seen first (suc n) p (written ++ (addedToRow (noWeights (seen .inst n)) (seen .part n) (seen .weight n) ∷ [])) latest
         pending-before e =
             step _
             (ap₂ (λ (a b : List SplitUse). a ++ b) (written-front e)
-            (ap (λ (u : SplitUse). addedToRow u (seen .part n) (seen .weight n) ∷ []) (sym (row-none seen n (seen .inst n) (or-parts (eqb (seen .inst n) first || eqb (seen .inst n) first) (carries seen n (seen .inst n)) e .1)))))
+            (ap (λ (u : SplitUse). addedToRow u (seen .part n) (seen .weight n) ∷ [])
+            (sym (row-none seen n (seen .inst n) (or-parts (eqb (seen .inst n) first || eqb (seen .inst n) first) (carries seen n (seen .inst n)) e .1)))))
 
         -- it had one: that is the last one written, and it changes
         pub written-own : hasRow seen n first first (seen .inst n) ≡ true → written ≡ front n ++ (splitUse seen n (seen .inst n) ∷ [])
@@ -192,7 +208,8 @@ module _ (seen : Seen) (first : ℕ) where
           let count : (p - first) + 1 ≡ last + 1 - first = omega (arith, f, e) in
           ap₂ (λ (a b : List SplitUse). a ++ b)
           (known .rows ∙ ends-same first (p - first) (λ x a b g. omega (arith, a, b, e, f, g)))
-          (ap (λ (u : SplitUse). u ∷ []) (known .row ∙ ap (splitUse seen n) e) ∙ sym (rows-one seen n first last last last-has) ∙ ap (λ (x : ℕ). rowsFrom seen n first last x 1) (sym here))
+          (ap (λ (u : SplitUse). u ∷ []) (known .row ∙ ap (splitUse seen n) e) ∙ sym (rows-one seen n first last last last-has)
+          ∙ ap (λ (x : ℕ). rowsFrom seen n first last x 1) (sym here))
           ∙ sym (rows-split seen n first last first (p - first) 1)
           ∙ ap (rowsFrom seen n first last first) count
 
@@ -205,7 +222,8 @@ module _ (seen : Seen) (first : ℕ) where
           let there : (p + 1) + (last - p - 1) ≡ last = omega (arith, h) in
           let count : (p - first) + (1 + ((last - p - 1) + 1)) ≡ last + 1 - first = omega (arith, f, h) in
           let absent : carries seen n last ≡ false = or-parts (eqb last first || eqb last first) (carries seen n last) (known .none last h) .1 in
-          let between : rowsFrom seen n first last (p + 1) (last - p - 1) ≡ [] = rows-none seen n first last (p + 1) (last - p - 1) (λ q a b. sym (ends-has q (λ g. omega (arith, a, b, g, h))) ∙ known .none q (omega (arith, a))) in
+          let between : rowsFrom seen n first last (p + 1) (last - p - 1) ≡ [] =
+          rows-none seen n first last (p + 1) (last - p - 1) (λ q a b. sym (ends-has q (λ g. omega (arith, a, b, g, h))) ∙ known .none q (omega (arith, a))) in
           let end : noWeights last ∷ [] ≡ rowsFrom seen n first last (p + 1) ((last - p - 1) + 1) =
           ap (λ (u : SplitUse). u ∷ []) (sym (row-none seen n last absent))
           ∙ sym (rows-one seen n first last last last-has)
@@ -216,7 +234,8 @@ module _ (seen : Seen) (first : ℕ) where
           ap (λ (u : SplitUse). u ∷ []) (known .row) ∙ sym (rows-one seen n first last p (sym (ends-has p (λ g. omega (arith, g, h))) ∙ known .has)) in
           ap₂ (λ (a b : List SplitUse). a ++ b)
           (known .rows ∙ ends-same first (p - first) (λ x a b g. omega (arith, a, b, f, g, h)))
-          (ap₂ (λ (a b : List SplitUse). a ++ b) own end ∙ sym (rows-split seen n first last p 1 ((last - p - 1) + 1)) ∙ ap (λ (x : ℕ). rowsFrom seen n first last x (1 + ((last - p - 1) + 1))) (sym here))
+          (ap₂ (λ (a b : List SplitUse). a ++ b) own end ∙ sym (rows-split seen n first last p 1 ((last - p - 1) + 1))
+          ∙ ap (λ (x : ℕ). rowsFrom seen n first last x (1 + ((last - p - 1) + 1))) (sym here))
           ∙ sym (rows-split seen n first last first (p - first) (1 + ((last - p - 1) + 1)))
           ∙ ap (rowsFrom seen n first last first) count
 

@@ -23,7 +23,8 @@ use Rattle.use_rows.specs.Uses.{firstInst}
 module _ (limits : Limits) (uses : List Use) (segments : List Segment) (lists : Lists (length uses) segments)
     (bounded : (i : ℕ) → i < length segments → Bounded limits (rowBefore segments noSegment i) (getD segments i noSegment))
     (defined : (i : ℕ) → i < length segments → fixedDef (getD segments i noSegment .flags) ≡ true → Defined uses (getD segments i noSegment))
-    (fitting : (i u : ℕ) → i < length segments → getD segments i noSegment .«first_use» ≤ u → u < getD segments i noSegment .«end_use» → Fitting limits (getD segments i noSegment) (eqb u (getD segments i noSegment .«first_use»)) (rowBefore uses noUse u) (getD uses u noUse)) where
+    (fitting : (i u : ℕ) → i < length segments → getD segments i noSegment .«first_use» ≤ u → u < getD segments i noSegment .«end_use»
+    → Fitting limits (getD segments i noSegment) (eqb u (getD segments i noSegment .«first_use»)) (rowBefore uses noUse u) (getD uses u noUse)) where
   abbrev seg : ℕ → Segment
   seg i = getD segments i noSegment
 
@@ -57,7 +58,9 @@ module _ (limits : Limits) (uses : List Use) (segments : List Segment) (lists : 
   -- the uses listed before segment i are before the end of the segment before it
   ended : (i u : ℕ) → i ≤ length segments → u < rowBefore segments noSegment i .«end_use» → 4 * at u ≤ rowBefore segments noSegment i .end
   ended zero u h l = absurd (not-suc-le-zero l)
-  ended (suc i) u h l = ⊎-elim (λ m. earlier (ended i u (omega (arith, h)) (subst (λ (x : ℕ). u < x) (lists .follows i h) m))) (λ m. placed i u h m l .high) (split u (seg i .«first_use»))
+  ended (suc i) u h l =
+      ⊎-elim (λ m. earlier (ended i u (omega (arith, h)) (subst (λ (x : ℕ). u < x) (lists .follows i h) m))) (λ m. placed i u h m l .high)
+      (split u (seg i .«first_use»))
     where
       earlier : 4 * at u ≤ rowBefore segments noSegment i .end → 4 * at u ≤ seg i .end
       earlier a = let b = bounded i h .after in let n = bounded i h .nonempty in omega (arith, a, b, n)
@@ -71,7 +74,8 @@ module _ (limits : Limits) (uses : List Use) (segments : List Segment) (lists : 
   rising i u (suc k) h p q =
       let before = rising i u k h p (omega (arith, q)) in
       let e : suc (u + k) ≡ u + suc k = omega arith in
-      let step = fitting i (suc (u + k)) h (omega (arith, p)) (omega (arith, q)) .rises (ne-eqb (suc (u + k)) (seg i .«first_use») (λ f. omega (arith, f, p))) in
+      let step = fitting i (suc (u + k)) h (omega (arith, p)) (omega (arith, q)) .rises
+      (ne-eqb (suc (u + k)) (seg i .«first_use») (λ f. omega (arith, f, p))) in
       let whole : at u ≤ at (suc (u + k)) = omega (arith, before, step) in
       subst (λ (x : ℕ). at u ≤ at x) e whole
 

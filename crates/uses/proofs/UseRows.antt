@@ -94,7 +94,8 @@ module _ (seen : Seen) (n first last : ℕ) where
   rows-one p h = cond-true _ _ (ap (hasRow seen n first last) (add-zero p) ∙ h) ∙ ap (λ (q : ℕ). splitUse seen n q ∷ []) (add-zero p)
 
 -- the same rows, where each of the instructions has the same
-pub rows-same : (seen : Seen) (n m f l g k p c : ℕ) → ((q : ℕ) → p ≤ q → q < p + c → (hasRow seen n f l q ≡ hasRow seen m g k q) × (splitUse seen n q ≡ splitUse seen m q)) → rowsFrom seen n f l p c ≡ rowsFrom seen m g k p c
+pub rows-same : (seen : Seen) (n m f l g k p c : ℕ) → ((q : ℕ) → p ≤ q → q < p + c
+    → (hasRow seen n f l q ≡ hasRow seen m g k q) × (splitUse seen n q ≡ splitUse seen m q)) → rowsFrom seen n f l p c ≡ rowsFrom seen m g k p c
 unfolding rowsFrom
 rows-same seen n m f l g k p zero h = refl
 rows-same seen n m f l g k p (suc c) h =

@@ -24,7 +24,8 @@ use Rattle.columns.specs.Below.{countBelow}
 use Rattle.use_rows.specs.declared.row.Part.{Part}
 use Rattle.use_rows.specs.declared.row.Part.the-variants as Part·is
 use Rattle.use_rows.specs.declared.row.SplitUse.{SplitUse}
-use Rattle.use_rows.specs.Uses.{addedToRow, Seen, countsAt, carries, splitUse, hasRow, rowsFrom, useTable, Source, segmentOf, costOf, frequencyAt, seenOf, firstInst, lastInst, useTableOf, AllWeights}
+use Rattle.use_rows.specs.Uses.{addedToRow, Seen, countsAt, carries, splitUse, hasRow, rowsFrom, useTable, Source, segmentOf, costOf, frequencyAt, seenOf}
+use Rattle.use_rows.specs.Uses.{firstInst, lastInst, useTableOf, AllWeights}
 use Rattle.use_rows.specs.UseColumns.{UseColumns, Holds}
 use Rattle.uses.specs.CheckedUses.{CheckedUses}
 use Rattle.uses.proofs.UseRows.{other-carries, rows-split, rows-none, rows-one}
@@ -94,7 +95,8 @@ module _ (t other : ℕ → Bool) (x : ℕ) (same : (i : ℕ) → (i ≡ x → �
       here : k ≡ x → countBelow other k + cond (other k) 1 0 ≤ countBelow t k + cond (t k) 1 0 + 1
       here f = let e = count-same k (omega (arith, f)) in let m = at-most (other k) in omega (arith, e, m)
 
-      by : (k < x) ⊎ (x ≤ k) → (x < k) ⊎ (k ≤ x) → countBelow other k ≤ countBelow t k + 1 → countBelow other k + cond (other k) 1 0 ≤ countBelow t k + cond (t k) 1 0 + 1
+      by : (k < x) ⊎ (x ≤ k) → (x < k) ⊎ (k ≤ x) → countBelow other k ≤ countBelow t k + 1
+          → countBelow other k + cond (other k) 1 0 ≤ countBelow t k + cond (t k) 1 0 + 1
       by (inl a) b before = apart (λ e. omega (arith, a, e)) before
       by (inr a) (inl b) before = apart (λ e. omega (arith, b, e)) before
       by (inr a) (inr b) before = here (le-antisymm b a)
@@ -113,7 +115,8 @@ module _ (seen : Seen) (n first last : ℕ) where
   has = hasRow seen n first last
 
   -- that of p, if it has one, and the others
-  rows-cons : (p k : ℕ) → rowsFrom seen n first last p (suc k) ≡ cond (hasRow seen n first last p) (splitUse seen n p ∷ rowsFrom seen n first last (p + 1) k) (rowsFrom seen n first last (p + 1) k)
+  rows-cons : (p k : ℕ) → rowsFrom seen n first last p (suc k) ≡ cond (hasRow seen n first last p) (splitUse seen n p ∷ rowsFrom seen n first last (p + 1) k)
+      (rowsFrom seen n first last (p + 1) k)
   rows-cons p k = ap (rows p) (one k) ∙ rows-split seen n first last p 1 k ∙ by (has p) refl
     where
       one : (x : ℕ) → suc x ≡ 1 + x
@@ -122,7 +125,8 @@ module _ (seen : Seen) (n first last : ℕ) where
       by : (b : Bool) → has p ≡ b → rows p 1 ++ rows (p + 1) k ≡ cond (has p) (splitUse seen n p ∷ rows (p + 1) k) (rows (p + 1) k)
       by true e = ap (λ (r : List SplitUse). r ++ rows (p + 1) k) (rows-one seen n first last p e) ∙ sym (cond-true _ _ e)
       by false e =
-          ap (λ (r : List SplitUse). r ++ rows (p + 1) k) (rows-none seen n first last p 1 (λ q a b. let same : q ≡ p = omega (arith, a, b) in subst (λ (x : ℕ). has x ≡ false) (sym same) e))
+          ap (λ (r : List SplitUse). r ++ rows (p + 1) k) (rows-none seen n first last p 1
+          (λ q a b. let same : q ≡ p = omega (arith, a, b) in subst (λ (x : ℕ). has x ≡ false) (sym same) e))
           ∙ sym (cond-false _ _ e)
 
   rows-ordered : (p k : ℕ) → Ordered p (p + k) (instsOf (rowsFrom seen n first last p k))
@@ -135,8 +139,11 @@ module _ (seen : Seen) (n first last : ℕ) where
       same : (a b : ℕ) → a + 1 + b ≡ a + suc b
       same a b = omega arith
 
-      by : (b : Bool) → Ordered (p + 1) (p + suc k) (instsOf (rows (p + 1) k)) → Ordered p (p + suc k) (instsOf (cond b (splitUse seen n p ∷ rows (p + 1) k) (rows (p + 1) k)))
-      by true o = subst (λ (x : ℕ). Ordered p (p + suc k) (x ∷ instsOf (rows (p + 1) k))) (sym (row-inst seen n p)) (one-before p (p + suc k) (instsOf (rows (p + 1) k)) (omega arith) o)
+      by : (b : Bool) → Ordered (p + 1) (p + suc k) (instsOf (rows (p + 1) k))
+          → Ordered p (p + suc k) (instsOf (cond b (splitUse seen n p ∷ rows (p + 1) k) (rows (p + 1) k)))
+      by true o =
+          subst (λ (x : ℕ). Ordered p (p + suc k) (x ∷ instsOf (rows (p + 1) k))) (sym (row-inst seen n p))
+          (one-before p (p + suc k) (instsOf (rows (p + 1) k)) (omega arith) o)
       by false o = from-before p (p + suc k) (instsOf (rows (p + 1) k)) o
 
   -- what holds of each row's number holds of the column
@@ -157,7 +164,8 @@ module _ (seen : Seen) (n first last : ℕ) where
   rows-count : (p k : ℕ) → length (rowsFrom seen n first last p k) ≡ countBelow (λ (i : ℕ). hasRow seen n first last (p + i)) k
   unfolding rowsFrom countBelow
   rows-count p zero = refl
-  rows-count p (suc k) = length-append (rows p k) (cond (has (p + k)) (splitUse seen n (p + k) ∷ []) []) ∙ ap₂ (λ (a b : ℕ). a + b) (rows-count p k) (by (has (p + k)))
+  rows-count p (suc k) =
+      length-append (rows p k) (cond (has (p + k)) (splitUse seen n (p + k) ∷ []) []) ∙ ap₂ (λ (a b : ℕ). a + b) (rows-count p k) (by (has (p + k)))
     where
       by : (b : Bool) → length (cond b (splitUse seen n (p + k) ∷ []) []) ≡ cond b 1 0
       by true = refl
@@ -183,14 +191,17 @@ unfolding carries
 carries-few seen p k zero = subst (λ (x : ℕ). x ≤ 0) (sym (count-none k)) (le-refl 0)
 carries-few seen p k (suc n) =
     let before = carries-few seen p k n in
-    let step = count-step (λ (i : ℕ). carries seen n (p + i)) (λ (i : ℕ). carries seen (suc n) (p + i)) (seen .inst n - p) (λ i e. other-carries seen n (p + i) (λ f. e (omega (arith, f)))) k in
+    let step = count-step (λ (i : ℕ). carries seen n (p + i)) (λ (i : ℕ). carries seen (suc n) (p + i)) (seen .inst n - p)
+    (λ i e. other-carries seen n (p + i) (λ f. e (omega (arith, f)))) k in
     omega (arith, before, step)
 
 pub rows-few : (seen : Seen) (n first last p k : ℕ) → length (rowsFrom seen n first last p k) ≤ n + 2
 rows-few seen n first last p k =
     let uses = carries-few seen p k n in
-    let one = count-step (λ (i : ℕ). carries seen n (p + i)) (λ (i : ℕ). eqb (p + i) last || carries seen n (p + i)) (last - p) (λ i e. ap (λ (b : Bool). b || carries seen n (p + i)) (ne-eqb (p + i) last (λ f. e (omega (arith, f))))) k in
-    let two = count-step (λ (i : ℕ). eqb (p + i) last || carries seen n (p + i)) (λ (i : ℕ). hasRow seen n first last (p + i)) (first - p) (λ i e. ap (λ (b : Bool). b || eqb (p + i) last || carries seen n (p + i)) (ne-eqb (p + i) first (λ f. e (omega (arith, f))))) k in
+    let one = count-step (λ (i : ℕ). carries seen n (p + i)) (λ (i : ℕ). eqb (p + i) last || carries seen n (p + i)) (last - p)
+    (λ i e. ap (λ (b : Bool). b || carries seen n (p + i)) (ne-eqb (p + i) last (λ f. e (omega (arith, f))))) k in
+    let two = count-step (λ (i : ℕ). eqb (p + i) last || carries seen n (p + i)) (λ (i : ℕ). hasRow seen n first last (p + i)) (first - p)
+    (λ i e. ap (λ (b : Bool). b || eqb (p + i) last || carries seen n (p + i)) (ne-eqb (p + i) first (λ f. e (omega (arith, f))))) k in
     let all = rows-count seen n first last p k in
     omega (arith, uses, one, two, all)
 
@@ -212,7 +223,9 @@ module _ (seen : Seen) (n first last : ℕ) (h : first ≤ last) where
 
   table-ordered : Ordered first (last + 1) (instsOf (useTable seen n first last))
   unfolding useTable
-  table-ordered = subst (λ (x : ℕ). Ordered first x (instsOf (rowsFrom seen n first last first (last + 1 - first)))) (omega (arith, h)) (rows-ordered seen n first last first (last + 1 - first))
+  table-ordered =
+      subst (λ (x : ℕ). Ordered first x (instsOf (rowsFrom seen n first last first (last + 1 - first)))) (omega (arith, h))
+      (rows-ordered seen n first last first (last + 1 - first))
 
   -- it begins with the first instruction
   table-head : table ≡ splitUse seen n first ∷ rowsFrom seen n first last (first + 1) (last - first)
@@ -234,7 +247,9 @@ module _ (seen : Seen) (n first last : ℕ) (h : first ≤ last) where
       ∙ ap (λ (r : List SplitUse). rowsFrom seen n first last first (last - first) ++ r) (cond-true _ _ (last-has seen n first last))
 
   table-last : getD (instsOf table) (length table - 1) 0 ≡ last
-  table-last = ap (λ (r : List SplitUse). getD (instsOf r) (length r - 1) 0) table-tail ∙ at-end (rowsFrom seen n first last first (last - first)) (splitUse seen n last) ∙ row-inst seen n last
+  table-last =
+      ap (λ (r : List SplitUse). getD (instsOf r) (length r - 1) 0) table-tail ∙ at-end (rowsFrom seen n first last first (last - first)) (splitUse seen n last)
+      ∙ row-inst seen n last
 
 -- ---- its weights are weights if those of the uses are
 record Weighed (u : SplitUse) : Type 0 where
@@ -261,7 +276,8 @@ module _ (job : Source) (scales : Scales (job .scales)) where
   use-weight : (u : ℕ) → Weight (seenOf job .weight u)
   unfolding costOf frequencyAt
   use-weight u =
-      product-weight (scaled-finite (getD (job .codes) (segmentOf job u .value) 0) scales (spill-cost-cost reload-cost move-cost move-below-reload (getD (job .uses) u noUse .kind) (getD (job .uses) u noUse .cost)))
+      product-weight (scaled-finite (getD (job .codes) (segmentOf job u .value) 0) scales
+      (spill-cost-cost reload-cost move-cost move-below-reload (getD (job .uses) u noUse .kind) (getD (job .uses) u noUse .cost)))
       (value-finite frequencyLimit (blockAt (job .blocks) (blockOf (job .blocks) (getD (job .uses) u noUse .position)) .frequency) (le-refl frequencyLimit))
 
   row : (p : ℕ) → Weighed (splitUse (seenOf job) (length (job .uses)) p)
@@ -269,7 +285,9 @@ module _ (job : Source) (scales : Scales (job .scales)) where
 
   all : (f : SplitUse → Float) → ((p : ℕ) → Weight (f (splitUse (seenOf job) (length (job .uses)) p))) → AllWeights (map f (useTableOf job))
   unfolding useTable
-  all f w = rows-all (seenOf job) (length (job .uses)) (firstInst (job .segments)) (lastInst (job .uses) (job .segments)) f w (firstInst (job .segments)) (lastInst (job .uses) (job .segments) + 1 - firstInst (job .segments))
+  all f w =
+      rows-all (seenOf job) (length (job .uses)) (firstInst (job .segments)) (lastInst (job .uses) (job .segments)) f w (firstInst (job .segments))
+      (lastInst (job .uses) (job .segments) + 1 - firstInst (job .segments))
 
   pub use-table-weights : AllWeights (map (λ (u : SplitUse). u .weight) (useTableOf job))
   use-table-weights = all (λ (u : SplitUse). u .weight) (λ p. row p .main)
@@ -282,7 +300,9 @@ module _ (job : Source) (scales : Scales (job .scales)) where
 
 pub use-table-few : (job : Source) → length (useTableOf job) ≤ length (job .uses) + 2
 unfolding useTable
-use-table-few job = rows-few (seenOf job) (length (job .uses)) (firstInst (job .segments)) (lastInst (job .uses) (job .segments)) (firstInst (job .segments)) (lastInst (job .uses) (job .segments) + 1 - firstInst (job .segments))
+use-table-few job =
+    rows-few (seenOf job) (length (job .uses)) (firstInst (job .segments)) (lastInst (job .uses) (job .segments)) (firstInst (job .segments))
+    (lastInst (job .uses) (job .segments) + 1 - firstInst (job .segments))
 
 module _ (job : Source) (checked : CheckedUses job) where
   abbrev seen : Seen

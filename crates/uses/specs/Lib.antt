@@ -1,3 +1,3 @@
--- What the use table of a job relies on. Collecting is for private functions.
+-- What the use table of a job relies on. FirstLast is for private functions.
 pub mod CheckedUses
-pub mod Collecting
+pub mod FirstLast

@@ -15,7 +15,7 @@ use Rattle.gaps.specs.Gaps.{Gap, gapWeight}
 use Rattle.filling.specs.GapTables.{fromsOf}
 use Rattle.filling.specs.SourceTables.{tablesOfBest, WorkColumns, roomsOf, Roomy, FilledBy}
 use Rattle.filling.proofs.SourceTables.{source-gap-room}
-use Rattle.region.specs.Growth.{GapsSeen}
+use Rattle.growth.specs.Growth.{GapsSeen}
 use Rattle.region.specs.OneTry.{Walkable}
 use Rattle.region.specs.Find.{seenBy, InTable, RowsInside}
 use Rattle.refusals.specs.Job.{Job, sourceOfJob, reservedOfJob, registerOf}
@@ -29,7 +29,8 @@ rows-of : {A : Type 0} (k : ℕ) (is lent : List A) {now : List A} → now ≡ f
 rows-of k is lent e c h = let a = ap length e in let d = filled-long is lent h in omega (arith, a, c, d, h)
 
 module _ (job : Job) (accepted : Accepted job) (best : ℕ) (h : best < length (usesOfJob job)) (lent now : WorkColumns)
-    (roomy : Roomy (length (job .uses)) (length (job .blocks)) (length (job .segments)) (roomsOf lent)) (f : FilledBy (tablesOfBest (sourceOfJob job) (BestUse·is.At best)) lent now)
+    (roomy : Roomy (length (job .uses)) (length (job .blocks)) (length (job .segments)) (roomsOf lent))
+    (f : FilledBy (tablesOfBest (sourceOfJob job) (BestUse·is.At best)) lent now)
     (n m own : ℕ) (n-is : n ≡ length (gapsOfJob job best)) (m-is : m ≡ length (segmentsOfJob job best)) (own-is : own ≡ ownOfJob job best) where
   abbrev gaps : List Gap
   gaps = gapsOfJob job best
@@ -59,7 +60,8 @@ module _ (job : Job) (accepted : Accepted job) (best : ℕ) (h : best < length (
   freqs-are = filled-cut (map (λ (g : Gap). g .freq) gaps) (lent .freqs) (f .freq) (gap-count (λ g. g .freq))
 
   abbrev cutSegments : SegmentColumns
-  cutSegments = segmentColumns (take m (now .out-froms)) (take m (now .out-tos)) (take m (now .out-values)) (take m (now .out-gaps)) (length (take m (now .out-froms)))
+  cutSegments =
+      segmentColumns (take m (now .out-froms)) (take m (now .out-tos)) (take m (now .out-values)) (take m (now .out-gaps)) (length (take m (now .out-froms)))
 
   segments-are : cutSegments ≡ inColumns segments
   segments-are =
@@ -70,7 +72,9 @@ module _ (job : Job) (accepted : Accepted job) (best : ℕ) (h : best < length (
       λ i. record { from = a i; to = t i; value = v i; gap = g i; used = length (a i) }
 
   abbrev cutSeen : GapsSeen
-  cutSeen = seenBy (registerOf job) (reservedOfJob job) cutSegments (take n (now .froms)) (take n (now .weights)) (take n (now .lives)) (take n (now .freqs)) own (job .k)
+  cutSeen =
+      seenBy (registerOf job) (reservedOfJob job) cutSegments (take n (now .froms)) (take n (now .weights)) (take n (now .lives)) (take n (now .freqs)) own
+      (job .k)
 
   pub seen-is : seenBy (registerOf job) (reservedOfJob job)
       (segmentColumns (take m (now .out-froms)) (take m (now .out-tos)) (take m (now .out-values)) (take m (now .out-gaps)) (length (take m (now .out-froms))))
@@ -86,18 +90,31 @@ module _ (job : Job) (accepted : Accepted job) (best : ℕ) (h : best < length (
       (segmentColumns (take m (now .out-froms)) (take m (now .out-tos)) (take m (now .out-values)) (take m (now .out-gaps)) (length (take m (now .out-froms))))
       (take n (now .froms)) (take n (now .weights)) (take n (now .lives)) (take n (now .freqs)) own (job .k))
       (take n (now .weights)) (take n (now .lives)) (take n (now .freqs))
-  cut-in-table = subst (λ (X : Type 0). X) (λ i. InTable (sym seen-is i) (sym weights-are i) (sym lives-are i) (sym freqs-are i)) (job-in-table job accepted best h)
+  cut-in-table =
+      subst (λ (X : Type 0). X) (λ i. InTable (sym seen-is i) (sym weights-are i) (sym lives-are i) (sym freqs-are i)) (job-in-table job accepted best h)
 
   pub cut-rows : RowsInside n (now .froms) (now .weights) (now .lives) (now .freqs) m (now .out-froms) (now .out-tos) (now .out-values) (now .out-gaps)
   cut-rows =
       let r = source-gap-room (sourceOfJob job) (accepted .uses) (accepted .blocks) best h lent roomy in
       record {
-        from = rows-of n (fromsOf gaps) (lent .froms) (f .from) (gap-count (λ g. g .from)) (le-trans (le-of-eq (length-map gaps (λ (g : Gap). g .from))) (r .from));
+        from =
+            rows-of n (fromsOf gaps) (lent .froms) (f .from) (gap-count (λ g. g .from))
+            (le-trans (le-of-eq (length-map gaps (λ (g : Gap). g .from))) (r .from));
         weight = rows-of n (map gapWeight gaps) (lent .weights) (f .weight) (gap-count gapWeight) (le-trans (le-of-eq (length-map gaps gapWeight)) (r .weight));
         live = rows-of n (livesOfJob job best) (lent .lives) (f .live) lives-count (le-trans (le-of-eq (sym lives-count ∙ n-is)) (r .live));
-        freq = rows-of n (map (λ (g : Gap). g .freq) gaps) (lent .freqs) (f .freq) (gap-count (λ g. g .freq)) (le-trans (le-of-eq (length-map gaps (λ (g : Gap). g .freq))) (r .freq));
-        out-from = rows-of m (map (λ (s : Overlap). s .from) segments) (lent .out-froms) (f .out-from) (segment-count (λ s. s .from)) (le-trans (le-of-eq (length-map segments (λ (s : Overlap). s .from))) (r .out-from));
-        out-to = rows-of m (map (λ (s : Overlap). s .to) segments) (lent .out-tos) (f .out-to) (segment-count (λ s. s .to)) (le-trans (le-of-eq (length-map segments (λ (s : Overlap). s .to))) (r .out-to));
-        out-value = rows-of m (map (λ (s : Overlap). s .value) segments) (lent .out-values) (f .out-value) (segment-count (λ s. s .value)) (le-trans (le-of-eq (length-map segments (λ (s : Overlap). s .value))) (r .out-value));
-        out-gap = rows-of m (map (λ (s : Overlap). s .gap) segments) (lent .out-gaps) (f .out-gap) (segment-count (λ s. s .gap)) (le-trans (le-of-eq (length-map segments (λ (s : Overlap). s .gap))) (r .out-gap));
+        freq =
+            rows-of n (map (λ (g : Gap). g .freq) gaps) (lent .freqs) (f .freq) (gap-count (λ g. g .freq))
+            (le-trans (le-of-eq (length-map gaps (λ (g : Gap). g .freq))) (r .freq));
+        out-from =
+            rows-of m (map (λ (s : Overlap). s .from) segments) (lent .out-froms) (f .out-from) (segment-count (λ s. s .from))
+            (le-trans (le-of-eq (length-map segments (λ (s : Overlap). s .from))) (r .out-from));
+        out-to =
+            rows-of m (map (λ (s : Overlap). s .to) segments) (lent .out-tos) (f .out-to) (segment-count (λ s. s .to))
+            (le-trans (le-of-eq (length-map segments (λ (s : Overlap). s .to))) (r .out-to));
+        out-value =
+            rows-of m (map (λ (s : Overlap). s .value) segments) (lent .out-values) (f .out-value) (segment-count (λ s. s .value))
+            (le-trans (le-of-eq (length-map segments (λ (s : Overlap). s .value))) (r .out-value));
+        out-gap =
+            rows-of m (map (λ (s : Overlap). s .gap) segments) (lent .out-gaps) (f .out-gap) (segment-count (λ s. s .gap))
+            (le-trans (le-of-eq (length-map segments (λ (s : Overlap). s .gap))) (r .out-gap));
       }

@@ -42,11 +42,11 @@ use Rattle.gaps.proofs.GapWeights.{Weighed, Weighty, gaps-weighed}
 use Rattle.gaps.proofs.JobGaps.{job-gaps-few, job-gaps-tile, job-live-total}
 use Rattle.links.specs.declared.lower.Side.the-variants.{Previous, Next}
 use Rattle.filling.specs.GapTables.{fromsOf, tosOf}
-use Rattle.region.specs.Growth.{between}
-use Rattle.region.specs.Demand.{sumOver, SoundGaps}
+use Rattle.growth.specs.Growth.{between}
+use Rattle.growth.specs.Demand.{sumOver, SoundGaps}
 use Rattle.region.specs.OneTry.{Walkable}
 use Rattle.region.specs.Find.{InTable}
-use Rattle.region.proofs.Spans.{between-behind, between-none, sum-append, sum-one}
+use Rattle.growth.proofs.Spans.{between-behind, between-none, sum-append, sum-one}
 use Rattle.refusals.specs.Job.{Job, sourceOfJob, reservedOfJob, registerOf}
 use Rattle.refusals.proofs.Accepted.{Accepted}
 use Rattle.filling.specs.SourceTables.{startsOf, stopsOf, valuesOf}
@@ -73,7 +73,8 @@ weight-at : (ws : List Float) → AllWeights ws → (k : ℕ) → Weight (getD w
 weight-at ws w k = ⊎-elim (w k) (λ h. subst Weight (sym (List·getD-eq-default ws zeroWeight h)) (finite zero-finite)) (split k (length ws))
 
 -- and so does a column of gaps that are weighed
-column-at : (f : Gap → Float) → ((g : Gap) → Weighed g → Weight (f g)) → (gs : List Gap) → Each Weighed gs → (i : ℕ) → i < length gs → Weight (getD (map f gs) i nan)
+column-at : (f : Gap → Float) → ((g : Gap) → Weighed g → Weight (f g)) → (gs : List Gap) → Each Weighed gs → (i : ℕ) → i < length gs
+    → Weight (getD (map f gs) i nan)
 column-at f w [] es i h = absurd (not-suc-le-zero h)
 column-at f w (g ∷ gs) es zero h = w g (es .0)
 column-at f w (g ∷ gs) es (suc i) h = column-at f w gs (es .1) i (le-of-suc-le-suc h)
@@ -100,15 +101,18 @@ record RowWith (test : Reservation → Bool) (weights : List ℕ) (rows : List R
   has : spillWeight weights (getD rows row noReservation) ≡ w
 
 module _ (test : Reservation → Bool) (weights : List ℕ) where
-  among-rows : (rows : List Reservation) (i : ℕ) → i < length rows → T (test (getD rows i noReservation)) → Among (spillWeight weights (getD rows i noReservation)) (weightsWhere test weights rows)
+  among-rows : (rows : List Reservation) (i : ℕ) → i < length rows → T (test (getD rows i noReservation))
+      → Among (spillWeight weights (getD rows i noReservation)) (weightsWhere test weights rows)
   unfolding weightsWhere
   among-rows [] i h t = absurd (not-suc-le-zero h)
   among-rows (r ∷ rows) zero h t =
-      subst (Among (spillWeight weights r)) (sym (cond-true (spillWeight weights r ∷ weightsWhere test weights rows) (weightsWhere test weights rows) (is-true (test r) t))) (inl refl)
+      subst (Among (spillWeight weights r))
+      (sym (cond-true (spillWeight weights r ∷ weightsWhere test weights rows) (weightsWhere test weights rows) (is-true (test r) t))) (inl refl)
   among-rows (r ∷ rows) (suc i) h t = by (test r) (among-rows rows i (le-of-suc-le-suc h) t)
     where
       by : (b : Bool) → Among (spillWeight weights (getD rows i noReservation)) (weightsWhere test weights rows)
-          → Among (spillWeight weights (getD rows i noReservation)) (cond b (spillWeight weights r ∷ weightsWhere test weights rows) (weightsWhere test weights rows))
+          → Among (spillWeight weights (getD rows i noReservation))
+          (cond b (spillWeight weights r ∷ weightsWhere test weights rows) (weightsWhere test weights rows))
       by true a = inr a
       by false a = a
 
@@ -206,7 +210,8 @@ module _ (p : Register) (t : Reserved) (test : ℕ → Bool) (at : ℕ → GapSe
   unfolding picked weightsMetAll
   picked-among zero w a = absurd a
   picked-among (suc n) w a =
-      by (picked-among n w) (among-append w (weightsMetAll p t (picked test at n)) (weightsMetAll p t (last n)) (subst (Among w) (all-append p t (picked test at n) (last n)) a))
+      by (picked-among n w) (among-append w (weightsMetAll p t (picked test at n)) (weightsMetAll p t (last n))
+      (subst (Among w) (all-append p t (picked test at n) (last n)) a))
     where
       next : (k n : ℕ) → k < n → k < suc n
       next k n h = omega (arith, h)
@@ -216,7 +221,8 @@ module _ (p : Register) (t : Reserved) (test : ℕ → Bool) (at : ℕ → GapSe
           record { segment = n; inside = le-of-eq refl; is-picked = e; meets = ⊎-elim (λ x. x) (λ x. absurd x) (among-append w (weightsMet p t (at n)) [] m) }
       this false e m = absurd m
 
-      by : (Among w (weightsMetAll p t (picked test at n)) → PickedWith p t test at n w) → Among w (weightsMetAll p t (picked test at n)) ⊎ Among w (weightsMetAll p t (last n)) → PickedWith p t test at (suc n) w
+      by : (Among w (weightsMetAll p t (picked test at n)) → PickedWith p t test at n w)
+          → Among w (weightsMetAll p t (picked test at n)) ⊎ Among w (weightsMetAll p t (last n)) → PickedWith p t test at (suc n) w
       by on (inl m) = let r = on m in record { segment = r .segment; inside = next (r .segment) n (r .inside); is-picked = r .is-picked; meets = r .meets }
       by on (inr m) = this (test n) refl m
 
@@ -225,7 +231,8 @@ module _ (p : Register) (t : Reserved) (test : ℕ → Bool) (at : ℕ → GapSe
   fixed-picked zero k h e f = absurd (not-suc-le-zero h)
   fixed-picked (suc n) k h e f = subst T (sym (fixed-append p t (picked test at n) (last n))) (by (fixed-picked n k) (eq-or-lt-of-le (le-of-suc-le-suc h)))
     where
-      by : (k < n → test k ≡ true → T (fixedMet p t (at k)) → T (fixedMetAny p t (picked test at n))) → (k ≡ n) ⊎ (k < n) → T (fixedMetAny p t (picked test at n) || fixedMetAny p t (last n))
+      by : (k < n → test k ≡ true → T (fixedMet p t (at k)) → T (fixedMetAny p t (picked test at n))) → (k ≡ n) ⊎ (k < n)
+          → T (fixedMetAny p t (picked test at n) || fixedMetAny p t (last n))
       by on (inl q) =
           or-right (fixedMetAny p t (picked test at n)) (fixedMetAny p t (last n))
           (subst (λ (xs : List GapSegment). T (fixedMetAny p t xs)) (sym (cond-true (at n ∷ []) [] (ap test (sym q) ∙ e)))
@@ -246,7 +253,8 @@ module _ (p : Register) (t : Reserved) (test : ℕ → Bool) (at : ℕ → GapSe
           record { segment = n; inside = le-of-eq refl; is-picked = e; meets = ⊎-elim (λ x. x) (λ x. absurd x) (or-parts (fixedMet p t (at n)) false m) }
       this false e m = absurd m
 
-      by : (T (fixedMetAny p t (picked test at n)) → PickedFixed p t test at n) → T (fixedMetAny p t (picked test at n)) ⊎ T (fixedMetAny p t (last n)) → PickedFixed p t test at (suc n)
+      by : (T (fixedMetAny p t (picked test at n)) → PickedFixed p t test at n) → T (fixedMetAny p t (picked test at n)) ⊎ T (fixedMetAny p t (last n))
+          → PickedFixed p t test at (suc n)
       by on (inl m) = let r = on m in record { segment = r .segment; inside = next (r .segment) n (r .inside); is-picked = r .is-picked; meets = r .meets }
       by on (inr m) = this (test n) refl m
 
@@ -266,10 +274,12 @@ module _ (job : Job) (best : ℕ) where
   used = length-map (segmentsOfJob job best) (λ (s : Overlap). s .from)
 
   -- what growth sees a gap meet is what its gap segments meet: weights
-  pub gap-weighs : (k i : ℕ) → Weighs job best k i → Among (spillWeight (job .weights) (reservationOf job i)) (seenOfJob job best .met (gapOfSegment job best k))
+  pub gap-weighs : (k i : ℕ) → Weighs job best k i → Among (spillWeight (job .weights) (reservationOf job i))
+      (seenOfJob job best .met (gapOfSegment job best k))
   unfolding weightsMet
   gap-weighs k i m =
-      among-picked (registerOf job) (reservedOfJob job) (ofGap columns (gapOfSegment job best k)) (segmentIn columns) (columns .used) k (let s = m .segment in let u = used in omega (arith, s, u))
+      among-picked (registerOf job) (reservedOfJob job) (ofGap columns (gapOfSegment job best k)) (segmentIn columns) (columns .used) k
+      (let s = m .segment in let u = used in omega (arith, s, u))
       (eq-eqb (gapOfSegment job best k) (gapOfSegment job best k) refl) (spillWeight (job .weights) (reservationOf job i))
       (among-rows (weighsAgainst (registerOf job) (segmentOfJob job best k)) (job .weights) (job .reservations) i (m .row) (m .meets))
 
@@ -290,7 +300,8 @@ module _ (job : Job) (best : ℕ) where
   pub gap-fixed : (k i : ℕ) → CountsAsFixed job best k i → T (seenOfJob job best .fixed (gapOfSegment job best k))
   unfolding fixedMet
   gap-fixed k i m =
-      fixed-picked (registerOf job) (reservedOfJob job) (ofGap columns (gapOfSegment job best k)) (segmentIn columns) (columns .used) k (let s = m .segment in let u = used in omega (arith, s, u))
+      fixed-picked (registerOf job) (reservedOfJob job) (ofGap columns (gapOfSegment job best k)) (segmentIn columns) (columns .used) k
+      (let s = m .segment in let u = used in omega (arith, s, u))
       (eq-eqb (gapOfSegment job best k) (gapOfSegment job best k) refl)
       (any-row (fixedAgainst (registerOf job) (job .fixedUses) (segmentOfJob job best k)) (job .reservations) i (m .row) (m .meets))
 
@@ -326,7 +337,8 @@ module _ (job : Job) (accepted : Accepted job) where
       }
     where
       of-use : (f : SplitUse → Float) → zeroWeight ≡ f (noWeights 0) → AllWeights (map f (usesOfJob job)) → Weight (f (useOf (usesOfJob job) k))
-      of-use f e w = subst Weight (ap (getD (map f (usesOfJob job)) k) e ∙ List·getD-map f (usesOfJob job) k (noWeights 0)) (weight-at (map f (usesOfJob job)) w k)
+      of-use f e w =
+          subst Weight (ap (getD (map f (usesOfJob job)) k) e ∙ List·getD-map f (usesOfJob job) k (noWeights 0)) (weight-at (map f (usesOfJob job)) w k)
 
   module _ (best : ℕ) (h : best < length (usesOfJob job)) where
     -- ---- its gaps
@@ -367,7 +379,9 @@ module _ (job : Job) (accepted : Accepted job) where
           weights = λ g l. column-at gapWeight (λ g w. w .weight) (gapsOfJob job best) weighed g (gap l);
           freqs = λ g l. column-at (λ (g : Gap). g .freq) (λ g w. finite (w .freq)) (gapsOfJob job best) weighed g (gap l);
           met = λ g l. all-weights (registerOf job) (reservedOfJob job) (segmentsOfGap (inColumns (segmentsOfJob job best)) g);
-          few = small (sumOver (λ (g : ℕ). getD (livesOfJob job best) g 0) (between 0 (length (fromsOf (gapsOfJob job best))))) (job .k) job-lives-few (accepted .parameters .adjustment);
+          few =
+              small (sumOver (λ (g : ℕ). getD (livesOfJob job best) g 0) (between 0 (length (fromsOf (gapsOfJob job best))))) (job .k) job-lives-few
+              (accepted .parameters .adjustment);
           fraction = lit≤ tt;
         }
       where
@@ -384,9 +398,13 @@ module _ (job : Job) (accepted : Accepted job) where
     job-in-table =
         record {
           sound = job-sound;
-          few = let l = froms-long in let f = gaps-few in let u = accepted .sizes .items .uses in let b = accepted .sizes .items .blocks in omega (arith, l, f, u, b);
+          few =
+              let l = froms-long in let f = gaps-few in let u = accepted .sizes .items .uses in let b = accepted .sizes .items .blocks in
+              omega (arith, l, f, u, b);
           weights-long = length-map (gapsOfJob job best) gapWeight ∙ sym froms-long;
-          lives-long = table-length (λ (g : ℕ). liveInGap (startsOf source) (stopsOf source) (getD (fromsOf (gapsOfJob job best)) g 0) (getD (tosOf (gapsOfJob job best)) g 0)) (length (fromsOf (gapsOfJob job best)));
+          lives-long =
+              table-length (λ (g : ℕ). liveInGap (startsOf source) (stopsOf source) (getD (fromsOf (gapsOfJob job best)) g 0)
+              (getD (tosOf (gapsOfJob job best)) g 0)) (length (fromsOf (gapsOfJob job best)));
           freqs-long = length-map (gapsOfJob job best) (λ (g : Gap). g .freq) ∙ sym froms-long;
         }
 
@@ -396,12 +414,17 @@ module _ (job : Job) (accepted : Accepted job) where
         record {
           ready = accepted .reserved;
           known = accepted .register;
-          ordered = segments-ordered (fromsOf (gapsOfJob job best)) (tosOf (gapsOfJob job best)) (startsOf source) (stopsOf source) (valuesOf source) job-tiles (source-segments source (accepted .uses) (accepted .blocks));
+          ordered =
+              segments-ordered (fromsOf (gapsOfJob job best)) (tosOf (gapsOfJob job best)) (startsOf source) (stopsOf source) (valuesOf source) job-tiles
+              (source-segments source (accepted .uses) (accepted .blocks));
         }
 
     -- each gap segment lies in its gap
     pub segment-in-gap : (k : ℕ) → k < length (segmentsOfJob job best)
-        → InGap (fromsOf (gapsOfJob job best)) (tosOf (gapsOfJob job best)) (getD (fromColumn (segmentsOfJob job best)) k 0) (getD (toColumn (segmentsOfJob job best)) k 0) (gapOfSegment job best k)
+        → InGap (fromsOf (gapsOfJob job best)) (tosOf (gapsOfJob job best)) (getD (fromColumn (segmentsOfJob job best)) k 0)
+        (getD (toColumn (segmentsOfJob job best)) k 0) (gapOfSegment job best k)
     segment-in-gap =
-        row-in-gap (fromsOf (gapsOfJob job best)) (tosOf (gapsOfJob job best)) 0 (segmentsOfJob job best) (rowBefore (stopsOf source) 0 (length (startsOf source)))
-        (gap-segments-order (fromsOf (gapsOfJob job best)) (tosOf (gapsOfJob job best)) job-tiles (startsOf source) (stopsOf source) (valuesOf source) (source-segments source (accepted .uses) (accepted .blocks)))
+        row-in-gap (fromsOf (gapsOfJob job best)) (tosOf (gapsOfJob job best)) 0 (segmentsOfJob job best)
+        (rowBefore (stopsOf source) 0 (length (startsOf source)))
+        (gap-segments-order (fromsOf (gapsOfJob job best)) (tosOf (gapsOfJob job best)) job-tiles (startsOf source) (stopsOf source) (valuesOf source)
+        (source-segments source (accepted .uses) (accepted .blocks)))

@@ -36,7 +36,8 @@ module _ (froms tos : List ℕ) where
   order-earlier o p [] q h w = le-trans h w
   order-earlier o p (r ∷ rows) q h w = (le-trans h (w .0), w .1, w .2)
 
-  order-append : (p : ℕ) (xs : List Overlap) (q : ℕ) (ys : List Overlap) (t : ℕ) → InOrder froms tos p xs q → InOrder froms tos q ys t → InOrder froms tos p (xs ++ ys) t
+  order-append : (p : ℕ) (xs : List Overlap) (q : ℕ) (ys : List Overlap) (t : ℕ) → InOrder froms tos p xs q → InOrder froms tos q ys t
+      → InOrder froms tos p (xs ++ ys) t
   order-append p [] q ys t v w = order-earlier p q ys t v w
   order-append p (r ∷ xs) q ys t v w = (v .0, v .1, order-append (r .to) xs q ys t (v .2) w)
 
@@ -44,7 +45,8 @@ module _ (froms tos : List ℕ) where
 module _ (froms tos : List ℕ) (gaps : Gaps froms tos) where
   module _ (start end value : ℕ) where
     -- from gap g on, of n gaps
-    overlaps-order : (n g p : ℕ) → n + g ≡ length froms → p ≤ end → (g < length froms → p ≤ max start (4 * getD froms g 0)) → InOrder froms tos p (joined (overlapWith froms tos start end value) g n) end
+    overlaps-order : (n g p : ℕ) → n + g ≡ length froms → p ≤ end → (g < length froms → p ≤ max start (4 * getD froms g 0))
+        → InOrder froms tos p (joined (overlapWith froms tos start end value) g n) end
     unfolding joined overlapWith
     overlaps-order zero g p e h l = h
     overlaps-order (suc n) g p e h l =
@@ -71,7 +73,8 @@ module _ (froms tos : List ℕ) (gaps : Gaps froms tos) where
         higher : (s f t u : ℕ) → p ≤ max s (4 * f) → f < t → u ≡ t → p ≤ max s (4 * u)
         higher s f t u a b c = omega (arith, a, b, c)
 
-        by : ((q : ℕ) → n + suc g ≡ length froms → q ≤ end → (suc g < length froms → q ≤ max start (4 * getD froms (suc g) 0)) → InOrder froms tos q (joined (overlapWith froms tos start end value) (suc g) n) end)
+        by : ((q : ℕ) → n + suc g ≡ length froms → q ≤ end → (suc g < length froms → q ≤ max start (4 * getD froms (suc g) 0))
+            → InOrder froms tos q (joined (overlapWith froms tos start end value) (suc g) n) end)
             → (max start (4 * getD froms g 0) < min end (4 * getD tos g 0)) ⊎ (min end (4 * getD tos g 0) ≤ max start (4 * getD froms g 0))
             → InOrder froms tos p (overlapWith froms tos start end value g ++ joined (overlapWith froms tos start end value) (suc g) n) end
         by on (inl m) =
@@ -79,7 +82,8 @@ module _ (froms tos : List ℕ) (gaps : Gaps froms tos) where
             (sym (cond-true _ _ (lt-ltb (max start (4 * getD froms g 0)) (min end (4 * getD tos g 0)) m))) (
               l inside,
               record { some = m; known = inside; low = over start (4 * getD froms g 0); high = under end (4 * getD tos g 0) },
-              on (min end (4 * getD tos g 0)) (omega (arith, e)) (below end (4 * getD tos g 0)) (λ k. reach start end (getD tos g 0) (getD froms (suc g) 0) (next k)),
+              on (min end (4 * getD tos g 0)) (omega (arith, e)) (below end (4 * getD tos g 0))
+                  (λ k. reach start end (getD tos g 0) (getD froms (suc g) 0) (next k)),
             )
         by on (inr m) =
             subst (λ (rows : List Overlap). InOrder froms tos p (rows ++ joined (overlapWith froms tos start end value) (suc g) n) end)
@@ -104,7 +108,8 @@ module _ (froms tos : List ℕ) (gaps : Gaps froms tos) where
         let inside : i < length starts = omega (arith, e) in
         let some = segments .nonempty i inside in
         order-append froms tos (rowBefore ends 0 i) (rowsOf i) (getD ends i 0) (joined rowsOf (suc i) n) (rowBefore ends 0 (length starts))
-        (order-earlier froms tos (rowBefore ends 0 i) (getD starts i 0) (rowsOf i) (getD ends i 0) (segments .after i inside) (segment-order (getD starts i 0) (getD ends i 0) (getD values i 0) (omega (arith, some))))
+        (order-earlier froms tos (rowBefore ends 0 i) (getD starts i 0) (rowsOf i) (getD ends i 0) (segments .after i inside)
+        (segment-order (getD starts i 0) (getD ends i 0) (getD values i 0) (omega (arith, some))))
         (order-from n (suc i) (omega (arith, e)))
 
     pub gap-segments-order : InOrder froms tos 0 (gapSegments froms tos starts ends values) (rowBefore ends 0 (length starts))
@@ -122,7 +127,8 @@ gapColumn rows = map (λ (s : Overlap). s .gap) rows
 
 module _ (froms tos : List ℕ) where
   -- each row lies in its gap
-  pub row-in-gap : (p : ℕ) (rows : List Overlap) (q : ℕ) → InOrder froms tos p rows q → (k : ℕ) → k < length rows → InGap froms tos (getD (fromColumn rows) k 0) (getD (toColumn rows) k 0) (getD (gapColumn rows) k 0)
+  pub row-in-gap : (p : ℕ) (rows : List Overlap) (q : ℕ) → InOrder froms tos p rows q → (k : ℕ) → k < length rows
+      → InGap froms tos (getD (fromColumn rows) k 0) (getD (toColumn rows) k 0) (getD (gapColumn rows) k 0)
   row-in-gap p [] q w k h = absurd (not-suc-le-zero h)
   row-in-gap p (r ∷ rows) q w zero h = w .1
   row-in-gap p (r ∷ rows) q w (suc k) h = row-in-gap (r .to) rows q (w .2) k (le-of-suc-le-suc h)
@@ -136,7 +142,8 @@ module _ (froms tos : List ℕ) where
       let c = row-after (r .to) rows q (w .2) k (le-of-suc-le-suc h) in
       omega (arith, a, b, c)
 
-  rows-apart : (p : ℕ) (rows : List Overlap) (q : ℕ) → InOrder froms tos p rows q → (i k : ℕ) → i < k → k < length rows → getD (toColumn rows) i 0 ≤ getD (fromColumn rows) k 0
+  rows-apart : (p : ℕ) (rows : List Overlap) (q : ℕ) → InOrder froms tos p rows q → (i k : ℕ) → i < k → k < length rows
+      → getD (toColumn rows) i 0 ≤ getD (fromColumn rows) k 0
   rows-apart p [] q w i k l h = absurd (not-suc-le-zero h)
   rows-apart p (r ∷ rows) q w i zero l h = absurd (not-suc-le-zero l)
   rows-apart p (r ∷ rows) q w zero (suc k) l h = row-after (r .to) rows q (w .2) k (le-of-suc-le-suc h)
@@ -163,7 +170,9 @@ module _ (froms tos : List ℕ) where
           to-long = le-of-eq (long ∙ sym (length-map rows (λ (s : Overlap). s .to)));
           value-long = le-of-eq (long ∙ sym (length-map rows (λ (s : Overlap). s .value)));
           gap-long = le-of-eq (long ∙ sym (length-map rows (λ (s : Overlap). s .gap)));
-          gaps = λ i k l h. ⊎-elim (λ m. lower i k m (there h)) (λ m. let e : i ≡ k = omega (arith, l, m) in le-of-eq (ap (λ (x : ℕ). getD (gapColumn rows) x 0) e)) (split i k);
+          gaps =
+              λ i k l h. ⊎-elim (λ m. lower i k m (there h))
+              (λ m. let e : i ≡ k = omega (arith, l, m) in le-of-eq (ap (λ (x : ℕ). getD (gapColumn rows) x 0) e)) (split i k);
           nonempty = λ k h. row-in-gap p rows q w k (there h) .some;
           apart = λ i k l h. rows-apart p rows q w i k l (there h);
         }
@@ -176,10 +185,13 @@ module _ (froms tos : List ℕ) where
 
         lower : (i k : ℕ) → i < k → k < length rows → getD (gapColumn rows) i 0 ≤ getD (gapColumn rows) k 0
         lower i k l h =
-            later-gap (getD (fromColumn rows) i 0) (getD (toColumn rows) i 0) (getD (gapColumn rows) i 0) (getD (fromColumn rows) k 0) (getD (toColumn rows) k 0) (getD (gapColumn rows) k 0)
+            later-gap (getD (fromColumn rows) i 0) (getD (toColumn rows) i 0) (getD (gapColumn rows) i 0) (getD (fromColumn rows) k 0)
+            (getD (toColumn rows) k 0) (getD (gapColumn rows) k 0)
             (row-in-gap p rows q w i (omega (arith, l, h))) (row-in-gap p rows q w k h) (rows-apart p rows q w i k l h)
 
 -- the gap segments are in order as the walkers need it
-pub segments-ordered : (froms tos starts ends values : List ℕ) → Gaps froms tos → Segments starts ends → OrderedGaps (inColumns (gapSegments froms tos starts ends values))
+pub segments-ordered : (froms tos starts ends values : List ℕ) → Gaps froms tos → Segments starts ends
+    → OrderedGaps (inColumns (gapSegments froms tos starts ends values))
 segments-ordered froms tos starts ends values gaps segments =
-    rows-ordered froms tos gaps 0 (gapSegments froms tos starts ends values) (rowBefore ends 0 (length starts)) (gap-segments-order froms tos gaps starts ends values segments)
+    rows-ordered froms tos gaps 0 (gapSegments froms tos starts ends values) (rowBefore ends 0 (length starts))
+    (gap-segments-order froms tos gaps starts ends values segments)

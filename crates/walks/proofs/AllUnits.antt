@@ -15,10 +15,12 @@ pub record Walked (units : ℕ) (Before After : ℕ → ℕ → Type 0) (at : Li
   pub walked : (w : ℕ) → w < v → After w (getD at w 0)
   pub waiting : (w : ℕ) → v ≤ w → w < units → Before w (getD at w 0)
 
-pub walked-none : (units : ℕ) (Before After : ℕ → ℕ → Type 0) (at : List ℕ) → length at ≡ 8 → ((w : ℕ) → w < units → Before w (getD at w 0)) → Walked units Before After at 0
+pub walked-none : (units : ℕ) (Before After : ℕ → ℕ → Type 0) (at : List ℕ) → length at ≡ 8 → ((w : ℕ) → w < units → Before w (getD at w 0))
+    → Walked units Before After at 0
 walked-none units Before After at e f = record { eight = e; walked = λ w l. absurd (omega (arith, l)); waiting = λ w _ l. f w l }
 
-pub walked-more : {units : ℕ} {Before After : ℕ → ℕ → Type 0} {at : List ℕ} {v : ℕ} (x : ℕ) → v < units → units ≤ 8 → After v x → Walked units Before After at v → Walked units Before After (set at v x) (v + 1)
+pub walked-more : {units : ℕ} {Before After : ℕ → ℕ → Type 0} {at : List ℕ} {v : ℕ} (x : ℕ) → v < units → units ≤ 8 → After v x → Walked units Before After at v
+    → Walked units Before After (set at v x) (v + 1)
 walked-more {units} {Before} {After} {at} {v} x h few a k =
     record {
       eight = simp length-set (k .eight);

@@ -26,12 +26,15 @@ pub record Holds {A : Type 0} (col : List ℕ) (rows : List A) (d : A) (field : 
 
 -- the first place at which a column that rises with the rows reaches x
 module _ {A : Type 0} (col : List ℕ) (rows : List A) (d : A) (field : A → ℕ) (h : Holds col rows d field) where
-  pub searchable : (lo hi : ℕ) → lo ≤ hi → hi ≤ length rows → ((i k : ℕ) → lo ≤ i → i ≤ k → k < hi → field (getD rows i d) ≤ field (getD rows k d)) → Searchable col lo hi
+  pub searchable : (lo hi : ℕ) → lo ≤ hi → hi ≤ length rows → ((i k : ℕ) → lo ≤ i → i ≤ k → k < hi → field (getD rows i d) ≤ field (getD rows k d))
+      → Searchable col lo hi
   searchable lo hi o n f =
       record {
         order = o;
         inside = le-trans n (h .long);
-        rising = λ i k p q r. le-trans (le-of-eq (h .at i (within i k hi (length rows) q r n))) (le-trans (f i k p q r) (le-of-eq (sym (h .at k (lt-of-lt-of-le r n)))));
+        rising =
+            λ i k p q r. le-trans (le-of-eq (h .at i (within i k hi (length rows) q r n)))
+            (le-trans (f i k p q r) (le-of-eq (sym (h .at k (lt-of-lt-of-le r n)))));
       }
 
   pub passed : (x lo hi r : ℕ) → hi ≤ length rows → FirstIn (λ (k : ℕ). leb x (getD col k 0)) lo hi r → (k : ℕ) → lo ≤ k → k < r → field (getD rows k d) < x
@@ -50,7 +53,8 @@ module _ (unit start end kind index fixed : List ℕ) where
   rows = reservationsOf unit start end kind index fixed
 
   own : (i : ℕ) → i < length rows → reservationRow unit start end kind index fixed i ≡ getD rows i noReservation
-  own i h = own-row (reservationRow unit start end kind index fixed) (shortest lengths) i noReservation (reservationRow unit start end kind index fixed i) refl h
+  own i h =
+      own-row (reservationRow unit start end kind index fixed) (shortest lengths) i noReservation (reservationRow unit start end kind index fixed i) refl h
 
   short : (k : ℕ) → k < 6 → length rows ≤ getD lengths k 0
   short k h = le-trans (le-of-eq (table-length (reservationRow unit start end kind index fixed) (shortest lengths))) (shortest-at-most lengths k h)
@@ -68,7 +72,9 @@ pub holds-use : (unit point value : List ℕ) → Holds unit (fixedUsesOf unit p
 holds-use unit point value =
     record {
       long = le-trans (le-of-eq (table-length (fixedUseRow unit point value) (shortest lengths))) (shortest-at-most lengths 0 (lit< tt));
-      at = λ i h. ap (λ (f : FixedUse). f .unit) (own-row (fixedUseRow unit point value) (shortest lengths) i noFixedUse (fixedUseRow unit point value i) refl h);
+      at =
+          λ i h. ap (λ (f : FixedUse). f .unit) (own-row (fixedUseRow unit point value) (shortest lengths) i noFixedUse (fixedUseRow unit point value i) refl
+          h);
     }
   where
     lengths : List ℕ
@@ -77,7 +83,8 @@ holds-use unit point value =
 -- ---- the rows of a unit
 module _ (rows : List Reservation) (ordered : OrderedRows rows) (u : ℕ) where
   -- within a unit, both ends rise
-  starts-rise : (i k : ℕ) → i ≤ k → k < length rows → getD rows i noReservation .unit ≡ getD rows k noReservation .unit → getD rows i noReservation .start ≤ getD rows k noReservation .start
+  starts-rise : (i k : ℕ) → i ≤ k → k < length rows → getD rows i noReservation .unit ≡ getD rows k noReservation .unit
+      → getD rows i noReservation .start ≤ getD rows k noReservation .start
   starts-rise i k h l e =
       ⊎-elim (λ m. le-trans (le-of-lt (ordered .nonempty i (inner i k (length rows) h l))) (ordered .apart i k m l e))
       (λ m. le-of-eq (ap (λ (j : ℕ). getD rows j noReservation .start) (le-antisymm h m))) (split i k)
@@ -85,25 +92,31 @@ module _ (rows : List Reservation) (ordered : OrderedRows rows) (u : ℕ) where
       inner : (i k n : ℕ) → i ≤ k → k < n → i < n
       inner i k n p q = omega arith
 
-  ends-rise : (i k : ℕ) → i ≤ k → k < length rows → getD rows i noReservation .unit ≡ getD rows k noReservation .unit → getD rows i noReservation .end ≤ getD rows k noReservation .end
+  ends-rise : (i k : ℕ) → i ≤ k → k < length rows → getD rows i noReservation .unit ≡ getD rows k noReservation .unit
+      → getD rows i noReservation .end ≤ getD rows k noReservation .end
   ends-rise i k h l e =
       ⊎-elim (λ m. le-trans (ordered .apart i k m l e) (le-of-lt (ordered .nonempty k l)))
       (λ m. le-of-eq (ap (λ (j : ℕ). getD rows j noReservation .end) (le-antisymm h m))) (split i k)
 
   module _ (unit : List ℕ) (h : Holds unit rows noReservation (λ (r : Reservation). r .unit)) where
     pub units-searchable : (lo : ℕ) → lo ≤ length rows → Searchable unit lo (length rows)
-    units-searchable lo l = searchable unit rows noReservation (λ (r : Reservation). r .unit) h lo (length rows) l (le-refl (length rows)) (λ i k _ q r. ordered .units i k q r)
+    units-searchable lo l =
+        searchable unit rows noReservation (λ (r : Reservation). r .unit) h lo (length rows) l (le-refl (length rows)) (λ i k _ q r. ordered .units i k q r)
 
-    pub rows-found : (from to : ℕ) → FirstIn (λ (k : ℕ). leb u (getD unit k 0)) 0 (length rows) from → FirstIn (λ (k : ℕ). leb (u + 1) (getD unit k 0)) from (length rows) to → RowsOfUnit rows u from to
+    pub rows-found : (from to : ℕ) → FirstIn (λ (k : ℕ). leb u (getD unit k 0)) 0 (length rows) from
+        → FirstIn (λ (k : ℕ). leb (u + 1) (getD unit k 0)) from (length rows) to → RowsOfUnit rows u from to
     rows-found from to f g =
         record {
           order = g .from;
           inside = g .to;
           before = λ k l. passed unit rows noReservation field h u 0 n from (le-refl n) f k zero-le l;
           own = λ k l m. both (getD rows k noReservation .unit) u
-              (le-trans (found unit rows noReservation field h u 0 n from (le-refl n) f (within from k to n l m (g .to))) (ordered .units from k l (lt-of-lt-of-le m (g .to))))
+              (le-trans (found unit rows noReservation field h u 0 n from (le-refl n) f (within from k to n l m (g .to)))
+              (ordered .units from k l (lt-of-lt-of-le m (g .to))))
               (passed unit rows noReservation field h (u + 1) from n to (le-refl n) g k l m);
-          later = λ k l m. after-next u (getD rows k noReservation .unit) (le-trans (found unit rows noReservation field h (u + 1) from n to (le-refl n) g (lt-of-le-of-lt l m)) (ordered .units to k l m));
+          later =
+              λ k l m. after-next u (getD rows k noReservation .unit)
+              (le-trans (found unit rows noReservation field h (u + 1) from n to (le-refl n) g (lt-of-le-of-lt l m)) (ordered .units to k l m));
         }
       where
         n : ℕ
@@ -121,7 +134,9 @@ module _ (rows : List Reservation) (ordered : OrderedRows rows) (u : ℕ) where
     same-unit i k p q r = own .own i p (lt-of-le-of-lt q r) ∙ sym (own .own k (le-trans p q) r)
 
     pub ends-searchable : (end : List ℕ) → Holds end rows noReservation (λ (r : Reservation). r .end) → Searchable end from to
-    ends-searchable end h = searchable end rows noReservation (λ (r : Reservation). r .end) h from to (own .order) (own .inside) (λ i k p q r. ends-rise i k q (lt-of-lt-of-le r (own .inside)) (same-unit i k p q r))
+    ends-searchable end h =
+        searchable end rows noReservation (λ (r : Reservation). r .end) h from to (own .order) (own .inside)
+        (λ i k p q r. ends-rise i k q (lt-of-lt-of-le r (own .inside)) (same-unit i k p q r))
 
     -- a row of the unit is one of these
     not-before : (k : ℕ) → getD rows k noReservation .unit ≡ u → from ≤ k
@@ -133,7 +148,8 @@ module _ (rows : List Reservation) (ordered : OrderedRows rows) (u : ℕ) where
         above : {a u : ℕ} → u < a → a ≡ u → ⊥
         above {a} {u} p q = omega (arith, p, q)
 
-    pub behind-found : (end : List ℕ) → Holds end rows noReservation (λ (r : Reservation). r .end) → (point r : ℕ) → FirstIn (λ (k : ℕ). leb point (getD end k 0)) from to r → Behind rows u point r
+    pub behind-found : (end : List ℕ) → Holds end rows noReservation (λ (r : Reservation). r .end) → (point r : ℕ)
+        → FirstIn (λ (k : ℕ). leb point (getD end k 0)) from to r → Behind rows u point r
     behind-found end h point r f =
         record {
           inside = le-trans (f .to) (own .inside);
@@ -151,10 +167,12 @@ module _ (rows : List Reservation) (ordered : OrderedRows rows) (u : ℕ) where
         }
 
     -- behind a row that reaches the point, and at the first that does if it starts at the point or past it
-    module _ (end : List ℕ) (h : Holds end rows noReservation (λ (r : Reservation). r .end)) (point r : ℕ) (f : FirstIn (λ (k : ℕ). leb point (getD end k 0)) from to r) where
+    module _ (end : List ℕ) (h : Holds end rows noReservation (λ (r : Reservation). r .end)) (point r : ℕ)
+        (f : FirstIn (λ (k : ℕ). leb point (getD end k 0)) from to r) where
       pub beyond-row : r < to → Beyond rows u point (r + 1)
       beyond-row q = beyond-at point (r + 1) (le-trans (f .from) (upto-next r)) (past r to q)
-          (λ k l m. le-trans (found end rows noReservation (λ (x : Reservation). x .end) h point from to r (own .inside) f q) (ordered .apart r k (past-row r k l) (lt-of-lt-of-le m (own .inside)) (same-unit r k (f .from) (le-of-lt (past-row r k l)) m)))
+          (λ k l m. le-trans (found end rows noReservation (λ (x : Reservation). x .end) h point from to r (own .inside) f q)
+          (ordered .apart r k (past-row r k l) (lt-of-lt-of-le m (own .inside)) (same-unit r k (f .from) (le-of-lt (past-row r k l)) m)))
         where
           upto-next : (a : ℕ) → a ≤ a + 1
           upto-next a = omega arith
@@ -166,17 +184,24 @@ module _ (rows : List Reservation) (ordered : OrderedRows rows) (u : ℕ) where
           past-row a b p = omega arith
 
       pub beyond-here : (r < to → point ≤ getD rows r noReservation .start) → Beyond rows u point r
-      beyond-here g = beyond-at point r (f .from) (f .to) (λ k l m. le-trans (g (lt-of-le-of-lt l m)) (starts-rise r k l (lt-of-lt-of-le m (own .inside)) (same-unit r k (f .from) l m)))
+      beyond-here g =
+          beyond-at point r (f .from) (f .to) (λ k l m. le-trans (g (lt-of-le-of-lt l m))
+          (starts-rise r k l (lt-of-lt-of-le m (own .inside)) (same-unit r k (f .from) l m)))
 
 -- ---- the fixed uses of a unit
-module _ (fixedUses : List FixedUse) (ordered : OrderedUses fixedUses) (u : ℕ) (unit : List ℕ) (h : Holds unit fixedUses noFixedUse (λ (f : FixedUse). f .unit)) where
+module _ (fixedUses : List FixedUse) (ordered : OrderedUses fixedUses) (u : ℕ) (unit : List ℕ)
+    (h : Holds unit fixedUses noFixedUse (λ (f : FixedUse). f .unit)) where
   pub uses-searchable : Searchable unit 0 (length fixedUses)
-  uses-searchable = searchable unit fixedUses noFixedUse (λ (f : FixedUse). f .unit) h 0 (length fixedUses) zero-le (le-refl (length fixedUses)) (λ i k _ q r. ordered .units i k q r)
+  uses-searchable =
+      searchable unit fixedUses noFixedUse (λ (f : FixedUse). f .unit) h 0 (length fixedUses) zero-le (le-refl (length fixedUses))
+      (λ i k _ q r. ordered .units i k q r)
 
   pub uses-found : (r : ℕ) → FirstIn (λ (k : ℕ). leb u (getD unit k 0)) 0 (length fixedUses) r → UsesFrom fixedUses u r
   uses-found r f =
       record {
         inside = f .to;
         before = λ k l. passed unit fixedUses noFixedUse (λ (x : FixedUse). x .unit) h u 0 (length fixedUses) r (le-refl (length fixedUses)) f k zero-le l;
-        later = λ k l m. le-trans (found unit fixedUses noFixedUse (λ (x : FixedUse). x .unit) h u 0 (length fixedUses) r (le-refl (length fixedUses)) f (lt-of-le-of-lt l m)) (ordered .units r k l m);
+        later =
+            λ k l m. le-trans (found unit fixedUses noFixedUse (λ (x : FixedUse). x .unit) h u 0 (length fixedUses) r (le-refl (length fixedUses)) f
+            (lt-of-le-of-lt l m)) (ordered .units r k l m);
       }

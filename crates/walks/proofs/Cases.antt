@@ -10,7 +10,8 @@ use Rattle.jobs.specs.declared.rows.Reservation.{Reservation}
 use Rattle.jobs.specs.declared.rows.FixedUse.{FixedUse}
 use Rattle.walks.specs.declared.meeting.GapSegment.{GapSegment}
 use Rattle.walks.specs.declared.meeting.Register.{Register}
-use Rattle.walks.specs.Meeting.{Reserved, meets, clashes, rowNumber, useCounts, countsAsFixed, spillWeight, ofRegister, fixedAgainst, weighsAgainst, fixedMet, weightsWhere, weightsMet, fixedMetAny, weightsMetAll}
+use Rattle.walks.specs.Meeting.{Reserved, meets, clashes, rowNumber, useCounts, countsAsFixed, spillWeight, ofRegister, fixedAgainst, weighsAgainst}
+use Rattle.walks.specs.Meeting.{fixedMet, weightsWhere, weightsMet, fixedMetAny, weightsMetAll}
 use Rattle.columns.specs.Table.{anyOf}
 
 -- a register's only unit

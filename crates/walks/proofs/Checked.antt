@@ -53,21 +53,28 @@ spanned limits last r e =
       rising = ltb-false (r .unit) (last .unit) (p1 .1);
       nonempty = leb-false (r .end) (r .start) (p2 .1);
       inside = ltb-false (limits .end) (r .end) (p5 .1);
-      after = λ s. ltb-false (r .start) (last .end) (then-false (eqb (r .unit) (last .unit)) (ltb (r .start) (last .end)) (eq-eqb (r .unit) (last .unit) s) (p6 .1));
+      after =
+          λ s. ltb-false (r .start) (last .end) (then-false (eqb (r .unit) (last .unit)) (ltb (r .start) (last .end)) (eq-eqb (r .unit) (last .unit) s)
+          (p6 .1));
     }
 
 pub weighed : (limits : Limits) (have : ℕ) (r : Reservation) → badKind limits have r ≡ false → r .kind ≡ 0 → r .index < limits .weights
 unfolding badKind
 weighed limits have r e k =
-    leb-false (limits .weights) (r .index) (or-parts (leb (limits .weights) (r .index)) (not (eqb (r .fixed) noFixed) && leb have (r .fixed)) (first (eqb (r .kind) 0) _ _ (eq-eqb (r .kind) 0 k) e) .0)
+    leb-false (limits .weights) (r .index) (or-parts (leb (limits .weights) (r .index)) (not (eqb (r .fixed) noFixed) && leb have (r .fixed))
+    (first (eqb (r .kind) 0) _ _ (eq-eqb (r .kind) 0 k) e) .0)
   where
     first : (t x y : Bool) → t ≡ true → cond t x y ≡ false → x ≡ false
     first true x y p q = q
     first false x y p q = absurd (true≢false (sym p))
 
-module _ (limits : Limits) (fixedUses : List FixedUse) (rows : List Reservation) (passed : (i : ℕ) → i < length rows → badReservation limits fixedUses rows i ≡ false) where
-  both : (i : ℕ) → i < length rows → (badSpan limits (rowBefore rows noReservation i) (getD rows i noReservation) ≡ false) × (badKind limits (fixedOf fixedUses (getD rows i noReservation .unit)) (getD rows i noReservation) ≡ false)
-  both i h = or-parts (badSpan limits (rowBefore rows noReservation i) (getD rows i noReservation)) (badKind limits (fixedOf fixedUses (getD rows i noReservation .unit)) (getD rows i noReservation)) (passed i h)
+module _ (limits : Limits) (fixedUses : List FixedUse) (rows : List Reservation)
+    (passed : (i : ℕ) → i < length rows → badReservation limits fixedUses rows i ≡ false) where
+  both : (i : ℕ) → i < length rows → (badSpan limits (rowBefore rows noReservation i) (getD rows i noReservation) ≡ false)
+      × (badKind limits (fixedOf fixedUses (getD rows i noReservation .unit)) (getD rows i noReservation) ≡ false)
+  both i h =
+      or-parts (badSpan limits (rowBefore rows noReservation i) (getD rows i noReservation))
+      (badKind limits (fixedOf fixedUses (getD rows i noReservation .unit)) (getD rows i noReservation)) (passed i h)
 
   pub row-spanned : (i : ℕ) → i < length rows → Spanned limits (rowBefore rows noReservation i) (getD rows i noReservation)
   row-spanned i h = spanned limits (rowBefore rows noReservation i) (getD rows i noReservation) (both i h .0)
@@ -78,13 +85,15 @@ module _ (limits : Limits) (fixedUses : List FixedUse) (rows : List Reservation)
   units-rise : (i k : ℕ) → i ≤ k → k < length rows → getD rows i noReservation .unit ≤ getD rows k noReservation .unit
   units-rise = rises (λ (i : ℕ). getD rows i noReservation .unit) (length rows) (λ i h. row-spanned (suc i) h .rising)
 
-  apart : (i k : ℕ) → i < k → k < length rows → getD rows i noReservation .unit ≡ getD rows k noReservation .unit → getD rows i noReservation .end ≤ getD rows k noReservation .start
+  apart : (i k : ℕ) → i < k → k < length rows → getD rows i noReservation .unit ≡ getD rows k noReservation .unit
+      → getD rows i noReservation .end ≤ getD rows k noReservation .start
   apart i zero h l e = absurd (not-suc-le-zero h)
   apart i (suc k) h l e =
       let same : getD rows k noReservation .unit ≡ getD rows (suc k) noReservation .unit =
       le-antisymm (units-rise k (suc k) (upto-suc k) l) (le-trans (le-of-eq (sym e)) (units-rise i k (le-of-suc-le-suc h) (suc-inside k (length rows) l))) in
       let here = row-spanned (suc k) l .after (sym same) in
-      ⊎-elim (λ m. le-trans (apart i k m (suc-inside k (length rows) l) (e ∙ sym same)) (le-trans (le-of-lt (row-spanned k (suc-inside k (length rows) l) .nonempty)) here))
+      ⊎-elim (λ m. le-trans (apart i k m (suc-inside k (length rows) l) (e ∙ sym same))
+      (le-trans (le-of-lt (row-spanned k (suc-inside k (length rows) l) .nonempty)) here))
       (λ m. le-trans (le-of-eq (ap (λ (j : ℕ). getD rows j noReservation .end) (le-antisymm (le-of-suc-le-suc h) m))) here) (split i k)
 
   pub rows-ordered : OrderedRows rows
@@ -107,7 +116,9 @@ placed limits last f e =
     record {
       rising = ltb-false (f .unit) (last .unit) (p1 .1);
       inside = leb-false (limits .end) (f .point) (p4 .1);
-      after = λ s. ltb-false (f .point) (last .point) (then-false (eqb (f .unit) (last .unit)) (ltb (f .point) (last .point)) (eq-eqb (f .unit) (last .unit) s) (p5 .1));
+      after =
+          λ s. ltb-false (f .point) (last .point) (then-false (eqb (f .unit) (last .unit)) (ltb (f .point) (last .point)) (eq-eqb (f .unit) (last .unit) s)
+          (p5 .1));
     }
 
 module _ (limits : Limits) (fixedUses : List FixedUse) (passed : (i : ℕ) → i < length fixedUses → badFixedUseAt limits fixedUses i ≡ false) where
@@ -117,12 +128,14 @@ module _ (limits : Limits) (fixedUses : List FixedUse) (passed : (i : ℕ) → i
   use-units-rise : (i k : ℕ) → i ≤ k → k < length fixedUses → getD fixedUses i noFixedUse .unit ≤ getD fixedUses k noFixedUse .unit
   use-units-rise = rises (λ (i : ℕ). getD fixedUses i noFixedUse .unit) (length fixedUses) (λ i h. use-placed (suc i) h .rising)
 
-  points-rise : (i k : ℕ) → i ≤ k → k < length fixedUses → getD fixedUses i noFixedUse .unit ≡ getD fixedUses k noFixedUse .unit → getD fixedUses i noFixedUse .point ≤ getD fixedUses k noFixedUse .point
+  points-rise : (i k : ℕ) → i ≤ k → k < length fixedUses → getD fixedUses i noFixedUse .unit ≡ getD fixedUses k noFixedUse .unit
+      → getD fixedUses i noFixedUse .point ≤ getD fixedUses k noFixedUse .point
   points-rise i zero h l e = le-of-eq (ap (λ (j : ℕ). getD fixedUses j noFixedUse .point) (none-below i h))
   points-rise i (suc k) h l e =
       ⊎-elim
       (λ m. let same : getD fixedUses k noFixedUse .unit ≡ getD fixedUses (suc k) noFixedUse .unit =
-      le-antisymm (use-units-rise k (suc k) (upto-suc k) l) (le-trans (le-of-eq (sym e)) (use-units-rise i k (le-of-suc-le-suc m) (suc-inside k (length fixedUses) l))) in
+      le-antisymm (use-units-rise k (suc k) (upto-suc k) l) (le-trans (le-of-eq (sym e))
+      (use-units-rise i k (le-of-suc-le-suc m) (suc-inside k (length fixedUses) l))) in
       le-trans (points-rise i k (le-of-suc-le-suc m) (suc-inside k (length fixedUses) l) (e ∙ sym same)) (use-placed (suc k) l .after (sym same)))
       (λ m. le-of-eq (ap (λ (j : ℕ). getD fixedUses j noFixedUse .point) (le-antisymm h m))) (split i (suc k))
 
@@ -131,7 +144,8 @@ module _ (limits : Limits) (fixedUses : List FixedUse) (passed : (i : ℕ) → i
 
 -- both lines, and as many spill weights as the limits say
 pub checked-ready : (limits : Limits) (t : Reserved) → limits .weights ≡ length (t .weights)
-    → ((i : ℕ) → i < length (t .rows) → badReservation limits (t .fixedUses) (t .rows) i ≡ false) → ((i : ℕ) → i < length (t .fixedUses) → badFixedUseAt limits (t .fixedUses) i ≡ false) → Ready t
+    → ((i : ℕ) → i < length (t .rows) → badReservation limits (t .fixedUses) (t .rows) i ≡ false)
+    → ((i : ℕ) → i < length (t .fixedUses) → badFixedUseAt limits (t .fixedUses) i ≡ false) → Ready t
 checked-ready limits t e passed sound =
     record {
       rows = rows-ordered limits (t .fixedUses) (t .rows) passed;

@@ -39,7 +39,8 @@ module _ (p : Register) (t : Reserved) where
   pub all-append : (xs ys : List GapSegment) → weightsMetAll p t (xs ++ ys) ≡ weightsMetAll p t xs ++ weightsMetAll p t ys
   unfolding weightsMetAll
   all-append [] ys = refl
-  all-append (x ∷ xs) ys = ap (λ (l : List Float). weightsMet p t x ++ l) (all-append xs ys) ∙ sym (append-assoc (weightsMet p t x) (weightsMetAll p t xs) (weightsMetAll p t ys))
+  all-append (x ∷ xs) ys =
+      ap (λ (l : List Float). weightsMet p t x ++ l) (all-append xs ys) ∙ sym (append-assoc (weightsMet p t x) (weightsMetAll p t xs) (weightsMetAll p t ys))
 
   pub fixed-append : (xs ys : List GapSegment) → fixedMetAny p t (xs ++ ys) ≡ (fixedMetAny p t xs || fixedMetAny p t ys)
   unfolding fixedMetAny
@@ -65,10 +66,12 @@ module _ (p : Register) (t : Reserved) where
 
 -- ---- what is picked by a test, row by row
 module _ (p : Register) (t : Reserved) (at : ℕ → GapSegment) where
-  pub fixed-next : (test : ℕ → Bool) (n : ℕ) → bit (fixedMetAny p t (picked test at (suc n))) ≡ max (bit (fixedMetAny p t (picked test at n))) (cond (test n) (bit (fixedMet p t (at n))) 0)
+  pub fixed-next : (test : ℕ → Bool) (n : ℕ) → bit (fixedMetAny p t (picked test at (suc n)))
+      ≡ max (bit (fixedMetAny p t (picked test at n))) (cond (test n) (bit (fixedMet p t (at n))) 0)
   unfolding fixedMetAny picked anyOf
   fixed-next test n =
-      ap bit (any-append (fixedMet p t) (picked test at n) (cond (test n) (at n ∷ []) [])) ∙ bit-or (anyOf (fixedMet p t) (picked test at n)) (anyOf (fixedMet p t) (cond (test n) (at n ∷ []) []))
+      ap bit (any-append (fixedMet p t) (picked test at n) (cond (test n) (at n ∷ []) []))
+      ∙ bit-or (anyOf (fixedMet p t) (picked test at n)) (anyOf (fixedMet p t) (cond (test n) (at n ∷ []) []))
       ∙ ap (max (bit (anyOf (fixedMet p t) (picked test at n)))) (one (test n))
     where
       or-none : (b : Bool) → bit (b || false) ≡ bit b
@@ -79,10 +82,13 @@ module _ (p : Register) (t : Reserved) (at : ℕ → GapSegment) where
       one true = or-none (fixedMet p t (at n))
       one false = refl
 
-  pub weight-next : (test : ℕ → Bool) (n : ℕ) → heaviestAll p t (picked test at (suc n)) ≡ max (heaviestAll p t (picked test at n)) (cond (test n) (unitsOf (heaviest (weightsMet p t (at n)))) 0)
+  pub weight-next : (test : ℕ → Bool) (n : ℕ) → heaviestAll p t (picked test at (suc n))
+      ≡ max (heaviestAll p t (picked test at n)) (cond (test n) (unitsOf (heaviest (weightsMet p t (at n)))) 0)
   unfolding picked weightsMetAll
   weight-next test n =
-      units-append p t (picked test at n) (cond (test n) (at n ∷ []) []) ∙ turned (heaviestAll p t (cond (test n) (at n ∷ []) [])) (heaviestAll p t (picked test at n)) ∙ ap (max (heaviestAll p t (picked test at n))) (one (test n))
+      units-append p t (picked test at n) (cond (test n) (at n ∷ []) [])
+      ∙ turned (heaviestAll p t (cond (test n) (at n ∷ []) [])) (heaviestAll p t (picked test at n))
+      ∙ ap (max (heaviestAll p t (picked test at n))) (one (test n))
     where
       turned : (a b : ℕ) → max a b ≡ max b a
       turned a b = omega arith
@@ -114,7 +120,12 @@ module _ (p : Register) (t : Reserved) (g : SegmentColumns) (gap : ℕ) where
 
   pub gap-none : (P : ℕ → Type 0) (m : Met) → Weight (m .heaviest) → ((k : ℕ) → P k → ofGap g gap k ≡ false) → SeenGap p t g gap P m m
   gap-none P m w f =
-      record { weight = w; fixed = top-none (bit (m .fixed)) (λ k q. other-fixed k (f k q)); heaviest = top-none (unitsOf (m .heaviest)) (λ k q. other-weight k (f k q)) }
+      record {
+        weight = w;
+        fixed = top-none (bit (m .fixed)) (λ k q. other-fixed k (f k q));
+        heaviest =
+            top-none (unitsOf (m .heaviest)) (λ k q. other-weight k (f k q));
+      }
 
   -- one row of the gap more
   pub gap-more : (P Q : ℕ → Type 0) (i : ℕ) → ((k : ℕ) → Q k → P k ⊎ (k ≡ i)) → ((k : ℕ) → P k → Q k) → Q i → (m₀ m : Met) → ofGap g gap i ≡ true
@@ -124,16 +135,19 @@ module _ (p : Register) (t : Reserved) (g : SegmentColumns) (gap : ℕ) where
       record {
         weight = heavier-weight (k .weight) h;
         fixed = top-more Q i (bit (alsoMet p t (segmentIn g i) m .fixed)) only more here
-            (bit-or (m .fixed) (fixedMet p t (segmentIn g i)) ∙ ap (λ (b : Bool). max (bit (m .fixed)) (cond b (bit (fixedMet p t (segmentIn g i))) 0)) (sym e)) (k .fixed);
+            (bit-or (m .fixed) (fixedMet p t (segmentIn g i)) ∙ ap (λ (b : Bool). max (bit (m .fixed)) (cond b (bit (fixedMet p t (segmentIn g i))) 0)) (sym e))
+            (k .fixed);
         heaviest = top-more Q i (unitsOf (alsoMet p t (segmentIn g i) m .heaviest)) only more here
-            (heavier-units (k .weight) h ∙ ap (λ (b : Bool). max (unitsOf (m .heaviest)) (cond b (unitsOf (heaviest (weightsMet p t (segmentIn g i)))) 0)) (sym e)) (k .heaviest);
+            (heavier-units (k .weight) h ∙ ap (λ (b : Bool). max (unitsOf (m .heaviest)) (cond b (unitsOf (heaviest (weightsMet p t (segmentIn g i)))) 0))
+            (sym e)) (k .heaviest);
       }
 
   -- all rows, where those left are of other gaps
   abbrev Used : ℕ → Type 0
   Used k = k < g .used
 
-  pub gap-all : (P : ℕ → Type 0) → ((k : ℕ) → P k → k < g .used) → ((k : ℕ) → k < g .used → P k ⊎ (ofGap g gap k ≡ false)) → (m₀ m : Met) → SeenGap p t g gap P m₀ m → SeenGap p t g gap (λ (k : ℕ). k < g .used) m₀ m
+  pub gap-all : (P : ℕ → Type 0) → ((k : ℕ) → P k → k < g .used) → ((k : ℕ) → k < g .used → P k ⊎ (ofGap g gap k ≡ false)) → (m₀ m : Met)
+      → SeenGap p t g gap P m₀ m → SeenGap p t g gap (λ (k : ℕ). k < g .used) m₀ m
   gap-all P more only m₀ m k =
       record {
         weight = k .weight;
@@ -148,12 +162,18 @@ module _ (p : Register) (t : Reserved) (g : SegmentColumns) (gap : ℕ) where
       let h = heaviest-weight (weightsMetAll p t (segmentsOfGap g gap)) (all-weights p t (segmentsOfGap g gap)) in
       record {
         weight = heavier-weight w h;
-        fixed = top-built (gapFixed p t g gap) (λ (n : ℕ). bit (fixedMetAny p t (picked (ofGap g gap) (segmentIn g) n))) refl (fixed-next p t (segmentIn g) (ofGap g gap)) (g .used) (bit (m .fixed)) (bit (gapMet p t g gap m .fixed)) (bit-or (m .fixed) (fixedMetAny p t (segmentsOfGap g gap)));
-        heaviest = top-built (gapWeight p t g gap) (λ (n : ℕ). heaviestAll p t (picked (ofGap g gap) (segmentIn g) n)) zero-units (weight-next p t (segmentIn g) (ofGap g gap)) (g .used) (unitsOf (m .heaviest)) (unitsOf (gapMet p t g gap m .heaviest)) (heavier-units w h);
+        fixed =
+            top-built (gapFixed p t g gap) (λ (n : ℕ). bit (fixedMetAny p t (picked (ofGap g gap) (segmentIn g) n))) refl
+            (fixed-next p t (segmentIn g) (ofGap g gap)) (g .used) (bit (m .fixed)) (bit (gapMet p t g gap m .fixed))
+            (bit-or (m .fixed) (fixedMetAny p t (segmentsOfGap g gap)));
+        heaviest =
+            top-built (gapWeight p t g gap) (λ (n : ℕ). heaviestAll p t (picked (ofGap g gap) (segmentIn g) n)) zero-units
+            (weight-next p t (segmentIn g) (ofGap g gap)) (g .used) (unitsOf (m .heaviest)) (unitsOf (gapMet p t g gap m .heaviest)) (heavier-units w h);
       }
 
   pub gap-is : (m₀ m : Met) → Weight (m₀ .heaviest) → SeenGap p t g gap (λ (k : ℕ). k < g .used) m₀ m → m ≡ gapMet p t g gap m₀
   unfolding made
   gap-is m₀ m w k =
       let a = gap-met m₀ w in
-      ap₂ made (bit-only (m .fixed) (gapMet p t g gap m₀ .fixed) (top-only (k .fixed) (a .fixed))) (units-inj (k .weight) (a .weight) (top-only (k .heaviest) (a .heaviest)))
+      ap₂ made (bit-only (m .fixed) (gapMet p t g gap m₀ .fixed) (top-only (k .fixed) (a .fixed)))
+      (units-inj (k .weight) (a .weight) (top-only (k .heaviest) (a .heaviest)))

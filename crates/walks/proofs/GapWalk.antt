@@ -21,7 +21,8 @@ use Rattle.walks.specs.Meeting.{Reserved, alsoMet}
 use Rattle.walks.specs.Standing.{StandsRight, StandsLeft}
 use Rattle.walks.specs.Gaps.{segmentIn, ofGap, OrderedGaps, GapsFrom, RightAt, LeftAt, isOfGap, lastIsOfGap}
 use Rattle.overlaps.specs.GapSegments.{SegmentColumns}
-use Rattle.walks.proofs.Steps.{next-only, next-inside, next-after, below-next, past-next, last-only, last-inside, last-upto, upto-last, below-last, below-ne, past-ne}
+use Rattle.walks.proofs.Steps.{next-only, next-inside, next-after, below-next, past-next, last-only, last-inside, last-upto, upto-last, below-last}
+use Rattle.walks.proofs.Steps.{below-ne, past-ne}
 use Rattle.walks.proofs.OneUnit.{behind-later, beyond-earlier}
 use Rattle.walks.proofs.GapSegments.{SeenGap, gap-none, gap-more, gap-all}
 
@@ -32,10 +33,12 @@ right-later h s = record { eight = s .eight; behind = λ v l. behind-later h (s 
 pub left-earlier : {p : Register} {rows : List Reservation} {a b : ℕ} {w : LeftWalker} → b ≤ a → StandsLeft p rows a w → StandsLeft p rows b w
 left-earlier h s = record { eight = s .eight; beyond = λ v l. beyond-earlier h (s .beyond v l) }
 
-pub right-moved : {p : Register} {rows : List Reservation} {a : ℕ} {w : RightWalker} (n : ℕ) → StandsRight p rows a w → StandsRight p rows a (record { next = n; at = w .at })
+pub right-moved : {p : Register} {rows : List Reservation} {a : ℕ} {w : RightWalker} (n : ℕ) → StandsRight p rows a w
+    → StandsRight p rows a (record { next = n; at = w .at })
 right-moved n s = record { eight = s .eight; behind = s .behind }
 
-pub left-moved : {p : Register} {rows : List Reservation} {a : ℕ} {w : LeftWalker} (n : ℕ) → StandsLeft p rows a w → StandsLeft p rows a (record { next = n; at = w .at })
+pub left-moved : {p : Register} {rows : List Reservation} {a : ℕ} {w : LeftWalker} (n : ℕ) → StandsLeft p rows a w
+    → StandsLeft p rows a (record { next = n; at = w .at })
 left-moved n s = record { eight = s .eight; beyond = s .beyond }
 
 -- a new walker stands at its gap, if the gap segments that come start at or past its point, or end at or before it
@@ -76,7 +79,8 @@ pub of-gap-false : (gaps : List ℕ) (used gap i : ℕ) → isOfGap gaps used ga
 of-gap-false gaps used gap i e h = eqb-false (getD gaps i 0) gap (second-false (ltb i used) (eqb (getD gaps i 0) gap) (lt-ltb i used h) e)
 
 pub last-of-gap-true : (gaps : List ℕ) (gap i : ℕ) → lastIsOfGap gaps gap i ≡ true → (0 < i) × (getD gaps (i - 1) 0 ≡ gap)
-last-of-gap-true gaps gap i e = let p = both-true (ltb 0 i) (eqb (getD gaps (i - 1) 0) gap) e in (ltb-true 0 i (p .0), eqb-true (getD gaps (i - 1) 0) gap (p .1))
+last-of-gap-true gaps gap i e =
+    let p = both-true (ltb 0 i) (eqb (getD gaps (i - 1) 0) gap) e in (ltb-true 0 i (p .0), eqb-true (getD gaps (i - 1) 0) gap (p .1))
 
 pub last-of-gap-false : (gaps : List ℕ) (gap i : ℕ) → lastIsOfGap gaps gap i ≡ false → 0 < i → getD gaps (i - 1) 0 ≡ gap → ⊥
 last-of-gap-false gaps gap i e h = eqb-false (getD gaps (i - 1) 0) gap (second-false (ltb 0 i) (eqb (getD gaps (i - 1) 0) gap) (lt-ltb 0 i h) e)
@@ -93,7 +97,13 @@ module _ (g : SegmentColumns) (gap : ℕ) where
   within-first i f = record { inside = f .inside; before = λ k l. le-of-lt (f .before k l); later = f .later }
 
   pub within-last : (i : ℕ) → GapsFrom g (gap + 1) i → Within g gap i
-  within-last i f = record { inside = f .inside; before = λ k l. down (getD (g .gap) k 0) gap (f .before k l); later = λ k l m. past-next gap (getD (g .gap) k 0) (f .later k l m) }
+  within-last i f =
+      record {
+        inside = f .inside;
+        before = λ k l. down (getD (g .gap) k 0) gap (f .before k l);
+        later =
+            λ k l m. past-next gap (getD (g .gap) k 0) (f .later k l m);
+      }
     where
       down : (a b : ℕ) → a < b + 1 → a ≤ b
       down a b h = omega arith
@@ -112,7 +122,9 @@ module _ (g : SegmentColumns) (gap : ℕ) where
         record {
           inside = w .inside;
           before = λ k l. up (getD (g .gap) k 0) gap (w .before k l);
-          later = λ k l m. let h = lt-of-le-of-lt l m in above gap (getD (g .gap) i 0) (getD (g .gap) k 0) (w .later i (le-refl i) h) (ne h) (ordered .gaps i k l m);
+          later =
+              λ k l m. let h = lt-of-le-of-lt l m in above gap (getD (g .gap) i 0) (getD (g .gap) k 0) (w .later i (le-refl i) h) (ne h)
+              (ordered .gaps i k l m);
         }
       where
         up : (a b : ℕ) → a ≤ b → a < b + 1
@@ -125,7 +137,9 @@ module _ (g : SegmentColumns) (gap : ℕ) where
     left-out i w ne =
         record {
           inside = w .inside;
-          before = λ k l. below (getD (g .gap) k 0) (getD (g .gap) (i - 1) 0) gap (ordered .gaps k (i - 1) (upto-last k i l) (inner k i (g .used) l (w .inside))) (w .before (i - 1) (last k i l)) (ne (some k i l));
+          before =
+              λ k l. below (getD (g .gap) k 0) (getD (g .gap) (i - 1) 0) gap (ordered .gaps k (i - 1) (upto-last k i l) (inner k i (g .used) l (w .inside)))
+              (w .before (i - 1) (last k i l)) (ne (some k i l));
           later = w .later;
         }
       where
@@ -163,12 +177,17 @@ module _ (g : SegmentColumns) (gap : ℕ) where
     pub right-first : (i : ℕ) (m : Met) → Weight (m .heaviest) → GapsFrom g gap i → SeenGap p t g gap (λ (k : ℕ). k < i) m m
     right-first i m w f = gap-none p t g gap (λ (k : ℕ). k < i) m w (before-other i f)
 
-    pub right-more : (i : ℕ) (m₀ m : Met) → ofGap g gap i ≡ true → SeenGap p t g gap (λ (k : ℕ). k < i) m₀ m → SeenGap p t g gap (λ (k : ℕ). k < i + 1) m₀ (alsoMet p t (segmentIn g i) m)
+    pub right-more : (i : ℕ) (m₀ m : Met) → ofGap g gap i ≡ true → SeenGap p t g gap (λ (k : ℕ). k < i) m₀ m
+        → SeenGap p t g gap (λ (k : ℕ). k < i + 1) m₀ (alsoMet p t (segmentIn g i) m)
     right-more i m₀ m e k =
-        gap-more p t g gap (λ (j : ℕ). j < i) (λ (j : ℕ). j < i + 1) i (λ j h. ⊎-elim (λ l. inl l) (λ l. inr (next-only j i h l)) (split j i)) (λ j h. below-next j i h) (next-after i) m₀ m e k
+        gap-more p t g gap (λ (j : ℕ). j < i) (λ (j : ℕ). j < i + 1) i (λ j h. ⊎-elim (λ l. inl l) (λ l. inr (next-only j i h l)) (split j i))
+        (λ j h. below-next j i h) (next-after i) m₀ m e k
 
-    pub right-whole : (i : ℕ) (m₀ m : Met) → GapsFrom g (gap + 1) i → SeenGap p t g gap (λ (k : ℕ). k < i) m₀ m → SeenGap p t g gap (λ (k : ℕ). k < g .used) m₀ m
-    right-whole i m₀ m f k = gap-all p t g gap (λ (j : ℕ). j < i) (λ j h. lt-of-lt-of-le h (f .inside)) (λ j h. ⊎-elim (λ l. inl l) (λ l. inr (later-other i f j l h)) (split j i)) m₀ m k
+    pub right-whole : (i : ℕ) (m₀ m : Met) → GapsFrom g (gap + 1) i → SeenGap p t g gap (λ (k : ℕ). k < i) m₀ m
+        → SeenGap p t g gap (λ (k : ℕ). k < g .used) m₀ m
+    right-whole i m₀ m f k =
+        gap-all p t g gap (λ (j : ℕ). j < i) (λ j h. lt-of-lt-of-le h (f .inside)) (λ j h. ⊎-elim (λ l. inl l) (λ l. inr (later-other i f j l h)) (split j i))
+        m₀ m k
 
     pub left-first : (i : ℕ) (m : Met) → Weight (m .heaviest) → GapsFrom g (gap + 1) i → SeenGap p t g gap (λ (k : ℕ). (i ≤ k) × (k < g .used)) m m
     left-first i m w f = gap-none p t g gap (λ (k : ℕ). (i ≤ k) × (k < g .used)) m w (λ k h. later-other i f k (h .0) (h .1))
@@ -176,7 +195,12 @@ module _ (g : SegmentColumns) (gap : ℕ) where
     pub left-more : (i : ℕ) (m₀ m : Met) → 0 < i → i ≤ g .used → ofGap g gap (i - 1) ≡ true → SeenGap p t g gap (λ (k : ℕ). (i ≤ k) × (k < g .used)) m₀ m
         → SeenGap p t g gap (λ (k : ℕ). (i - 1 ≤ k) × (k < g .used)) m₀ (alsoMet p t (segmentIn g (i - 1)) m)
     left-more i m₀ m h n e k =
-        gap-more p t g gap (λ (j : ℕ). (i ≤ j) × (j < g .used)) (λ (j : ℕ). (i - 1 ≤ j) × (j < g .used)) (i - 1) (λ j q. ⊎-elim (λ l. inr (last-only j i (q .0) l)) (λ l. inl (l, q .1)) (split j i)) (λ j q. (last-upto i j (q .0), q .1)) (le-refl (i - 1), last-inside i (g .used) h n) m₀ m e k
+        gap-more p t g gap (λ (j : ℕ). (i ≤ j) × (j < g .used)) (λ (j : ℕ). (i - 1 ≤ j) × (j < g .used)) (i - 1)
+        (λ j q. ⊎-elim (λ l. inr (last-only j i (q .0) l)) (λ l. inl (l, q .1)) (split j i)) (λ j q. (last-upto i j (q .0), q .1))
+        (le-refl (i - 1), last-inside i (g .used) h n) m₀ m e k
 
-    pub left-whole : (i : ℕ) (m₀ m : Met) → GapsFrom g gap i → SeenGap p t g gap (λ (k : ℕ). (i ≤ k) × (k < g .used)) m₀ m → SeenGap p t g gap (λ (k : ℕ). k < g .used) m₀ m
-    left-whole i m₀ m f k = gap-all p t g gap (λ (j : ℕ). (i ≤ j) × (j < g .used)) (λ j h. h .1) (λ j h. ⊎-elim (λ l. inr (before-other i f j l)) (λ l. inl (l, h)) (split j i)) m₀ m k
+    pub left-whole : (i : ℕ) (m₀ m : Met) → GapsFrom g gap i → SeenGap p t g gap (λ (k : ℕ). (i ≤ k) × (k < g .used)) m₀ m
+        → SeenGap p t g gap (λ (k : ℕ). k < g .used) m₀ m
+    left-whole i m₀ m f k =
+        gap-all p t g gap (λ (j : ℕ). (i ≤ j) × (j < g .used)) (λ j h. h .1) (λ j h. ⊎-elim (λ l. inr (before-other i f j l)) (λ l. inl (l, h)) (split j i)) m₀
+        m k

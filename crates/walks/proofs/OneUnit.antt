@@ -17,7 +17,8 @@ use Rattle.walks.specs.declared.meeting.GapSegment.{GapSegment}
 use Rattle.walks.specs.declared.meeting.Met.{Met}
 use Rattle.walks.specs.Meeting.{Reserved, meets, looked, oneUnit}
 use Rattle.walks.specs.Standing.{OrderedRows, Behind, Beyond}
-use Rattle.walks.proofs.Steps.{next-only, next-inside, next-after, below-next, past-next, after-next, last-only, last-inside, last-before, last-upto, upto-last, below-last, between-same}
+use Rattle.walks.proofs.Steps.{next-only, next-inside, next-after, below-next, past-next, after-next, last-only, last-inside, last-before, last-upto}
+use Rattle.walks.proofs.Steps.{upto-last, below-last, between-same}
 use Rattle.walks.proofs.Uses.{either-way, and-right-false}
 use Rattle.walks.proofs.Seen.{Seen, All, Apart, rowOf, seen-none, seen-look, seen-all, unit-of, other-of}
 
@@ -50,8 +51,11 @@ module _ (t : Reserved) (ordered : OrderedRows (t .rows)) (s : GapSegment) (u : 
   pub right-begin : (at : ℕ) (m : Met) → Weight (m .heaviest) → Behind (t .rows) u (s .from .0) at → Seen (oneUnit u) t s (Passed at) m m
   right-begin at m w b = seen-none (oneUnit u) t s (Passed at) m w (λ k l. apart-by s u (rowOf t k) (λ e. ends-before s (rowOf t k) (b .ended k l e)))
 
-  pub right-look : (i : ℕ) (m₀ m : Met) → rowOf t i .unit ≡ u → Seen (oneUnit u) t s (Passed i) m₀ m → Seen (oneUnit u) t s (Passed (i + 1)) m₀ (looked (t .fixedUses) (t .weights) s (rowOf t i) m)
-  right-look i m₀ m e k = seen-look (oneUnit u) t s (Passed i) (Passed (i + 1)) i (λ j h. ⊎-elim (λ l. inl l) (λ l. inr (next-only j i h l)) (split j i)) (λ j h. below-next j i h) (next-after i) m₀ m (unit-of u (rowOf t i) e) k
+  pub right-look : (i : ℕ) (m₀ m : Met) → rowOf t i .unit ≡ u → Seen (oneUnit u) t s (Passed i) m₀ m
+      → Seen (oneUnit u) t s (Passed (i + 1)) m₀ (looked (t .fixedUses) (t .weights) s (rowOf t i) m)
+  right-look i m₀ m e k =
+      seen-look (oneUnit u) t s (Passed i) (Passed (i + 1)) i (λ j h. ⊎-elim (λ l. inl l) (λ l. inr (next-only j i h l)) (split j i)) (λ j h. below-next j i h)
+      (next-after i) m₀ m (unit-of u (rowOf t i) e) k
 
   -- the next row, if this one does not reach past the segment
   pub right-next : (i : ℕ) → i < length (t .rows) → rowOf t i .end ≤ s .to .0 → Behind (t .rows) u (s .to .0) i → Behind (t .rows) u (s .to .0) (i + 1)
@@ -66,15 +70,20 @@ module _ (t : Reserved) (ordered : OrderedRows (t .rows)) (s : GapSegment) (u : 
   pub right-end : (i : ℕ) (m₀ m : Met) → length (t .rows) ≤ i → i ≤ length (t .rows) → Seen (oneUnit u) t s (Passed i) m₀ m → Seen (oneUnit u) t s (All t) m₀ m
   right-end i m₀ m h l k = seen-all (oneUnit u) t s (Passed i) (λ j p. lt-of-lt-of-le p l) (λ j p. inl (lt-of-lt-of-le p h)) m₀ m k
 
-  pub right-unit : (i : ℕ) (m₀ m : Met) → i < length (t .rows) → (rowOf t i .unit ≡ u → ⊥) → Behind (t .rows) u (s .to .0) i → Seen (oneUnit u) t s (Passed i) m₀ m → Seen (oneUnit u) t s (All t) m₀ m
+  pub right-unit : (i : ℕ) (m₀ m : Met) → i < length (t .rows) → (rowOf t i .unit ≡ u → ⊥) → Behind (t .rows) u (s .to .0) i
+      → Seen (oneUnit u) t s (Passed i) m₀ m → Seen (oneUnit u) t s (All t) m₀ m
   right-unit i m₀ m h ne b k =
       seen-all (oneUnit u) t s (Passed i) (λ j p. lt-of-lt-of-le p (le-of-lt h))
-      (λ j p. ⊎-elim (λ l. inl l) (λ l. inr (inl (other-of u (rowOf t j) (λ e. ne (between-same (b .later i (le-refl i) h) (ordered .units i j l p) e))))) (split j i)) m₀ m k
+      (λ j p. ⊎-elim (λ l. inl l) (λ l. inr (inl (other-of u (rowOf t j) (λ e. ne (between-same (b .later i (le-refl i) h) (ordered .units i j l p) e)))))
+      (split j i)) m₀ m k
 
-  pub right-past : (i : ℕ) (m₀ m : Met) → i < length (t .rows) → rowOf t i .unit ≡ u → s .to .0 < rowOf t i .end → Seen (oneUnit u) t s (Passed (i + 1)) m₀ m → Seen (oneUnit u) t s (All t) m₀ m
+  pub right-past : (i : ℕ) (m₀ m : Met) → i < length (t .rows) → rowOf t i .unit ≡ u → s .to .0 < rowOf t i .end → Seen (oneUnit u) t s (Passed (i + 1)) m₀ m
+      → Seen (oneUnit u) t s (All t) m₀ m
   right-past i m₀ m h e l k =
       seen-all (oneUnit u) t s (Passed (i + 1)) (λ j p. inner j i (length (t .rows)) p h)
-      (λ j p. ⊎-elim (λ q. inl q) (λ q. inr (apart-by s u (rowOf t j) (λ f. starts-past s (rowOf t j) (le-trans (le-of-lt l) (ordered .apart i j (after-next i j q) p (e ∙ sym f)))))) (split j (i + 1))) m₀ m k
+      (λ j p. ⊎-elim (λ q. inl q)
+      (λ q. inr (apart-by s u (rowOf t j) (λ f. starts-past s (rowOf t j) (le-trans (le-of-lt l) (ordered .apart i j (after-next i j q) p (e ∙ sym f))))))
+      (split j (i + 1))) m₀ m k
     where
       inner : (j i n : ℕ) → j < i + 1 → i < n → j < n
       inner j i n p q = omega arith
@@ -84,12 +93,14 @@ module _ (t : Reserved) (ordered : OrderedRows (t .rows)) (s : GapSegment) (u : 
   PassedLeft i k = (i ≤ k) × (k < length (t .rows))
 
   pub left-begin : (at : ℕ) (m : Met) → Weight (m .heaviest) → Beyond (t .rows) u (s .to .0) at → Seen (oneUnit u) t s (PassedLeft at) m m
-  left-begin at m w b = seen-none (oneUnit u) t s (PassedLeft at) m w (λ k l. apart-by s u (rowOf t k) (λ e. starts-past s (rowOf t k) (b .begun k (l .0) (l .1) e)))
+  left-begin at m w b =
+      seen-none (oneUnit u) t s (PassedLeft at) m w (λ k l. apart-by s u (rowOf t k) (λ e. starts-past s (rowOf t k) (b .begun k (l .0) (l .1) e)))
 
   pub left-look : (i : ℕ) (m₀ m : Met) → 0 < i → i ≤ length (t .rows) → rowOf t (i - 1) .unit ≡ u → Seen (oneUnit u) t s (PassedLeft i) m₀ m
       → Seen (oneUnit u) t s (PassedLeft (i - 1)) m₀ (looked (t .fixedUses) (t .weights) s (rowOf t (i - 1)) m)
   left-look i m₀ m h n e k =
-      seen-look (oneUnit u) t s (PassedLeft i) (PassedLeft (i - 1)) (i - 1) (λ j p. ⊎-elim (λ l. inr (last-only j i (p .0) l)) (λ l. inl (l, p .1)) (split j i)) (λ j p. (last-upto i j (p .0), p .1)) (le-refl (i - 1), last-inside i (length (t .rows)) h n) m₀ m (unit-of u (rowOf t (i - 1)) e) k
+      seen-look (oneUnit u) t s (PassedLeft i) (PassedLeft (i - 1)) (i - 1) (λ j p. ⊎-elim (λ l. inr (last-only j i (p .0) l)) (λ l. inl (l, p .1)) (split j i))
+      (λ j p. (last-upto i j (p .0), p .1)) (le-refl (i - 1), last-inside i (length (t .rows)) h n) m₀ m (unit-of u (rowOf t (i - 1)) e) k
 
   -- the next row, if this one does not start before the segment
   pub left-next : (i : ℕ) → 0 < i → s .from .0 ≤ rowOf t (i - 1) .start → Beyond (t .rows) u (s .from .0) i → Beyond (t .rows) u (s .from .0) (i - 1)
@@ -107,15 +118,22 @@ module _ (t : Reserved) (ordered : OrderedRows (t .rows)) (s : GapSegment) (u : 
       all : (i j : ℕ) → i ≤ 0 → i ≤ j
       all i j h = omega arith
 
-  pub left-unit : (i : ℕ) (m₀ m : Met) → 0 < i → (rowOf t (i - 1) .unit ≡ u → ⊥) → Beyond (t .rows) u (s .from .0) i → Seen (oneUnit u) t s (PassedLeft i) m₀ m → Seen (oneUnit u) t s (All t) m₀ m
+  pub left-unit : (i : ℕ) (m₀ m : Met) → 0 < i → (rowOf t (i - 1) .unit ≡ u → ⊥) → Beyond (t .rows) u (s .from .0) i → Seen (oneUnit u) t s (PassedLeft i) m₀ m
+      → Seen (oneUnit u) t s (All t) m₀ m
   left-unit i m₀ m h ne b k =
       seen-all (oneUnit u) t s (PassedLeft i) (λ j p. p .1)
-      (λ j p. ⊎-elim (λ l. inr (inl (other-of u (rowOf t j) (λ e. ne (same (b .earlier (i - 1) (last-before i h)) (ordered .units j (i - 1) (upto-last j i l) (last-inside i (length (t .rows)) h (b .inside))) e))))) (λ l. inl (l, p)) (split j i)) m₀ m k
+      (λ j p. ⊎-elim (λ l. inr
+      (inl (other-of u (rowOf t j)
+      (λ e. ne (same (b .earlier (i - 1) (last-before i h)) (ordered .units j (i - 1) (upto-last j i l) (last-inside i (length (t .rows)) h (b .inside))) e)))))
+      (λ l. inl (l, p)) (split j i)) m₀ m k
     where
       same : {a b u : ℕ} → a ≤ u → b ≤ a → b ≡ u → a ≡ u
       same {a} {b} {u} p q e = omega (arith, p, q, e)
 
-  pub left-past : (i : ℕ) (m₀ m : Met) → 0 < i → i ≤ length (t .rows) → rowOf t (i - 1) .unit ≡ u → rowOf t (i - 1) .start < s .from .0 → Seen (oneUnit u) t s (PassedLeft (i - 1)) m₀ m → Seen (oneUnit u) t s (All t) m₀ m
+  pub left-past : (i : ℕ) (m₀ m : Met) → 0 < i → i ≤ length (t .rows) → rowOf t (i - 1) .unit ≡ u → rowOf t (i - 1) .start < s .from .0
+      → Seen (oneUnit u) t s (PassedLeft (i - 1)) m₀ m → Seen (oneUnit u) t s (All t) m₀ m
   left-past i m₀ m h n e l k =
       seen-all (oneUnit u) t s (PassedLeft (i - 1)) (λ j p. p .1)
-      (λ j p. ⊎-elim (λ q. inr (apart-by s u (rowOf t j) (λ f. ends-before s (rowOf t j) (le-trans (ordered .apart j (i - 1) q (last-inside i (length (t .rows)) h n) (f ∙ sym e)) (le-of-lt l))))) (λ q. inl (q, p)) (split j (i - 1))) m₀ m k
+      (λ j p. ⊎-elim (λ q. inr
+      (apart-by s u (rowOf t j) (λ f. ends-before s (rowOf t j)
+      (le-trans (ordered .apart j (i - 1) q (last-inside i (length (t .rows)) h n) (f ∙ sym e)) (le-of-lt l))))) (λ q. inl (q, p)) (split j (i - 1))) m₀ m k

@@ -20,7 +20,8 @@ use Rattle.jobs.specs.declared.rows.Reservation.{Reservation}
 use Rattle.walks.specs.declared.meeting.GapSegment.{GapSegment}
 use Rattle.walks.specs.declared.meeting.Register.{Register}
 use Rattle.walks.specs.declared.meeting.Met.{Met}
-use Rattle.walks.specs.Meeting.{Reserved, meets, countsAsFixed, spillWeight, ofRegister, fixedAgainst, weighsAgainst, fixedMet, weightsWhere, weightsMet, alsoMet, looked, oneUnit}
+use Rattle.walks.specs.Meeting.{Reserved, meets, countsAsFixed, spillWeight, ofRegister, fixedAgainst, weighsAgainst, fixedMet, weightsWhere, weightsMet}
+use Rattle.walks.specs.Meeting.{alsoMet, looked, oneUnit}
 use Rattle.columns.specs.Table.{anyOf}
 use Rattle.walks.proofs.Steps.{max-left, max-right, max-least, max-none, none-max}
 use Rattle.walks.proofs.Uses.{either-way, and-true}
@@ -52,7 +53,8 @@ module _ {A : Type 0} (test : A → Bool) (d : A) where
       first : (a b c : ℕ) → c ≡ max a b → a ≤ c
       first a b c e = omega arith
   any-above (r ∷ rows) (suc k) h =
-      later (bit (test (getD rows k d))) (bit (test r)) (bit (anyOf test rows)) (bit (anyOf test (r ∷ rows))) (bit-or (test r) (anyOf test rows)) (any-above rows k (le-of-suc-le-suc h))
+      later (bit (test (getD rows k d))) (bit (test r)) (bit (anyOf test rows)) (bit (anyOf test (r ∷ rows))) (bit-or (test r) (anyOf test rows))
+      (any-above rows k (le-of-suc-le-suc h))
     where
       later : (x a b c : ℕ) → c ≡ max a b → x ≤ b → x ≤ c
       later x a b c e l = omega arith
@@ -61,7 +63,8 @@ module _ {A : Type 0} (test : A → Bool) (d : A) where
   unfolding anyOf
   any-least [] m f = zero-le
   any-least (r ∷ rows) m f =
-      max-least (bit (test r)) (bit (anyOf test rows)) (bit (anyOf test (r ∷ rows))) m (bit-or (test r) (anyOf test rows)) (f 0 (zero-lt-suc (length rows))) (any-least rows m (λ k l. f (suc k) (suc-le-suc l)))
+      max-least (bit (test r)) (bit (anyOf test rows)) (bit (anyOf test (r ∷ rows))) m (bit-or (test r) (anyOf test rows)) (f 0 (zero-lt-suc (length rows)))
+      (any-least rows m (λ k l. f (suc k) (suc-le-suc l)))
 
 pub weight-of-weight : (weights : List ℕ) (r : Reservation) → Weight (spillWeight weights r)
 unfolding spillWeight
@@ -77,35 +80,44 @@ module _ (test : Reservation → Bool) (weights : List ℕ) where
   where-weights [] = tt
   where-weights (r ∷ rows) = step (test r) (where-weights rows)
     where
-      step : (b : Bool) → Weights (weightsWhere test weights rows) → Weights (cond b (spillWeight weights r ∷ weightsWhere test weights rows) (weightsWhere test weights rows))
+      step : (b : Bool) → Weights (weightsWhere test weights rows) → Weights
+          (cond b (spillWeight weights r ∷ weightsWhere test weights rows) (weightsWhere test weights rows))
       step true ws = (weight-of-weight weights r, ws)
       step false ws = ws
 
-  where-next : (r : Reservation) (rows : List Reservation) → unitsOf (heaviest (weightsWhere test weights (r ∷ rows))) ≡ max (unitsOf (heaviest (weightsWhere test weights rows))) (heavy test weights r)
+  where-next : (r : Reservation) (rows : List Reservation) → unitsOf (heaviest (weightsWhere test weights (r ∷ rows)))
+      ≡ max (unitsOf (heaviest (weightsWhere test weights rows))) (heavy test weights r)
   unfolding weightsWhere
   where-next r rows = step (test r)
     where
-      step : (b : Bool) → unitsOf (heaviest (cond b (spillWeight weights r ∷ weightsWhere test weights rows) (weightsWhere test weights rows))) ≡ max (unitsOf (heaviest (weightsWhere test weights rows))) (cond b (unitsOf (spillWeight weights r)) 0)
+      step : (b : Bool) → unitsOf (heaviest (cond b (spillWeight weights r ∷ weightsWhere test weights rows) (weightsWhere test weights rows)))
+          ≡ max (unitsOf (heaviest (weightsWhere test weights rows))) (cond b (unitsOf (spillWeight weights r)) 0)
       step true = heavier-units (heaviest-weight (weightsWhere test weights rows) (where-weights rows)) (weight-of-weight weights r)
       step false = max-none (unitsOf (heaviest (weightsWhere test weights rows)))
 
-  where-above : (rows : List Reservation) (k : ℕ) → k < length rows → heavy test weights (getD rows k noReservation) ≤ unitsOf (heaviest (weightsWhere test weights rows))
+  where-above : (rows : List Reservation) (k : ℕ) → k < length rows → heavy test weights (getD rows k noReservation)
+      ≤ unitsOf (heaviest (weightsWhere test weights rows))
   where-above [] k h = absurd (not-suc-le-zero h)
-  where-above (r ∷ rows) zero h = last (unitsOf (heaviest (weightsWhere test weights rows))) (heavy test weights r) (unitsOf (heaviest (weightsWhere test weights (r ∷ rows)))) (where-next r rows)
+  where-above (r ∷ rows) zero h =
+      last (unitsOf (heaviest (weightsWhere test weights rows))) (heavy test weights r) (unitsOf (heaviest (weightsWhere test weights (r ∷ rows))))
+      (where-next r rows)
     where
       last : (a b c : ℕ) → c ≡ max a b → b ≤ c
       last a b c e = omega arith
   where-above (r ∷ rows) (suc k) h =
-      later (heavy test weights (getD rows k noReservation)) (unitsOf (heaviest (weightsWhere test weights rows))) (heavy test weights r) (unitsOf (heaviest (weightsWhere test weights (r ∷ rows)))) (where-next r rows) (where-above rows k (le-of-suc-le-suc h))
+      later (heavy test weights (getD rows k noReservation)) (unitsOf (heaviest (weightsWhere test weights rows))) (heavy test weights r)
+      (unitsOf (heaviest (weightsWhere test weights (r ∷ rows)))) (where-next r rows) (where-above rows k (le-of-suc-le-suc h))
     where
       later : (x a b c : ℕ) → c ≡ max a b → x ≤ a → x ≤ c
       later x a b c e l = omega arith
 
-  where-least : (rows : List Reservation) (m : ℕ) → ((k : ℕ) → k < length rows → heavy test weights (getD rows k noReservation) ≤ m) → unitsOf (heaviest (weightsWhere test weights rows)) ≤ m
+  where-least : (rows : List Reservation) (m : ℕ) → ((k : ℕ) → k < length rows → heavy test weights (getD rows k noReservation) ≤ m)
+      → unitsOf (heaviest (weightsWhere test weights rows)) ≤ m
   unfolding weightsWhere
   where-least [] m f = le-trans (le-of-eq zero-units) zero-le
   where-least (r ∷ rows) m f =
-      max-least (unitsOf (heaviest (weightsWhere test weights rows))) (heavy test weights r) (unitsOf (heaviest (weightsWhere test weights (r ∷ rows)))) m (where-next r rows) (where-least rows m (λ k l. f (suc k) (suc-le-suc l))) (f 0 (zero-lt-suc (length rows)))
+      max-least (unitsOf (heaviest (weightsWhere test weights rows))) (heavy test weights r) (unitsOf (heaviest (weightsWhere test weights (r ∷ rows)))) m
+      (where-next r rows) (where-least rows m (λ k l. f (suc k) (suc-le-suc l))) (f 0 (zero-lt-suc (length rows)))
 
 -- ---- the rows of a register
 abbrev pub rowOf : Reserved → ℕ → Reservation
@@ -147,33 +159,44 @@ module _ (p : Register) (t : Reserved) (s : GapSegment) where
   apart-weight : (k : ℕ) → Apart p s (rowOf t k) → weightCount p t s k ≡ 0
   unfolding weighsAgainst
   apart-weight k e =
-      ap (λ (b : Bool). cond b (unitsOf (spillWeight (t .weights) (rowOf t k))) 0) (apart-and (ofRegister p (rowOf t k)) (meets s (rowOf t k)) (eqb (rowOf t k .kind) 0) e)
+      ap (λ (b : Bool). cond b (unitsOf (spillWeight (t .weights) (rowOf t k))) 0)
+      (apart-and (ofRegister p (rowOf t k)) (meets s (rowOf t k)) (eqb (rowOf t k .kind) 0) e)
 
   -- rows that lie apart
   pub seen-none : (P : ℕ → Type 0) (m : Met) → Weight (m .heaviest) → ((k : ℕ) → P k → Apart p s (rowOf t k)) → Seen p t s P m m
   seen-none P m w e =
-      record { weight = w; fixed = top-none (bit (m .fixed)) (λ k q. apart-fixed k (e k q)); heaviest = top-none (unitsOf (m .heaviest)) (λ k q. apart-weight k (e k q)) }
+      record {
+        weight = w;
+        fixed = top-none (bit (m .fixed)) (λ k q. apart-fixed k (e k q));
+        heaviest =
+            top-none (unitsOf (m .heaviest)) (λ k q. apart-weight k (e k q));
+      }
 
   -- one row of the register more
-  looked-fixed : (k : ℕ) (m : Met) → ofRegister p (rowOf t k) ≡ true → bit (looked (t .fixedUses) (t .weights) s (rowOf t k) m .fixed) ≡ max (bit (m .fixed)) (fixedCount p t s k)
+  looked-fixed : (k : ℕ) (m : Met) → ofRegister p (rowOf t k) ≡ true → bit (looked (t .fixedUses) (t .weights) s (rowOf t k) m .fixed)
+      ≡ max (bit (m .fixed)) (fixedCount p t s k)
   unfolding looked fixedAgainst
   looked-fixed k m e =
-      step (ofRegister p (rowOf t k)) (meets s (rowOf t k)) (countsAsFixed (t .fixedUses) s (rowOf t k)) (cond (eqb (rowOf t k .kind) 0) (heavier (m .heaviest) (spillWeight (t .weights) (rowOf t k))) (m .heaviest)) e
+      step (ofRegister p (rowOf t k)) (meets s (rowOf t k)) (countsAsFixed (t .fixedUses) s (rowOf t k))
+      (cond (eqb (rowOf t k .kind) 0) (heavier (m .heaviest) (spillWeight (t .weights) (rowOf t k))) (m .heaviest)) e
     where
-      step : (a b c : Bool) (x : Float) → a ≡ true → bit (cond b (record { fixed = m .fixed || c; heaviest = x }) m .fixed) ≡ max (bit (m .fixed)) (bit (a && (b && c)))
+      step : (a b c : Bool) (x : Float) → a ≡ true → bit (cond b (record { fixed = m .fixed || c; heaviest = x }) m .fixed)
+          ≡ max (bit (m .fixed)) (bit (a && (b && c)))
       step true true c x e = bit-or (m .fixed) c
       step true false c x e = max-none (bit (m .fixed))
       step false b c x e = absurd (true≢false (sym e))
 
   looked-weight : (k : ℕ) (m : Met) → Weight (m .heaviest) → ofRegister p (rowOf t k) ≡ true
-      → Weight (looked (t .fixedUses) (t .weights) s (rowOf t k) m .heaviest) × (unitsOf (looked (t .fixedUses) (t .weights) s (rowOf t k) m .heaviest) ≡ max (unitsOf (m .heaviest)) (weightCount p t s k))
+      → Weight (looked (t .fixedUses) (t .weights) s (rowOf t k) m .heaviest)
+      × (unitsOf (looked (t .fixedUses) (t .weights) s (rowOf t k) m .heaviest) ≡ max (unitsOf (m .heaviest)) (weightCount p t s k))
   unfolding looked weighsAgainst
   looked-weight k m w e =
       step (ofRegister p (rowOf t k)) (meets s (rowOf t k)) (eqb (rowOf t k .kind) 0) (m .fixed || countsAsFixed (t .fixedUses) s (rowOf t k)) e
     where
       step : (a b c : Bool) (f : Bool) → a ≡ true
           → Weight (cond b (record { fixed = f; heaviest = cond c (heavier (m .heaviest) (spillWeight (t .weights) (rowOf t k))) (m .heaviest) }) m .heaviest)
-          × (unitsOf (cond b (record { fixed = f; heaviest = cond c (heavier (m .heaviest) (spillWeight (t .weights) (rowOf t k))) (m .heaviest) }) m .heaviest) ≡ max (unitsOf (m .heaviest)) (cond (a && (b && c)) (unitsOf (spillWeight (t .weights) (rowOf t k))) 0))
+          × (unitsOf (cond b (record { fixed = f; heaviest = cond c (heavier (m .heaviest) (spillWeight (t .weights) (rowOf t k))) (m .heaviest) }) m .heaviest)
+          ≡ max (unitsOf (m .heaviest)) (cond (a && (b && c)) (unitsOf (spillWeight (t .weights) (rowOf t k))) 0))
       step true true true f e = (heavier-weight w (weight-of-weight (t .weights) (rowOf t k)), heavier-units w (weight-of-weight (t .weights) (rowOf t k)))
       step true true false f e = (w, max-none (unitsOf (m .heaviest)))
       step true false c f e = (w, max-none (unitsOf (m .heaviest)))
@@ -190,7 +213,8 @@ module _ (p : Register) (t : Reserved) (s : GapSegment) where
       }
 
   -- all rows, where those left lie apart
-  pub seen-all : (P : ℕ → Type 0) → ((k : ℕ) → P k → All t k) → ((k : ℕ) → All t k → P k ⊎ Apart p s (rowOf t k)) → (m₀ m : Met) → Seen p t s P m₀ m → Seen p t s (All t) m₀ m
+  pub seen-all : (P : ℕ → Type 0) → ((k : ℕ) → P k → All t k) → ((k : ℕ) → All t k → P k ⊎ Apart p s (rowOf t k)) → (m₀ m : Met) → Seen p t s P m₀ m
+      → Seen p t s (All t) m₀ m
   seen-all P more only m₀ m k =
       record {
         weight = k .weight;
@@ -216,13 +240,23 @@ module _ (p : Register) (t : Reserved) (s : GapSegment) where
         weight = heavier-weight w h;
         fixed = record {
           kept = max-left (bit (m .fixed)) (bit (anyOf test (t .rows))) (bit (m .fixed || anyOf test (t .rows))) (bit (m .fixed)) b (le-refl (bit (m .fixed)));
-          above = λ k l. max-right (bit (m .fixed)) (bit (anyOf test (t .rows))) (bit (m .fixed || anyOf test (t .rows))) (fixedCount p t s k) b (any-above test noReservation (t .rows) k l);
-          least = λ n l f. max-least (bit (m .fixed)) (bit (anyOf test (t .rows))) (bit (m .fixed || anyOf test (t .rows))) n b l (any-least test noReservation (t .rows) n f);
+          above =
+              λ k l. max-right (bit (m .fixed)) (bit (anyOf test (t .rows))) (bit (m .fixed || anyOf test (t .rows))) (fixedCount p t s k) b
+              (any-above test noReservation (t .rows) k l);
+          least =
+              λ n l f. max-least (bit (m .fixed)) (bit (anyOf test (t .rows))) (bit (m .fixed || anyOf test (t .rows))) n b l
+              (any-least test noReservation (t .rows) n f);
         };
         heaviest = record {
-          kept = max-left (unitsOf (m .heaviest)) (unitsOf (heaviest ws)) (unitsOf (heavier (m .heaviest) (heaviest ws))) (unitsOf (m .heaviest)) u (le-refl (unitsOf (m .heaviest)));
-          above = λ k l. max-right (unitsOf (m .heaviest)) (unitsOf (heaviest ws)) (unitsOf (heavier (m .heaviest) (heaviest ws))) (weightCount p t s k) u (where-above (weighsAgainst p s) (t .weights) (t .rows) k l);
-          least = λ n l f. max-least (unitsOf (m .heaviest)) (unitsOf (heaviest ws)) (unitsOf (heavier (m .heaviest) (heaviest ws))) n u l (where-least (weighsAgainst p s) (t .weights) (t .rows) n f);
+          kept =
+              max-left (unitsOf (m .heaviest)) (unitsOf (heaviest ws)) (unitsOf (heavier (m .heaviest) (heaviest ws))) (unitsOf (m .heaviest)) u
+              (le-refl (unitsOf (m .heaviest)));
+          above =
+              λ k l. max-right (unitsOf (m .heaviest)) (unitsOf (heaviest ws)) (unitsOf (heavier (m .heaviest) (heaviest ws))) (weightCount p t s k) u
+              (where-above (weighsAgainst p s) (t .weights) (t .rows) k l);
+          least =
+              λ n l f. max-least (unitsOf (m .heaviest)) (unitsOf (heaviest ws)) (unitsOf (heavier (m .heaviest) (heaviest ws))) n u l
+              (where-least (weighsAgainst p s) (t .weights) (t .rows) n f);
         };
       }
 
@@ -230,7 +264,8 @@ module _ (p : Register) (t : Reserved) (s : GapSegment) where
   unfolding made
   seen-is m₀ m w k =
       let a = met-seen m₀ w in
-      ap₂ made (bit-only (m .fixed) (alsoMet p t s m₀ .fixed) (top-only (k .fixed) (a .fixed))) (units-inj (k .weight) (a .weight) (top-only (k .heaviest) (a .heaviest)))
+      ap₂ made (bit-only (m .fixed) (alsoMet p t s m₀ .fixed) (top-only (k .fixed) (a .fixed)))
+      (units-inj (k .weight) (a .weight) (top-only (k .heaviest) (a .heaviest)))
 
 -- ---- unit by unit
 -- a register of no units, and of one more
@@ -261,7 +296,8 @@ other-of u r ne = go (leb u (r .unit)) refl
 abbrev pub firstUnits : Register → ℕ → Register
 firstUnits p v = record { first = p .first; units = v }
 
-more-of : (p : Register) (v : ℕ) (r : Reservation) → ofRegister (firstUnits p (v + 1)) r ≡ (ofRegister (firstUnits p v) r || ofRegister (oneUnit (p .first .0 + v)) r)
+more-of : (p : Register) (v : ℕ) (r : Reservation) → ofRegister (firstUnits p (v + 1)) r
+    ≡ (ofRegister (firstUnits p v) r || ofRegister (oneUnit (p .first .0 + v)) r)
 unfolding ofRegister
 more-of p v r =
     go (p .first .0) (r .unit) (either-way (leb (p .first .0) (r .unit))) (split (r .unit) (p .first .0 + v)) (split (r .unit) (p .first .0 + v + 1))
@@ -299,7 +335,8 @@ module _ (p : Register) (t : Reserved) (s : GapSegment) where
   units-none m w = seen-none (firstUnits p 0) t s (All t) m w (λ k _. inl (none-of p (rowOf t k)))
 
   -- one unit more
-  pub units-more : (v : ℕ) (m₀ m : Met) → Seen (firstUnits p v) t s (All t) m₀ m → Seen (firstUnits p (v + 1)) t s (All t) m₀ (alsoMet (oneUnit (p .first .0 + v)) t s m)
+  pub units-more : (v : ℕ) (m₀ m : Met) → Seen (firstUnits p v) t s (All t) m₀ m
+      → Seen (firstUnits p (v + 1)) t s (All t) m₀ (alsoMet (oneUnit (p .first .0 + v)) t s m)
   unfolding fixedAgainst weighsAgainst
   units-more v m₀ m k =
       let u = met-seen (oneUnit (p .first .0 + v)) t s m (k .weight) in
@@ -307,10 +344,13 @@ module _ (p : Register) (t : Reserved) (s : GapSegment) where
         weight = u .weight;
         fixed = top-join (fixedCount (firstUnits p (v + 1)) t s)
             (λ i _. ap (λ (b : Bool). bit (b && (meets s (rowOf t i) && countsAsFixed (t .fixedUses) s (rowOf t i)))) (more-of p v (rowOf t i))
-            ∙ or-and (ofRegister (firstUnits p v) (rowOf t i)) (ofRegister (oneUnit (p .first .0 + v)) (rowOf t i)) (meets s (rowOf t i) && countsAsFixed (t .fixedUses) s (rowOf t i)))
+            ∙ or-and (ofRegister (firstUnits p v) (rowOf t i)) (ofRegister (oneUnit (p .first .0 + v)) (rowOf t i))
+            (meets s (rowOf t i) && countsAsFixed (t .fixedUses) s (rowOf t i)))
             (k .fixed) (u .fixed);
         heaviest = top-join (weightCount (firstUnits p (v + 1)) t s)
-            (λ i _. ap (λ (b : Bool). cond (b && (meets s (rowOf t i) && eqb (rowOf t i .kind) 0)) (unitsOf (spillWeight (t .weights) (rowOf t i))) 0) (more-of p v (rowOf t i))
-            ∙ or-weighs (ofRegister (firstUnits p v) (rowOf t i)) (ofRegister (oneUnit (p .first .0 + v)) (rowOf t i)) (meets s (rowOf t i) && eqb (rowOf t i .kind) 0) (unitsOf (spillWeight (t .weights) (rowOf t i))))
+            (λ i _. ap (λ (b : Bool). cond (b && (meets s (rowOf t i) && eqb (rowOf t i .kind) 0)) (unitsOf (spillWeight (t .weights) (rowOf t i))) 0)
+            (more-of p v (rowOf t i))
+            ∙ or-weighs (ofRegister (firstUnits p v) (rowOf t i)) (ofRegister (oneUnit (p .first .0 + v)) (rowOf t i))
+            (meets s (rowOf t i) && eqb (rowOf t i .kind) 0) (unitsOf (spillWeight (t .weights) (rowOf t i))))
             (k .heaviest) (u .heaviest);
       }

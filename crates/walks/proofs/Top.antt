@@ -34,7 +34,8 @@ top-more {count} {P} {h} {x} Q i y only more here e t =
     right x c y a e l = omega arith
 
 -- all rows, where those left count nothing
-pub top-all : {count : ℕ → ℕ} {P : ℕ → Type 0} {h x : ℕ} (Q : ℕ → Type 0) → ((k : ℕ) → P k → Q k) → ((k : ℕ) → Q k → P k ⊎ (count k ≡ 0)) → Top count P h x → Top count Q h x
+pub top-all : {count : ℕ → ℕ} {P : ℕ → Type 0} {h x : ℕ} (Q : ℕ → Type 0) → ((k : ℕ) → P k → Q k) → ((k : ℕ) → Q k → P k ⊎ (count k ≡ 0)) → Top count P h x
+    → Top count Q h x
 top-all {count} {P} {h} {x} Q more only t =
     record {
       kept = t .kept;
@@ -43,7 +44,8 @@ top-all {count} {P} {h} {x} Q more only t =
     }
 
 -- two walks over the same rows, of which each counts a part
-pub top-join : {a b : ℕ → ℕ} {P : ℕ → Type 0} {h x y : ℕ} (count : ℕ → ℕ) → ((k : ℕ) → P k → count k ≡ max (a k) (b k)) → Top a P h x → Top b P x y → Top count P h y
+pub top-join : {a b : ℕ → ℕ} {P : ℕ → Type 0} {h x y : ℕ} (count : ℕ → ℕ) → ((k : ℕ) → P k → count k ≡ max (a k) (b k)) → Top a P h x → Top b P x y
+    → Top count P h y
 top-join {a} {b} {P} {h} {x} {y} count e s t =
     record {
       kept = le-trans (s .kept) (t .kept);
@@ -58,7 +60,8 @@ top-join {a} {b} {P} {h} {x} {y} count e s t =
     right a b c m e l = omega arith
 
 -- what is built row by row is the largest of all rows below n
-pub top-built : (count whole : ℕ → ℕ) → whole 0 ≡ 0 → ((n : ℕ) → whole (suc n) ≡ max (whole n) (count n)) → (n h x : ℕ) → x ≡ max h (whole n) → Top count (λ (k : ℕ). k < n) h x
+pub top-built : (count whole : ℕ → ℕ) → whole 0 ≡ 0 → ((n : ℕ) → whole (suc n) ≡ max (whole n) (count n)) → (n h x : ℕ) → x ≡ max h (whole n)
+    → Top count (λ (k : ℕ). k < n) h x
 top-built count whole none next zero h x e =
     subst (λ (y : ℕ). Top count (λ (k : ℕ). k < 0) h y) (kept h (whole 0) x none e) (top-none h (λ k l. absurd (not-suc-le-zero l)))
   where

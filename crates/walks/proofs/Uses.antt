@@ -79,7 +79,8 @@ count-from test a (suc d) p q =
     one : (d : ℕ) → d + 1 ≡ suc d
     one d = omega arith
 
-module _ (fixedUses : List FixedUse) (ordered : OrderedUses fixedUses) (r : Reservation) (s : GapSegment) (from : ℕ) (begin : UsesFrom fixedUses (r .unit) from) where
+module _ (fixedUses : List FixedUse) (ordered : OrderedUses fixedUses) (r : Reservation) (s : GapSegment) (from : ℕ)
+    (begin : UsesFrom fixedUses (r .unit) from) where
   -- a fixed use's row number within the unit
   number : (j : ℕ) → from ≤ j → j < length fixedUses → getD fixedUses j noFixedUse .unit ≡ r .unit → rowNumber fixedUses (r .unit) j ≡ j - from
   unfolding rowNumber
@@ -89,7 +90,8 @@ module _ (fixedUses : List FixedUse) (ordered : OrderedUses fixedUses) (r : Rese
       ap (countBelow test) (joined from j h)
       ∙ count-from test from d
       (λ k m. ne-eqb (getD fixedUses k noFixedUse .unit) (r .unit) (lt-ne (begin .before k m)))
-      (λ k m q. eq-eqb (getD fixedUses k noFixedUse .unit) (r .unit) (between-same (begin .later k m (inner from j k h q l)) (ordered .units k j (upto from j k h q) l) e))
+      (λ k m q. eq-eqb (getD fixedUses k noFixedUse .unit) (r .unit)
+      (between-same (begin .later k m (inner from j k h q l)) (ordered .units k j (upto from j k h q) l) e))
     where
       joined : (a b : ℕ) → a ≤ b → b ≡ a + (b - a)
       joined a b h = omega arith
@@ -104,8 +106,10 @@ module _ (fixedUses : List FixedUse) (ordered : OrderedUses fixedUses) (r : Rese
   other-unit : (j : ℕ) → (getD fixedUses j noFixedUse .unit ≡ r .unit → ⊥) → useCounts fixedUses s r j ≡ false
   unfolding useCounts
   other-unit j h =
-      and-first (eqb (getD fixedUses j noFixedUse .unit) (r .unit) && leb (r .fixed) (rowNumber fixedUses (r .unit) j)) (clashes s (getD fixedUses j noFixedUse))
-      (and-first (eqb (getD fixedUses j noFixedUse .unit) (r .unit)) (leb (r .fixed) (rowNumber fixedUses (r .unit) j)) (ne-eqb (getD fixedUses j noFixedUse .unit) (r .unit) h))
+      and-first (eqb (getD fixedUses j noFixedUse .unit) (r .unit) && leb (r .fixed) (rowNumber fixedUses (r .unit) j))
+      (clashes s (getD fixedUses j noFixedUse))
+      (and-first (eqb (getD fixedUses j noFixedUse .unit) (r .unit)) (leb (r .fixed) (rowNumber fixedUses (r .unit) j))
+      (ne-eqb (getD fixedUses j noFixedUse .unit) (r .unit) h))
 
   -- what holds of those of the unit, and of all others, holds
   by-unit : (j : ℕ) → (getD fixedUses j noFixedUse .unit ≡ r .unit → useCounts fixedUses s r j ≡ false) → useCounts fixedUses s r j ≡ false
@@ -116,7 +120,9 @@ module _ (fixedUses : List FixedUse) (ordered : OrderedUses fixedUses) (r : Rese
   -- one that does not clash does not count
   pub no-clash : (j : ℕ) → clashes s (getD fixedUses j noFixedUse) ≡ false → useCounts fixedUses s r j ≡ false
   unfolding useCounts
-  no-clash j e = and-right-false (eqb (getD fixedUses j noFixedUse .unit) (r .unit) && leb (r .fixed) (rowNumber fixedUses (r .unit) j)) (clashes s (getD fixedUses j noFixedUse)) e
+  no-clash j e =
+      and-right-false (eqb (getD fixedUses j noFixedUse .unit) (r .unit) && leb (r .fixed) (rowNumber fixedUses (r .unit) j))
+      (clashes s (getD fixedUses j noFixedUse)) e
 
   -- before the fixed row none counts
   pub too-early : (j : ℕ) → j < from + r .fixed → j < length fixedUses → useCounts fixedUses s r j ≡ false
@@ -124,7 +130,8 @@ module _ (fixedUses : List FixedUse) (ordered : OrderedUses fixedUses) (r : Rese
   too-early j h l =
       ⊎-elim (λ b. other-unit j (lt-ne (begin .before j b)))
       (λ b. by-unit j (λ e.
-      and-first (eqb (getD fixedUses j noFixedUse .unit) (r .unit) && leb (r .fixed) (rowNumber fixedUses (r .unit) j)) (clashes s (getD fixedUses j noFixedUse))
+      and-first (eqb (getD fixedUses j noFixedUse .unit) (r .unit) && leb (r .fixed) (rowNumber fixedUses (r .unit) j))
+      (clashes s (getD fixedUses j noFixedUse))
       (and-right-false (eqb (getD fixedUses j noFixedUse .unit) (r .unit)) (leb (r .fixed) (rowNumber fixedUses (r .unit) j))
       (lt-leb (r .fixed) (rowNumber fixedUses (r .unit) j) (less from j (r .fixed) (rowNumber fixedUses (r .unit) j) b h (number j b l e))))))
       (split j from)
@@ -133,12 +140,15 @@ module _ (fixedUses : List FixedUse) (ordered : OrderedUses fixedUses) (r : Rese
       less a j f x p q e = omega arith
 
   -- from there on one of the unit counts that clashes
-  pub one-counts : (j : ℕ) → from + r .fixed ≤ j → j < length fixedUses → getD fixedUses j noFixedUse .unit ≡ r .unit → clashes s (getD fixedUses j noFixedUse) ≡ true → useCounts fixedUses s r j ≡ true
+  pub one-counts : (j : ℕ) → from + r .fixed ≤ j → j < length fixedUses → getD fixedUses j noFixedUse .unit ≡ r .unit
+      → clashes s (getD fixedUses j noFixedUse) ≡ true → useCounts fixedUses s r j ≡ true
   unfolding useCounts
   one-counts j h l e t =
       and-true (eqb (getD fixedUses j noFixedUse .unit) (r .unit) && leb (r .fixed) (rowNumber fixedUses (r .unit) j)) (clashes s (getD fixedUses j noFixedUse))
-      (and-true (eqb (getD fixedUses j noFixedUse .unit) (r .unit)) (leb (r .fixed) (rowNumber fixedUses (r .unit) j)) (eq-eqb (getD fixedUses j noFixedUse .unit) (r .unit) e)
-      (le-leb (r .fixed) (rowNumber fixedUses (r .unit) j) (more from j (r .fixed) (rowNumber fixedUses (r .unit) j) h (number j (past from (r .fixed) j h) l e))))
+      (and-true (eqb (getD fixedUses j noFixedUse .unit) (r .unit)) (leb (r .fixed) (rowNumber fixedUses (r .unit) j))
+      (eq-eqb (getD fixedUses j noFixedUse .unit) (r .unit) e)
+      (le-leb (r .fixed) (rowNumber fixedUses (r .unit) j) (more from j (r .fixed) (rowNumber fixedUses (r .unit) j) h
+      (number j (past from (r .fixed) j h) l e))))
       t
     where
       past : (a f j : ℕ) → a + f ≤ j → a ≤ j
@@ -155,8 +165,11 @@ module _ (fixedUses : List FixedUse) (ordered : OrderedUses fixedUses) (r : Rese
       inner : (i j : ℕ) → i ≤ j → j < length fixedUses → i < length fixedUses
       inner i j p q = omega arith
 
-  pub past-point : (i j : ℕ) → i ≤ j → j < length fixedUses → getD fixedUses i noFixedUse .unit ≡ r .unit → s .to .0 ≤ getD fixedUses i noFixedUse .point → useCounts fixedUses s r j ≡ false
+  pub past-point : (i j : ℕ) → i ≤ j → j < length fixedUses → getD fixedUses i noFixedUse .unit ≡ r .unit → s .to .0 ≤ getD fixedUses i noFixedUse .point
+      → useCounts fixedUses s r j ≡ false
   unfolding clashes
   past-point i j m l e p =
-      by-unit j (λ f. no-clash j (and-first (ltb (getD fixedUses j noFixedUse .point) (s .to .0) && ltb (s .from .0) (getD fixedUses j noFixedUse .point + 2)) (not (eqb (getD fixedUses j noFixedUse .value) (s .value .0)))
-      (and-first (ltb (getD fixedUses j noFixedUse .point) (s .to .0)) (ltb (s .from .0) (getD fixedUses j noFixedUse .point + 2)) (le-ltb (getD fixedUses j noFixedUse .point) (s .to .0) (le-trans p (ordered .points i j m l (e ∙ sym f)))))))
+      by-unit j (λ f. no-clash j (and-first (ltb (getD fixedUses j noFixedUse .point) (s .to .0) && ltb (s .from .0) (getD fixedUses j noFixedUse .point + 2))
+      (not (eqb (getD fixedUses j noFixedUse .value) (s .value .0)))
+      (and-first (ltb (getD fixedUses j noFixedUse .point) (s .to .0)) (ltb (s .from .0) (getD fixedUses j noFixedUse .point + 2))
+      (le-ltb (getD fixedUses j noFixedUse .point) (s .to .0) (le-trans p (ordered .points i j m l (e ∙ sym f)))))))

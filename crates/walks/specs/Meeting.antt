@@ -99,7 +99,10 @@ alsoMet p t s m = record { fixed = m .fixed || fixedMet p t s; heaviest = heavie
 unfoldable pub looked : List FixedUse → List ℕ → GapSegment → Reservation → Met → Met
 looked fixedUses weights s r m =
     cond (meets s r)
-    (record { fixed = m .fixed || countsAsFixed fixedUses s r; heaviest = cond (eqb (r .kind) 0) (heavier (m .heaviest) (spillWeight weights r)) (m .heaviest) })
+    (record {
+      fixed = m .fixed || countsAsFixed fixedUses s r;
+      heaviest = cond (eqb (r .kind) 0) (heavier (m .heaviest) (spillWeight weights r)) (m .heaviest);
+    })
     m
 
 -- a register of one unit

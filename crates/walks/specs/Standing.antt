@@ -15,12 +15,14 @@ use Rattle.walks.specs.Meeting.{Reserved}
 pub record OrderedRows (rows : List Reservation) : Type 0 where
   pub units : (i k : ℕ) → i ≤ k → k < length rows → getD rows i noReservation .unit ≤ getD rows k noReservation .unit
   pub nonempty : (k : ℕ) → k < length rows → getD rows k noReservation .start < getD rows k noReservation .end
-  pub apart : (i k : ℕ) → i < k → k < length rows → getD rows i noReservation .unit ≡ getD rows k noReservation .unit → getD rows i noReservation .end ≤ getD rows k noReservation .start
+  pub apart : (i k : ℕ) → i < k → k < length rows → getD rows i noReservation .unit ≡ getD rows k noReservation .unit
+      → getD rows i noReservation .end ≤ getD rows k noReservation .start
 
 -- fixed uses as line 11 leaves them: units do not fall, nor points within a unit
 pub record OrderedUses (fixedUses : List FixedUse) : Type 0 where
   pub units : (i k : ℕ) → i ≤ k → k < length fixedUses → getD fixedUses i noFixedUse .unit ≤ getD fixedUses k noFixedUse .unit
-  pub points : (i k : ℕ) → i ≤ k → k < length fixedUses → getD fixedUses i noFixedUse .unit ≡ getD fixedUses k noFixedUse .unit → getD fixedUses i noFixedUse .point ≤ getD fixedUses k noFixedUse .point
+  pub points : (i k : ℕ) → i ≤ k → k < length fixedUses → getD fixedUses i noFixedUse .unit ≡ getD fixedUses k noFixedUse .unit
+      → getD fixedUses i noFixedUse .point ≤ getD fixedUses k noFixedUse .point
 
 -- both, and each kind 0 row has a spill weight
 pub record Ready (t : Reserved) : Type 0 where

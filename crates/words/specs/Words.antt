@@ -7,15 +7,15 @@ use Rattle.numbers.specs.declared.MaybeInst.{MaybeInst}
 use Rattle.numbers.specs.declared.MaybeInst.the-variants as MaybeInst·is
 use Rattle.links.specs.declared.split.SplitPoint.{SplitPoint}
 use Rattle.links.specs.declared.split.SplitPoint.the-variants as SplitPoint·is
-use Rattle.region.specs.declared.proposal.SplitProposal.{SplitProposal}
+use Rattle.growth.specs.declared.proposal.SplitProposal.{SplitProposal}
 use Rattle.refusals.specs.Job.{Job}
 use Rattle.filling.specs.declared.lent.Rooms.{Rooms}
 use Rattle.proposer.specs.Answer.{answerOf}
 use Rattle.filling.specs.SourceTables.{WorkColumns, roomsOf, FilledBy}
 use Rattle.tables.specs.JobTables.{tablesOf}
-use Rattle.proposer.specs.declared.propose.Answer.{Answer}
-use Rattle.proposer.specs.declared.propose.Answer.the-variants as Answer·is
-use Rattle.proposer.specs.declared.propose.Proposed.{Proposed}
+use Rattle.outcome.specs.declared.grow.Answer.{Answer}
+use Rattle.outcome.specs.declared.grow.Answer.the-variants as Answer·is
+use Rattle.outcome.specs.declared.grow.Proposed.{Proposed}
 use Rattle.numbers.specs.Weight.{bitsShown}
 
 -- an end of a proposal; an absent one is 4294967295

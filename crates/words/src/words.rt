@@ -1,10 +1,10 @@
 // Answers as words.
+use growth::proposal::SplitProposal;
 use links::split::SplitPoint;
 use numbers::MaybeInst;
 use numbers::weights::bits_shown;
-use proposer::propose::Answer;
-use proposer::propose::Proposed;
-use region::proposal::SplitProposal;
+use outcome::grow::Answer;
+use outcome::grow::Proposed;
 ghost use mathlib.Core.Path.{_≡_};
 ghost use Rattle.numbers.specs.Weight.{bitsShown};
 ghost use Rattle.words.specs.Words.{endWord, proposalWords, answerWords, proposedWords, splitPointWords};
@@ -58,13 +58,13 @@ fn answer_words(a: Answer) -> [u64; 7]
     }
 }
 
-// Puts what a job is answered: the answer, and the rows used of the use table, of the gaps and of the gap segments.
-pub fn put_proposed(proposed: Proposed, words: &mut [u64; 10])
-    ensures { λ _. ⌜ now (words .exit) ≡ proposedWords proposed ⌝ }
+// What a job is answered: the answer, and the rows used of the use table, of the gaps and of the gap segments.
+pub fn proposed_words(proposed: Proposed) -> [u64; 10]
+    ensures { λ r. ⌜ r ≡ proposedWords proposed ⌝ }
 {
     let a = proposed.answer;
     let w = answer_words(a);
-    *words = [
+    [
         w[0],
         w[1],
         w[2],
@@ -75,19 +75,15 @@ pub fn put_proposed(proposed: Proposed, words: &mut [u64; 10])
         proposed.uses as u64,
         proposed.gaps as u64,
         proposed.gap_segments as u64,
-    ];
+    ]
 }
 
-// Puts a split point or a refusal.
-pub fn put_split_point(point: SplitPoint, words: &mut [u64; 3])
-    ensures { λ _. ⌜ now (words .exit) ≡ splitPointWords point ⌝ }
+// A split point or a refusal.
+pub fn split_point_words(point: SplitPoint) -> [u64; 3]
+    ensures { λ r. ⌜ r ≡ splitPointWords point ⌝ }
 {
     match point {
-        SplitPoint::At(i) => {
-            *words = [0, i.0 as u64, 0];
-        }
-        SplitPoint::Refused(r) => {
-            *words = [1, r.number as u64, r.place as u64];
-        }
+        SplitPoint::At(i) => [0, i.0 as u64, 0],
+        SplitPoint::Refused(r) => [1, r.number as u64, r.place as u64],
     }
 }

@@ -29,7 +29,8 @@ use Rattle.gaps.specs.Gaps.{Gap, gapsOf, initialGap, usesIn, Cuttable}
 use Rattle.gaps.proofs.JobGaps.{tableColumns, uses-in, job-cuttable}
 use Rattle.filling.specs.UseTables.{FromBits, bestOf, UsesFilled}
 use Rattle.filling.specs.GapTables.{GapTables, lentTables, GapRoom, GapsFilled, CutInside}
-use Rattle.filling.specs.SourceTables.{SourceColumns, blocksIn, sourceIn, startsOf, stopsOf, valuesOf, gapsFrom, segmentsFrom, freqsOf, Tables, tablesOfBest, WorkColumns, workColumns, roomsOf, Roomy, FilledBy}
+use Rattle.filling.specs.SourceTables.{SourceColumns, blocksIn, sourceIn, startsOf, stopsOf, valuesOf, gapsFrom, segmentsFrom, freqsOf, Tables, tablesOfBest}
+use Rattle.filling.specs.SourceTables.{WorkColumns, workColumns, roomsOf, Roomy, FilledBy}
 use Rattle.filling.proofs.UseFilling.{scales-of}
 use Rattle.filling.proofs.SourceTables.{source-valued, source-gap-room}
 use Rattle.work.specs.FilledFrom.{filledOfBest, IsFilledFrom}
@@ -37,7 +38,8 @@ use Rattle.work.specs.declared.fill.FilledTables.{FilledTables}
 use Rattle.work.specs.declared.fill.FilledTables.the-variants as FilledTables·is
 
 -- ---- the columns of a checked job
-module _ (c : SourceColumns) (scales : RematScales) (lent : WorkColumns) (w : SoundColumns (c .freqs) (c .firsts) (c .ends)) (checked : CheckedUses (sourceIn c scales)) (bits : FromBits scales)
+module _ (c : SourceColumns) (scales : RematScales) (lent : WorkColumns) (w : SoundColumns (c .freqs) (c .firsts) (c .ends))
+    (checked : CheckedUses (sourceIn c scales)) (bits : FromBits scales)
     (roomy : Roomy (length (sourceIn c scales .uses)) (length (sourceIn c scales .blocks)) (length (sourceIn c scales .segments)) (roomsOf lent)) where
   abbrev source : Source
   source = sourceIn c scales
@@ -63,19 +65,24 @@ module _ (c : SourceColumns) (scales : RematScales) (lent : WorkColumns) (w : So
 
   -- ---- after it
   module _ (prevs nexts : List ℕ) (cols : UseColumns) (rows : ℕ) (best : BestUse)
-      (done : UsesFilled (sourceIn c scales) (c .freqs) (lent .prevs) (lent .nexts) (useColumns (lent .insts) (lent .mains) (lent .lefts) (lent .rights)) prevs nexts cols rows best) where
-    links-filled : (side : Side) (lent-links : List ℕ) {now : List ℕ} → now ≡ filled (linkColumn side (c .freqs)) lent-links → now ≡ filled (linkColumn side (freqsOf source)) lent-links
+      (done : UsesFilled (sourceIn c scales) (c .freqs) (lent .prevs) (lent .nexts) (useColumns (lent .insts) (lent .mains) (lent .lefts) (lent .rights)) prevs
+      nexts cols rows best) where
+    links-filled : (side : Side) (lent-links : List ℕ) {now : List ℕ} → now ≡ filled (linkColumn side (c .freqs)) lent-links
+        → now ≡ filled (linkColumn side (freqsOf source)) lent-links
     links-filled side lent-links {now} p = p ∙ ap (λ (f : List ℕ). filled (linkColumn side f) lent-links) (sym freqs-are)
 
     -- no best use
     pub none-filled : best ≡ BestUse·is.Nothing
-        → IsFilledFrom (sourceIn c scales) lent (workColumns prevs nexts (cols .insts) (cols .mains) (cols .lefts) (cols .rights) (lent .froms) (lent .tos) (lent .weights) (lent .lives) (lent .freqs) (lent .out-froms) (lent .out-tos) (lent .out-values) (lent .out-gaps)) (FilledTables·is.NoBestUse rows)
+        → IsFilledFrom (sourceIn c scales) lent (workColumns prevs nexts (cols .insts) (cols .mains) (cols .lefts) (cols .rights) (lent .froms) (lent .tos)
+        (lent .weights) (lent .lives) (lent .freqs) (lent .out-froms) (lent .out-tos) (lent .out-values) (lent .out-gaps)) (FilledTables·is.NoBestUse rows)
     none-filled n =
         let u = done .uses .cols in
         let b : BestUse·is.Nothing ≡ bestOf source = sym n ∙ done .found in
         record {
           answer = ap FilledTables·is.NoBestUse (done .uses .count) ∙ ap (filledOfBest source) b;
-          tables = subst (λ (t : Tables). FilledBy t lent (workColumns prevs nexts (cols .insts) (cols .mains) (cols .lefts) (cols .rights) (lent .froms) (lent .tos) (lent .weights) (lent .lives) (lent .freqs) (lent .out-froms) (lent .out-tos) (lent .out-values) (lent .out-gaps))) (ap (tablesOfBest source) b)
+          tables =
+              subst (λ (t : Tables). FilledBy t lent (workColumns prevs nexts (cols .insts) (cols .mains) (cols .lefts) (cols .rights) (lent .froms) (lent .tos)
+              (lent .weights) (lent .lives) (lent .freqs) (lent .out-froms) (lent .out-tos) (lent .out-values) (lent .out-gaps))) (ap (tablesOfBest source) b)
               (record {
                 prev = links-filled Previous (lent .prevs) (done .prev);
                 next = links-filled Next (lent .nexts) (done .next);
@@ -108,7 +115,8 @@ module _ (c : SourceColumns) (scales : RematScales) (lent : WorkColumns) (w : So
 
       -- the columns cut to their rows
       prevs-cut : take (length (c .freqs)) prevs ≡ linkColumn Previous (c .freqs)
-      prevs-cut = filled-cut (linkColumn Previous (c .freqs)) (lent .prevs) (done .prev) (sym (table-length (lowerLink Previous (c .freqs)) (length (c .freqs))))
+      prevs-cut =
+          filled-cut (linkColumn Previous (c .freqs)) (lent .prevs) (done .prev) (sym (table-length (lowerLink Previous (c .freqs)) (length (c .freqs))))
 
       nexts-cut : take (length (c .freqs)) nexts ≡ linkColumn Next (c .freqs)
       nexts-cut = filled-cut (linkColumn Next (c .freqs)) (lent .nexts) (done .next) (sym (table-length (lowerLink Next (c .freqs)) (length (c .freqs))))
@@ -145,13 +153,15 @@ module _ (c : SourceColumns) (scales : RematScales) (lent : WorkColumns) (w : So
       segment-inside : (k : ℕ) → k < length lengths → length (source .segments) ≤ getD lengths k 0
       segment-inside k h = le-trans (le-of-eq segments-long) (shortest-at-most lengths k h)
 
-      segment-cut : (of : Segment → ℕ) (column : List ℕ) → ((i : ℕ) → of (rowAt i) ≡ getD column i 0) → length (source .segments) ≤ length column → take (length (source .segments)) column ≡ map of (source .segments)
+      segment-cut : (of : Segment → ℕ) (column : List ℕ) → ((i : ℕ) → of (rowAt i) ≡ getD column i 0) → length (source .segments) ≤ length column
+          → take (length (source .segments)) column ≡ map of (source .segments)
       segment-cut of column is h =
           cut-table column (length (source .segments)) 0 h ∙ ap (table (λ (k : ℕ). getD column k 0)) segments-long
           ∙ sym (table-map of rowAt (shortest lengths) ∙ table-same (λ (k : ℕ). of (rowAt k)) (λ (k : ℕ). getD column k 0) (shortest lengths) (λ k _. is k))
 
       -- rows of the columns now
-      module _ {A : Type 0} (field : SplitUse → A) (column : UseColumns → List A) (is : column cols ≡ filled (map field (useTableOf source)) (column lentUses)) (room : length (source .uses) + 1 < length (column lentUses)) where
+      module _ {A : Type 0} (field : SplitUse → A) (column : UseColumns → List A) (is : column cols ≡ filled (map field (useTableOf source)) (column lentUses))
+          (room : length (source .uses) + 1 < length (column lentUses)) where
         rows-inside : rows ≤ length (column cols)
         rows-inside =
             let f = uses-few in
@@ -161,7 +171,8 @@ module _ (c : SourceColumns) (scales : RematScales) (lent : WorkColumns) (w : So
             let d = done .uses .count in
             omega (arith, f, m, room, a, l, d)
 
-      pub cut-inside : (segments : ℕ) → segments ≡ length (sourceIn c scales .segments) → CutInside rows cols (length (c .freqs)) prevs nexts segments (c .starts) (c .stops) (c .values)
+      pub cut-inside : (segments : ℕ) → segments ≡ length (sourceIn c scales .segments)
+          → CutInside rows cols (length (c .freqs)) prevs nexts segments (c .starts) (c .stops) (c .values)
       cut-inside segments e =
           let u = done .uses .cols in
           let r = uses-room in
@@ -177,17 +188,21 @@ module _ (c : SourceColumns) (scales : RematScales) (lent : WorkColumns) (w : So
             value = le-trans (le-of-eq e) (segment-inside 2 (omega arith));
           }
         where
-          link-inside : (side : Side) (lent-links : List ℕ) {now : List ℕ} → length (c .freqs) ≤ length lent-links → now ≡ filled (linkColumn side (c .freqs)) lent-links → length (c .freqs) ≤ length now
+          link-inside : (side : Side) (lent-links : List ℕ) {now : List ℕ} → length (c .freqs) ≤ length lent-links
+              → now ≡ filled (linkColumn side (c .freqs)) lent-links → length (c .freqs) ≤ length now
           link-inside side lent-links room is =
               let t = table-length (lowerLink side (c .freqs)) (length (c .freqs)) in
               let a = ap length is in
               let l = filled-long (linkColumn side (c .freqs)) lent-links (le-trans (le-of-eq t) room) in
               omega (arith, room, a, l)
 
-      pub cut-cuttable : Cuttable (c .freqs) (c .firsts) (c .ends) (take (length (c .freqs)) prevs) (take (length (c .freqs)) nexts) (useColumns (take rows (cols .insts)) (take rows (cols .mains)) (take rows (cols .lefts)) (take rows (cols .rights))) b
+      pub cut-cuttable : Cuttable (c .freqs) (c .firsts) (c .ends) (take (length (c .freqs)) prevs) (take (length (c .freqs)) nexts)
+          (useColumns (take rows (cols .insts)) (take rows (cols .mains)) (take rows (cols .lefts)) (take rows (cols .rights))) b
       cut-cuttable =
-          subst (λ (u : UseColumns). Cuttable (c .freqs) (c .firsts) (c .ends) (take (length (c .freqs)) prevs) (take (length (c .freqs)) nexts) u b) (sym cols-cut)
-          (job-cuttable source checked (w .sound) (c .freqs) (c .firsts) (c .ends) (take (length (c .freqs)) prevs) (take (length (c .freqs)) nexts) w refl prevs-cut nexts-cut b b-inside)
+          subst (λ (u : UseColumns). Cuttable (c .freqs) (c .firsts) (c .ends) (take (length (c .freqs)) prevs) (take (length (c .freqs)) nexts) u b)
+          (sym cols-cut)
+          (job-cuttable source checked (w .sound) (c .freqs) (c .firsts) (c .ends) (take (length (c .freqs)) prevs) (take (length (c .freqs)) nexts) w refl
+          prevs-cut nexts-cut b b-inside)
 
       -- what is said of the cut columns is said of the job
       module _ (segments : ℕ) (se : segments ≡ length (sourceIn c scales .segments)) where
@@ -201,35 +216,53 @@ module _ (c : SourceColumns) (scales : RematScales) (lent : WorkColumns) (w : So
         v-cut = ap (λ (n : ℕ). take n (c .values)) se ∙ segment-cut (λ s. s .value) (c .values) (λ i. refl) (segment-inside 2 (omega arith))
 
         -- of gaps, starts, ends and values
-        same : (P : List Gap → List ℕ → List ℕ → List ℕ → Type 0) → P (gapsFrom source b) (startsOf source) (stopsOf source) (valuesOf source) ≡ P (gapsOf (blocksIn c) (usesIn cut) b) (take segments (c .starts)) (take segments (c .stops)) (take segments (c .values))
+        same : (P : List Gap → List ℕ → List ℕ → List ℕ → Type 0) → P (gapsFrom source b) (startsOf source) (stopsOf source) (valuesOf source)
+            ≡ P (gapsOf (blocksIn c) (usesIn cut) b) (take segments (c .starts)) (take segments (c .stops)) (take segments (c .values))
         same P = λ i. P (sym gaps-cut i) (sym s-cut i) (sym e-cut i) (sym v-cut i)
 
         pub cut-valued : Valued (take segments (c .starts)) (take segments (c .stops)) (take segments (c .values))
         cut-valued = subst (λ (X : Type 0). X) (same (λ g s e v. Valued s e v)) (source-valued source checked (w .sound))
 
         abbrev lentGaps : GapTables
-        lentGaps = lentTables (lent .froms) (lent .tos) (lent .weights) (lent .lives) (lent .freqs) (lent .out-froms) (lent .out-tos) (lent .out-values) (lent .out-gaps)
+        lentGaps =
+            lentTables (lent .froms) (lent .tos) (lent .weights) (lent .lives) (lent .freqs) (lent .out-froms) (lent .out-tos) (lent .out-values)
+            (lent .out-gaps)
 
-        pub cut-room : GapRoom (gapsOf (blocksIn c) (usesIn (useColumns (take rows (cols .insts)) (take rows (cols .mains)) (take rows (cols .lefts)) (take rows (cols .rights)))) b) (take segments (c .starts)) (take segments (c .stops)) (take segments (c .values))
-            (lentTables (lent .froms) (lent .tos) (lent .weights) (lent .lives) (lent .freqs) (lent .out-froms) (lent .out-tos) (lent .out-values) (lent .out-gaps))
+        pub cut-room : GapRoom
+            (gapsOf (blocksIn c) (usesIn (useColumns (take rows (cols .insts)) (take rows (cols .mains)) (take rows (cols .lefts)) (take rows (cols .rights))))
+            b) (take segments (c .starts)) (take segments (c .stops)) (take segments (c .values))
+            (lentTables (lent .froms) (lent .tos) (lent .weights) (lent .lives) (lent .freqs) (lent .out-froms) (lent .out-tos) (lent .out-values)
+            (lent .out-gaps))
         cut-room = subst (λ (X : Type 0). X) (same (λ g s e v. GapRoom g s e v lentGaps)) (source-gap-room source checked (w .sound) b b-inside lent roomy)
 
         -- ---- after it
         pub all-filled : (now : GapTables) (n m initial : ℕ)
-            → GapsFilled (gapsOf (blocksIn c) (usesIn (useColumns (take rows (cols .insts)) (take rows (cols .mains)) (take rows (cols .lefts)) (take rows (cols .rights)))) b) (take segments (c .starts)) (take segments (c .stops)) (take segments (c .values))
-            (lentTables (lent .froms) (lent .tos) (lent .weights) (lent .lives) (lent .freqs) (lent .out-froms) (lent .out-tos) (lent .out-values) (lent .out-gaps)) now n m
-            → initial ≡ initialGap (blocksIn c) (usesIn (useColumns (take rows (cols .insts)) (take rows (cols .mains)) (take rows (cols .lefts)) (take rows (cols .rights)))) b
-            → IsFilledFrom (sourceIn c scales) lent (workColumns prevs nexts (cols .insts) (cols .mains) (cols .lefts) (cols .rights) (now .froms) (now .tos) (now .weights) (now .lives) (now .freqs) (now .out-froms) (now .out-tos) (now .out-values) (now .out-gaps))
+            → GapsFilled (gapsOf (blocksIn c)
+            (usesIn (useColumns (take rows (cols .insts)) (take rows (cols .mains)) (take rows (cols .lefts)) (take rows (cols .rights)))) b)
+            (take segments (c .starts)) (take segments (c .stops)) (take segments (c .values))
+            (lentTables (lent .froms) (lent .tos) (lent .weights) (lent .lives) (lent .freqs) (lent .out-froms) (lent .out-tos) (lent .out-values)
+            (lent .out-gaps)) now n m
+            → initial ≡ initialGap (blocksIn c)
+            (usesIn (useColumns (take rows (cols .insts)) (take rows (cols .mains)) (take rows (cols .lefts)) (take rows (cols .rights)))) b
+            → IsFilledFrom (sourceIn c scales) lent (workColumns prevs nexts (cols .insts) (cols .mains) (cols .lefts) (cols .rights) (now .froms) (now .tos)
+            (now .weights) (now .lives) (now .freqs) (now .out-froms) (now .out-tos) (now .out-values) (now .out-gaps))
             (FilledTables·is.Ready (record { uses = rows; gaps = n; «gap_segments» = m; own = initial }))
         all-filled now n m initial raw own-raw =
             let u = done .uses .cols in
-            let d : GapsFilled (gapsFrom source b) (startsOf source) (stopsOf source) (valuesOf source) lentGaps now n m = subst (λ (X : Type 0). X) (sym (same (λ g s e v. GapsFilled g s e v lentGaps now n m))) raw in
-            let own : initial ≡ initialGap (source .blocks) (useTableOf source) b = own-raw ∙ ap (λ (x : List SplitUse). initialGap (blocksIn c) x b) uses-cut in
+            let d : GapsFilled (gapsFrom source b) (startsOf source) (stopsOf source) (valuesOf source) lentGaps now n m =
+            subst (λ (X : Type 0). X) (sym (same (λ g s e v. GapsFilled g s e v lentGaps now n m))) raw in
+            let own : initial ≡ initialGap (source .blocks) (useTableOf source) b = own-raw
+            ∙ ap (λ (x : List SplitUse). initialGap (blocksIn c) x b) uses-cut in
             let rows-are = done .uses .count in
             let k : BestUse·is.At b ≡ bestOf source = sym best-is in
             record {
-              answer = (λ i. FilledTables·is.Ready (record { uses = rows-are i; gaps = d .count i; «gap_segments» = d .segment-count i; own = own i })) ∙ ap (filledOfBest source) k;
-              tables = subst (λ (t : Tables). FilledBy t lent (workColumns prevs nexts (cols .insts) (cols .mains) (cols .lefts) (cols .rights) (now .froms) (now .tos) (now .weights) (now .lives) (now .freqs) (now .out-froms) (now .out-tos) (now .out-values) (now .out-gaps))) (ap (tablesOfBest source) k)
+              answer =
+                  (λ i. FilledTables·is.Ready (record { uses = rows-are i; gaps = d .count i; «gap_segments» = d .segment-count i; own = own i }))
+                  ∙ ap (filledOfBest source) k;
+              tables =
+                  subst (λ (t : Tables). FilledBy t lent (workColumns prevs nexts (cols .insts) (cols .mains) (cols .lefts) (cols .rights) (now .froms)
+                  (now .tos) (now .weights) (now .lives) (now .freqs) (now .out-froms) (now .out-tos) (now .out-values) (now .out-gaps)))
+                  (ap (tablesOfBest source) k)
                   (record {
                     prev = links-filled Previous (lent .prevs) (done .prev);
                     next = links-filled Next (lent .nexts) (done .next);

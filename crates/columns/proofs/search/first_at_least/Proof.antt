@@ -89,7 +89,8 @@ ended col lo hi x base size r b h e = by (by-test (getD col base 0) x r e)
         record {
           from = omega arith;
           to = omega arith;
-          passed = λ k u v. lt-leb x (getD col k 0) (elim (upto k base r v q) [ inl w ↦ subst (λ (y : ℕ). getD col y 0 < x) (sym w) p | inr w ↦ b .passed k u w ]);
+          passed =
+              λ k u v. lt-leb x (getD col k 0) (elim (upto k base r v q) [ inl w ↦ subst (λ (y : ℕ). getD col y 0 < x) (sym w) p | inr w ↦ b .passed k u w ]);
           found = λ u. le-leb x (getD col (base + r) 0) (b .reached (base + r) (omega arith) u);
         }
     by (is-not p q) =

@@ -7,31 +7,69 @@ use Rattle.filling.proofs.gap_tables.fill_gap_tables.Statement.{stateme
 use Rattle.filling.proofs.gap_tables.fill_gap_tables.Tie as tie
 
 slice-aggregate-fill-gaps : tie.Need-slice-aggregate-fill-gaps
-slice-aggregate-fill-gaps c = let a = c .before .before .before .before .before .before .before .before .before .before .before .before .before .before .before .before .before .before .before .before .before .before .args in sym (length-take-le (a .rows) (a .inst .now) (c .before .before .before .before .before .before .before .before .before .before .before .before .before .before .before .before .before .before .before .before .before .before .pre .0 .inst))
+slice-aggregate-fill-gaps c =
+    let a = c .before .before .before .before .before .before .before .before .before .before .before .before .before .before .before .before .before .before
+    .before .before .before .before .args in sym (length-take-le (a .rows) (a .inst .now)
+    (c .before .before .before .before .before .before .before .before .before .before .before .before .before .before .before .before .before .before .before
+    .before .before .before .pre .0 .inst))
 
 slice-aggregate-fill-gaps-2 : tie.Need-slice-aggregate-fill-gaps-2
-slice-aggregate-fill-gaps-2 c = let a = c .before .before .before .before .before .before .before .before .before .before .before .before .before .before .before .before .before .before .before .before .before .before .before .args in sym (length-take-le (a .rows) (a .weight .now) (c .before .before .before .before .before .before .before .before .before .before .before .before .before .before .before .before .before .before .before .before .before .before .before .pre .0 .main))
+slice-aggregate-fill-gaps-2 c =
+    let a = c .before .before .before .before .before .before .before .before .before .before .before .before .before .before .before .before .before .before
+    .before .before .before .before .before .args in sym (length-take-le (a .rows) (a .weight .now)
+    (c .before .before .before .before .before .before .before .before .before .before .before .before .before .before .before .before .before .before .before
+    .before .before .before .before .pre .0 .main))
 
 slice-aggregate-fill-gaps-3 : tie.Need-slice-aggregate-fill-gaps-3
-slice-aggregate-fill-gaps-3 c = let a = c .before .before .before .before .before .before .before .before .before .before .before .before .before .before .before .before .before .before .before .before .before .before .before .before .args in sym (length-take-le (a .rows) (a .left-weight .now) (c .before .before .before .before .before .before .before .before .before .before .before .before .before .before .before .before .before .before .before .before .before .before .before .before .pre .0 .left))
+slice-aggregate-fill-gaps-3 c =
+    let a = c .before .before .before .before .before .before .before .before .before .before .before .before .before .before .before .before .before .before
+    .before .before .before .before .before .before .args in
+    sym (length-take-le (a .rows) (a .left-weight .now) (c .before .before .before .before .before .before .before .before .before .before .before .before
+    .before .before .before .before .before .before .before .before .before .before .before .before .pre .0 .left))
 
 slice-aggregate-fill-gaps-4 : tie.Need-slice-aggregate-fill-gaps-4
-slice-aggregate-fill-gaps-4 c = let a = c .before .before .before .before .before .before .before .before .before .before .before .before .before .before .before .before .before .before .before .before .before .before .before .before .before .args in sym (length-take-le (a .rows) (a .right-weight .now) (c .before .before .before .before .before .before .before .before .before .before .before .before .before .before .before .before .before .before .before .before .before .before .before .before .before .pre .0 .right))
+slice-aggregate-fill-gaps-4 c =
+    let a = c .before .before .before .before .before .before .before .before .before .before .before .before .before .before .before .before .before .before
+    .before .before .before .before .before .before .before .args in sym
+    (length-take-le (a .rows) (a .right-weight .now) (c .before .before .before .before .before .before .before .before .before .before .before .before .before
+    .before .before .before .before .before .before .before .before .before .before .before .before .pre .0 .right))
 
 slice-aggregate-fill-gaps-5 : tie.Need-slice-aggregate-fill-gaps-5
-slice-aggregate-fill-gaps-5 c = let a = c .before .before .before .before .before .before .before .before .before .before .before .before .before .before .before .before .before .before .before .before .before .before .before .before .before .before .args in sym (length-take-le (length (a .freq .now)) (a .prev-lower-freq .now) (c .before .before .before .before .before .before .before .before .before .before .before .before .before .before .before .before .before .before .before .before .before .before .before .before .before .before .pre .0 .prev))
+slice-aggregate-fill-gaps-5 c =
+    let a = c .before .before .before .before .before .before .before .before .before .before .before .before .before .before .before .before .before .before
+    .before .before .before .before .before .before .before .before .args in
+    sym (length-take-le (length (a .freq .now)) (a .prev-lower-freq .now)
+    (c .before .before .before .before .before .before .before .before .before .before .before .before .before .before .before .before .before .before .before
+    .before .before .before .before .before .before .before .pre .0 .prev))
 
 slice-aggregate-fill-gaps-6 : tie.Need-slice-aggregate-fill-gaps-6
-slice-aggregate-fill-gaps-6 c = let a = c .before .before .before .before .before .before .before .before .before .before .before .before .before .before .before .before .before .before .before .before .before .before .before .before .before .before .before .args in sym (length-take-le (length (a .freq .now)) (a .next-lower-freq .now) (c .before .before .before .before .before .before .before .before .before .before .before .before .before .before .before .before .before .before .before .before .before .before .before .before .before .before .before .pre .0 .next))
+slice-aggregate-fill-gaps-6 c =
+    let a = c .before .before .before .before .before .before .before .before .before .before .before .before .before .before .before .before .before .before
+    .before .before .before .before .before .before .before .before .before .args in
+    sym (length-take-le (length (a .freq .now)) (a .next-lower-freq .now)
+    (c .before .before .before .before .before .before .before .before .before .before .before .before .before .before .before .before .before .before .before
+    .before .before .before .before .before .before .before .before .pre .0 .next))
 
 slice-aggregate-fill-gaps-7 : tie.Need-slice-aggregate-fill-gaps-7
-slice-aggregate-fill-gaps-7 c = let a = c .before .before .before .before .before .before .before .before .before .before .before .before .before .before .before .before .before .before .before .before .before .before .before .before .before .before .before .before .args in sym (length-take-le (a .segments) (a .start .now) (c .before .before .before .before .before .before .before .before .before .before .before .before .before .before .before .before .before .before .before .before .before .before .before .before .before .before .before .before .pre .0 .start))
+slice-aggregate-fill-gaps-7 c =
+    let a = c .before .before .before .before .before .before .before .before .before .before .before .before .before .before .before .before .before .before
+    .before .before .before .before .before .before .before .before .before .before .args in
+    sym (length-take-le (a .segments) (a .start .now) (c .before .before .before .before .before .before .before .before .before .before .before .before .before
+    .before .before .before .before .before .before .before .before .before .before .before .before .before .before .before .pre .0 .start))
 
 slice-aggregate-fill-gaps-8 : tie.Need-slice-aggregate-fill-gaps-8
-slice-aggregate-fill-gaps-8 c = let a = c .before .before .before .before .before .before .before .before .before .before .before .before .before .before .before .before .before .before .before .before .before .before .before .before .before .before .before .before .before .args in sym (length-take-le (a .segments) (a .segment-end .now) (c .before .before .before .before .before .before .before .before .before .before .before .before .before .before .before .before .before .before .before .before .before .before .before .before .before .before .before .before .before .pre .0 .end))
+slice-aggregate-fill-gaps-8 c =
+    let a = c .before .before .before .before .before .before .before .before .before .before .before .before .before .before .before .before .before .before
+    .before .before .before .before .before .before .before .before .before .before .before .args in
+    sym (length-take-le (a .segments) (a .segment-end .now) (c .before .before .before .before .before .before .before .before .before .before .before .before
+    .before .before .before .before .before .before .before .before .before .before .before .before .before .before .before .before .before .pre .0 .end))
 
 slice-aggregate-fill-gaps-9 : tie.Need-slice-aggregate-fill-gaps-9
-slice-aggregate-fill-gaps-9 c = let a = c .before .before .before .before .before .before .before .before .before .before .before .before .before .before .before .before .before .before .before .before .before .before .before .before .before .before .before .before .before .before .args in sym (length-take-le (a .segments) (a .value .now) (c .before .before .before .before .before .before .before .before .before .before .before .before .before .before .before .before .before .before .before .before .before .before .before .before .before .before .before .before .before .before .pre .0 .value))
+slice-aggregate-fill-gaps-9 c =
+    let a = c .before .before .before .before .before .before .before .before .before .before .before .before .before .before .before .before .before .before
+    .before .before .before .before .before .before .before .before .before .before .before .before .args in
+    sym (length-take-le (a .segments) (a .value .now) (c .before .before .before .before .before .before .before .before .before .before .before .before .before
+    .before .before .before .before .before .before .before .before .before .before .before .before .before .before .before .before .before .pre .0 .value))
 
 fill-gaps-requires : tie.Need-fill-gaps-requires
 fill-gaps-requires c κs = search needs

@@ -217,7 +217,10 @@ returns c =
     at-cut-side .before .before .before .before .before .before .before .before .before .before .before .before .before .before
     .before .before .before .before .before in
     let a = at-pre .args in
-    let s = all-stored (a .freq .now) (a .first .now) (a .end .now) (a .prev-lower-freq .now) (a .next-lower-freq .now) (useColumns (a .inst .now) (a .weight .now) (a .left-weight .now) (a .right-weight .now)) (a .best) (at-pre .pre .0) (gapColumns (a .from .now) (a .to .now) (a .out-weight .now) (a .min-freq .now)) (at-pre .pre .1 .0) (at-cut-side .cut-side .ensures) (own-same (at-stage)) (at-put-own .put-own .ensures) (at-cut-side2 .cut-side2 .ensures) in (
+    let s = all-stored (a .freq .now) (a .first .now) (a .end .now) (a .prev-lower-freq .now) (a .next-lower-freq .now)
+    (useColumns (a .inst .now) (a .weight .now) (a .left-weight .now) (a .right-weight .now)) (a .best) (at-pre .pre .0)
+    (gapColumns (a .from .now) (a .to .now) (a .out-weight .now) (a .min-freq .now)) (at-pre .pre .1 .0) (at-cut-side .cut-side .ensures) (own-same (at-stage))
+    (at-put-own .put-own .ensures) (at-cut-side2 .cut-side2 .ensures) in (
       stored-held _ (gapColumns (a .from .now) (a .to .now) (a .out-weight .now) (a .min-freq .now)) _ _ _ _ (at-pre .pre .1 .0)
           (s .0) (s .1) (c .before .before .clear-live .ensures),
       at-cut-side .cut-side .ensures .0

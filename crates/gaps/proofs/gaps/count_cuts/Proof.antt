@@ -30,7 +30,8 @@ module _ (side : Side) (links : List ℕ) (last b₀ b n : ℕ) (k : Counting si
   small : n < 4294967296
   small = let f = followed-few side links last (length links) b₀ in let l = k .leads .few in let e = k .counts in omega (arith, f, l, e)
 
-  goes-on : (c : ℕ) → nextCut side links last b ≡ At (record { 0 = c }) → Counting side links last b₀ c (n + 1) × (beside side (length links) c < beside side (length links) b)
+  goes-on : (c : ℕ) → nextCut side links last b ≡ At (record { 0 = c })
+      → Counting side links last b₀ c (n + 1) × (beside side (length links) c < beside side (length links) b)
   goes-on c e =
       let m = one-more side links (k .leads) last b c (k .fuel) (k .inside) (k .enough) e in
       let l = ap length (m .more) in
@@ -68,7 +69,8 @@ next : (c : tie.After-known-told Inv-loop μ-loop)
     → let a = c .before .before .before .before .before .before .args in
     let l = c .before .before .before .before .loop in
     let d = c .before .lower .given .0 .0 .0 in
-    Counting (a .side) (a .links .now) (a .last .0) (a .b .0) d (l .n + 1) × (beside (a .side) (length (a .links .now)) d < beside (a .side) (length (a .links .now)) (l .b .0))
+    Counting (a .side) (a .links .now) (a .last .0) (a .b .0) d (l .n + 1)
+    × (beside (a .side) (length (a .links .now)) d < beside (a .side) (length (a .links .now)) (l .b .0))
 next c =
     let a = c .before .before .before .before .before .before .args in
     let l = c .before .before .before .before .loop in

@@ -30,12 +30,14 @@ inside-less uses k last h i =
     record { inst = omega (arith, h, a); main = omega (arith, h, b); left = omega (arith, h, c); right = omega (arith, h, d) }
 
 abbrev Inv-loop : tie.InvT-loop
-Inv-loop side inst weight left-weight right-weight freq end edges links from₀ to₀ out-weight₀ min-freq₀ i last n i₀ n₀ near₀ from to out-weight min-freq i' n' near =
+Inv-loop side inst weight left-weight right-weight freq end edges links from₀ to₀ out-weight₀ min-freq₀ i last n i₀ n₀ near₀ from to out-weight min-freq i' n'
+    near =
     Siding (gapsAt side freq end edges links (useColumns inst weight left-weight right-weight)) i last n
     (gapColumns from₀ to₀ out-weight₀ min-freq₀) (gapColumns from to out-weight min-freq) i' n'
 
 abbrev μ-loop : tie.MeasureT-loop
-μ-loop side inst weight left-weight right-weight freq end edges links from₀ to₀ out-weight₀ min-freq₀ i last n i₀ n₀ near₀ from to out-weight min-freq i' n' near =
+μ-loop side inst weight left-weight right-weight freq end edges links from₀ to₀ out-weight₀ min-freq₀ i last n i₀ n₀ near₀ from to out-weight min-freq i' n'
+    near =
     last - i'
 
 loop-holds : tie.Need-loop-holds Inv-loop μ-loop
@@ -93,7 +95,8 @@ space-is : (c : tie.After-space-between Inv-loop μ-loop) →
     c .before .before .before .before .before .before .before .before .before .before .before .before .before .before .before
     .before .before .args in
     let u = useColumns (a .inst .now) (a .weight .now) (a .left-weight .now) (a .right-weight .now) in
-    c .space-between .result ≡ spaceOf (a .side) (a .end .now) (length (a .freq .now)) (useIn u (c .before .before .before .before .loop .i)) (useIn u (c .before .before .before .before .loop .i + 1))
+    c .space-between .result ≡ spaceOf (a .side) (a .end .now) (length (a .freq .now)) (useIn u (c .before .before .before .before .loop .i))
+    (useIn u (c .before .before .before .before .loop .i + 1))
 space-is c =
     let a = c .before .before .before .before .before .before .before .before .before .before .before .before .before .before .before .before .before .args in
     c .space-between .ensures ∙ ap₂ (spaceOf (a .side) (a .end .now) (length (a .freq .now))) (c .before .before .use-at .ensures) (c .before .use-at2 .ensures)
@@ -130,7 +133,14 @@ next : (c : tie.After-slice-known8 Inv-loop μ-loop) →
     .before .before .before .before .before .before .before .before .before .before .before .before .before .before .before
     .args in
     let l = c .before .before .before .before .before .before .before .before .before .before .before .before .before .before .before .before .before .loop in
-    Siding (gapsAt (a .side) (a .freq .now) (a .end .now) (a .edges .now) (a .links .now) (useColumns (a .inst .now) (a .weight .now) (a .left-weight .now) (a .right-weight .now))) (a .i) (a .last) (a .n) (gapColumns (a .from .now) (a .to .now) (a .out-weight .now) (a .min-freq .now)) (gapColumns (c .before .before .before .before .before .before .before .before .cut-space .last .1 .1 .1 .1 .0) (c .before .before .before .before .before .before .before .before .cut-space .last .1 .1 .1 .1 .1 .0) (c .before .before .before .before .before .before .before .before .cut-space .last .1 .1 .1 .1 .1 .1 .0) (c .before .before .before .before .before .before .before .before .cut-space .last .1 .1 .1 .1 .1 .1 .1 .0)) (l .i + 1) (c .before .before .before .before .before .before .before .before .cut-space .result)
+    Siding (gapsAt (a .side) (a .freq .now) (a .end .now) (a .edges .now) (a .links .now)
+    (useColumns (a .inst .now) (a .weight .now) (a .left-weight .now) (a .right-weight .now))) (a .i) (a .last) (a .n)
+    (gapColumns (a .from .now) (a .to .now) (a .out-weight .now) (a .min-freq .now))
+    (gapColumns (c .before .before .before .before .before .before .before .before .cut-space .last .1 .1 .1 .1 .0)
+    (c .before .before .before .before .before .before .before .before .cut-space .last .1 .1 .1 .1 .1 .0)
+    (c .before .before .before .before .before .before .before .before .cut-space .last .1 .1 .1 .1 .1 .1 .0)
+    (c .before .before .before .before .before .before .before .before .cut-space .last .1 .1 .1 .1 .1 .1 .1 .0)) (l .i + 1)
+    (c .before .before .before .before .before .before .before .before .cut-space .result)
 next c =
     let at-cut-space = c .before .before .before .before .before .before .before .before in
     let at-stage = at-cut-space .before .before .before .before .before in

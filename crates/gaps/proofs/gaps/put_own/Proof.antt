@@ -5,7 +5,7 @@ use borrow.Author.Needs.{needs}
 use lib.Ieee.{Float}
 use lib.ListN.{length}
 use Prim.Native.Nat.{ℕ, _+_}
-use Rattle.uses.proofs.Storing.{ends-inside}
+use Rattle.links.proofs.Columns.{ends-inside}
 use Rattle.numbers.specs.Sum.{plus}
 use Rattle.gaps.specs.GapColumns.{gapColumns, withRow}
 use Rattle.gaps.specs.Cutting.{freqIn}

@@ -12,7 +12,16 @@ use Rattle.gaps.proofs.gaps.space_between.Statement.{statement}
 use Rattle.gaps.proofs.gaps.space_between.Tie as tie
 
 space-left : (ends : List ℕ) (n : ℕ) (u v : SplitUse) {x y : ℕ} → x ≡ blockIn ends n (v .inst .0 - 1) → y ≡ blockIn ends n (u .inst .0)
-    → _≡_ {A = Space} (record { edge = v .inst .0; end = u .inst .0; near = v .«left_weight»; far = u .«right_weight»; main = u .weight; block = record { 0 = x }; last = record { 0 = y } }) (spaceOf Previous ends n u v)
+    → _≡_ {A = Space} (record {
+      edge = v .inst .0;
+      end = u .inst .0;
+      near = v .«left_weight»;
+      far = u .«right_weight»;
+      main = u .weight;
+      block =
+          record { 0 = x };
+      last = record { 0 = y };
+    }) (spaceOf Previous ends n u v)
 space-left ends n u v p q =
     ap₂
     (λ (x y : ℕ).
@@ -27,7 +36,16 @@ space-left ends n u v p q =
     }) p q
 
 space-right : (ends : List ℕ) (n : ℕ) (u v : SplitUse) {x y : ℕ} → x ≡ blockIn ends n (u .inst .0 + 1) → y ≡ blockIn ends n (v .inst .0)
-    → _≡_ {A = Space} (record { edge = u .inst .0 + 1; end = v .inst .0 + 1; near = u .«right_weight»; far = v .«left_weight»; main = v .weight; block = record { 0 = x }; last = record { 0 = y } }) (spaceOf Next ends n u v)
+    → _≡_ {A = Space} (record {
+      edge = u .inst .0 + 1;
+      end = v .inst .0 + 1;
+      near = u .«right_weight»;
+      far = v .«left_weight»;
+      main = v .weight;
+      block =
+          record { 0 = x };
+      last = record { 0 = y };
+    }) (spaceOf Next ends n u v)
 space-right ends n u v p q =
     ap₂
     (λ (x y : ℕ).

@@ -60,7 +60,8 @@ row d =
 
 -- what the two tests say of it
 span : (c : tie.After-span-is-bad Inv-loop μ-loop) (r : Bool) → c .span-is-bad .result ≡ r
-    → badSpan (begin (c .before .before) .args .limits) (rowBefore (rows (c .before .before)) noReservation (at (c .before .before))) (getD (rows (c .before .before)) (at (c .before .before)) noReservation) ≡ r
+    → badSpan (begin (c .before .before) .args .limits) (rowBefore (rows (c .before .before)) noReservation (at (c .before .before)))
+    (getD (rows (c .before .before)) (at (c .before .before)) noReservation) ≡ r
 span c r e =
     let l = c .before .before in
     sym (sym e ∙ c .span-is-bad .ensures ∙ ap₂ (badSpan (begin l .args .limits)) (l .before .loop .inv .1) (row (c .before)))
@@ -73,7 +74,11 @@ counted c =
     ⊎-elim (λ w. w .2 ∙ w .1 .ensures) (λ w. w .1 ∙ l .before .loop .inv .2 ∙ ap (fixedOf (fixedUses l)) (sym (w .0 .left))) (c .if2 .came)
 
 kinded : (c : tie.After-kind-is-bad Inv-loop μ-loop) (r : Bool) → c .kind-is-bad .result ≡ r
-    → badKind (begin (c .before .before .before .before .before .before .before) .args .limits) (fixedOf (fixedUses (c .before .before .before .before .before .before .before)) (getD (rows (c .before .before .before .before .before .before .before)) (at (c .before .before .before .before .before .before .before)) noReservation .unit)) (getD (rows (c .before .before .before .before .before .before .before)) (at (c .before .before .before .before .before .before .before)) noReservation) ≡ r
+    → badKind (begin (c .before .before .before .before .before .before .before) .args .limits)
+    (fixedOf (fixedUses (c .before .before .before .before .before .before .before))
+    (getD (rows (c .before .before .before .before .before .before .before)) (at (c .before .before .before .before .before .before .before))
+    noReservation .unit)) (getD (rows (c .before .before .before .before .before .before .before))
+    (at (c .before .before .before .before .before .before .before)) noReservation) ≡ r
 kinded c r e =
     let l = c .before .before .before .before .before .before .before in
     let s = c .before .before .before .before .before .before in

@@ -51,14 +51,18 @@ row d =
 
 -- what the two tests say of it
 bounds : (c : tie.After-bounds-are-bad Inv-loop μ-loop) (r : Bool) → c .bounds-are-bad .result ≡ r
-    → badBounds (begin (c .before .before) .args .limits) (rowBefore (rows (c .before .before)) noSegment (at (c .before .before))) (getD (rows (c .before .before)) (at (c .before .before)) noSegment) ≡ r
+    → badBounds (begin (c .before .before) .args .limits) (rowBefore (rows (c .before .before)) noSegment (at (c .before .before)))
+    (getD (rows (c .before .before)) (at (c .before .before)) noSegment) ≡ r
 bounds c r e =
     let l = c .before .before in
     sym
     (sym e ∙ c .bounds-are-bad .ensures ∙ ap₂ (badBounds (begin l .args .limits)) (l .before .loop .inv .1) (row (c .before)))
 
 listed : (c : tie.After-list-is-bad Inv-loop μ-loop) (r : Bool) → c .list-is-bad .result ≡ r
-    → badList (begin (c .before .before .before .before) .args .limits) (rowBefore (rows (c .before .before .before .before)) noSegment (at (c .before .before .before .before))) (eqb (at (c .before .before .before .before) + 1) (length (rows (c .before .before .before .before)))) (getD (rows (c .before .before .before .before)) (at (c .before .before .before .before)) noSegment) ≡ r
+    → badList (begin (c .before .before .before .before) .args .limits)
+    (rowBefore (rows (c .before .before .before .before)) noSegment (at (c .before .before .before .before)))
+    (eqb (at (c .before .before .before .before) + 1) (length (rows (c .before .before .before .before))))
+    (getD (rows (c .before .before .before .before)) (at (c .before .before .before .before)) noSegment) ≡ r
 listed c r e =
     let l = c .before .before .before .before in
     sym (sym e ∙ c .list-is-bad .ensures

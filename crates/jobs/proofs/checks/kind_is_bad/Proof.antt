@@ -40,7 +40,8 @@ rows have kind = cond (eqb kind 0) have 1
 
 -- a known kind, by what is picked for it
 known : (limits : Limits) (have kind index fixed : ℕ) → kind ≤ 2 →
-    cond (eqb kind 0) (leb (limits .weights) index || (not (eqb fixed noFixed) && leb have fixed)) (not (eqb fixed 0) || cond (eqb kind 1) (not (eqb index 0)) (not (eqb kind 2) || leb (limits .values) index))
+    cond (eqb kind 0) (leb (limits .weights) index || (not (eqb fixed noFixed) && leb have fixed))
+    (not (eqb fixed 0) || cond (eqb kind 1) (not (eqb index 0)) (not (eqb kind 2) || leb (limits .values) index))
     ≡ (leb (indices limits kind) index || (not (eqb fixed (sound kind)) && leb (rows have kind) fixed))
 known limits have zero index fixed h = refl
 known limits have (suc zero) index fixed h = rw (above-zero index, above-zero fixed) (turned (not (eqb fixed 0)) (not (eqb index 0)))

@@ -13,7 +13,8 @@ use Rattle.columns.proofs.Tests.{cond-true, cond-false}
 use Rattle.links.specs.Links.{beside, beyond, absent, isLower, lowerLink, LiesBeyond, LinkedBeyond}
 use Rattle.links.specs.declared.lower.Side.{Side}
 use Rattle.links.specs.declared.lower.Side.the-variants.{Previous, Next}
-use Rattle.links.proofs.Linking.{IsLink, link-nearest, link-is, link-jump, lower-bits, distance, beyond-inside, beyond-beyond, beyond-further, not-itself, nearer, remaining, fewer}
+use Rattle.links.proofs.Linking.{IsLink, link-nearest, link-is, link-jump, lower-bits, distance, beyond-inside, beyond-beyond, beyond-further}
+use Rattle.links.proofs.Linking.{not-itself, nearer, remaining, fewer}
 use Rattle.links.proofs.lower.lower_link.Statement.{statement}
 use Rattle.links.proofs.lower.lower_link.Tie as tie
 
@@ -39,7 +40,8 @@ walk-starts side f b h s =
       passed = λ k kn bk kj.
           let d = distance side (length f) b k h kn bk in
           let m = kj (beyond-inside side (length f) b 0 h s) in
-          absurd (not-suc-le-zero (nearer side (length f) b (d .between) 0 (d .inside) s (subst (λ (x : ℕ). LiesBeyond side x (beyond side b 0)) (sym (d .is)) m)));
+          absurd (not-suc-le-zero (nearer side (length f) b (d .between) 0 (d .inside) s
+          (subst (λ (x : ℕ). LiesBeyond side x (beyond side b 0)) (sym (d .is)) m)));
     }
 
 module _ (side : Side) (f links : List ℕ) (b : ℕ) (pre : LinkedBeyond side f links b) where
@@ -57,7 +59,8 @@ module _ (side : Side) (f links : List ℕ) (b : ℕ) (pre : LinkedBeyond side f
   none-beside : beside side (length f) b ≡ 0 → absent ≡ lowerLink side f b
   none-beside e =
       link-is side f b absent few (pre .inside) (record {
-        passed = λ k kn bk _. let d = distance side (length f) b k (pre .inside) kn bk in absurd (not-suc-le-zero (subst (λ (x : ℕ). d .between < x) e (d .inside)));
+        passed =
+            λ k kn bk _. let d = distance side (length f) b k (pre .inside) kn bk in absurd (not-suc-le-zero (subst (λ (x : ℕ). d .between < x) e (d .inside)));
         found = λ l. absurd (not-le-of-lt l few);
         gone = λ _. refl;
       })

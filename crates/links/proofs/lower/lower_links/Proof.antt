@@ -43,9 +43,12 @@ module _ (side : Side) (f lent links : List ℕ) (t : ℕ) (given : Frequencies 
         long = length-set links b v ∙ l .long;
         done = λ k kn p. ⊎-elim
             (λ q. ap (λ (x : ℕ). getD (set links b v) x 0) q ∙ getD-set-same links b v 0 room ∙ e ∙ ap (lowerLink side f) (sym q))
-            (λ q. getD-set-other links b k v 0 (λ same. not-itself side b (subst (LiesBeyond side b) same (beyond-done side (length f) t k h q))) ∙ l .done k kn q)
+            (λ q. getD-set-other links b k v 0 (λ same. not-itself side b (subst (LiesBeyond side b) same (beyond-done side (length f) t k h q)))
+            ∙ l .done k kn q)
             (done-next side (length f) t k h p);
-        rest = λ k kn. getD-set-other links b k v 0 (λ same. not-le-of-lt (nth-inside side (length f) t h) (subst (λ (x : ℕ). length f ≤ x) same kn)) ∙ l .rest k kn;
+        rest =
+            λ k kn. getD-set-other links b k v 0 (λ same. not-le-of-lt (nth-inside side (length f) t h) (subst (λ (x : ℕ). length f ≤ x) same kn))
+            ∙ l .rest k kn;
       }
 
 abbrev Inv-loop : tie.InvT-loop

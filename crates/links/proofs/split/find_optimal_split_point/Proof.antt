@@ -11,7 +11,8 @@ use Rattle.links.specs.Blocks.{BlockRow, blocksOf, startOf, checkOf}
 use Rattle.links.specs.Split.{sideOf, splitPoint}
 use Rattle.links.specs.declared.blocks.Checked.the-variants.{Sound}
 use Rattle.links.proofs.Checks.{check-sound}
-use Rattle.links.proofs.Answers.{answer-refused, answer-order, answer-outside, answer-split, in-freqs, in-firsts, in-ends, same-list, last-column, parts-between}
+use Rattle.links.proofs.Answers.{answer-refused, answer-order, answer-outside, answer-split, in-freqs, in-firsts, in-ends, same-list, last-column}
+use Rattle.links.proofs.Answers.{parts-between}
 use Rattle.links.proofs.split.find_optimal_split_point.Statement.{statement}
 use Rattle.links.proofs.split.find_optimal_split_point.Tie as tie
 
@@ -29,7 +30,9 @@ some : (c : tie.After-count) → 1 ≤ c .count .result
 some c = le-trans (check-sound (list c) (passed c) .some) (le-of-eq (sym (c .count .ensures)))
 
 last-inside : (c : tie.After-count) → c .count .result - 1 < length (begin c .args .end .now)
-last-inside c = let s = begin c in lt-of-lt-of-le (less (c .count .result) (some c)) (in-ends (s .args .freq .now) (s .args .first .now) (s .args .end .now) (c .count .result) (c .count .ensures))
+last-inside c =
+    let s = begin c in lt-of-lt-of-le (less (c .count .result) (some c))
+    (in-ends (s .args .freq .now) (s .args .first .now) (s .args .end .now) (c .count .result) (c .count .ensures))
   where
     less : (n : ℕ) → 1 ≤ n → n - 1 < n
     less n h = omega arith

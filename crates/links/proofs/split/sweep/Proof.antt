@@ -26,22 +26,26 @@ module _ (side : Side) (f edges : List ℕ) (limit start b : ℕ) (pre : Swept f
   -- the next block i is lower than the last one reached exactly if its bits are below the least so far
   lower-at : t < beside side (length f) b → isLower f (s .last) (beyond side b t) ≡ ltb (getD f (beyond side b t) 0) l
   lower-at inside =
-      lower-bits f (s .last) (beyond side b t) (pre .given .sound (beyond side b t) (beyond-inside side (length f) b t (pre .inside) inside)) (pre .given .sound (s .last) (s .inside))
+      lower-bits f (s .last) (beyond side b t) (pre .given .sound (beyond side b t) (beyond-inside side (length f) b t (pre .inside) inside))
+      (pre .given .sound (s .last) (s .inside))
       ∙ ap (ltb (getD f (beyond side b t) 0)) (sym (s .lowest))
 
   -- a turn
   turn-lower : (i : ℕ) → i ≡ beyond side b t → t < beside side (length f) b → getD f i 0 < l → reaches side limit (getD edges i 0) ≡ true
       → Sweep side f edges limit start b (t + 1) (getD edges i 0) (getD f i 0)
   turn-lower i at inside =
-      subst (λ (x : ℕ). getD f x 0 < l → reaches side limit (getD edges x 0) ≡ true → Sweep side f edges limit start b (t + 1) (getD edges x 0) (getD f x 0)) (sym at)
+      subst (λ (x : ℕ). getD f x 0 < l → reaches side limit (getD edges x 0) ≡ true → Sweep side f edges limit start b (t + 1) (getD edges x 0) (getD f x 0))
+      (sym at)
       (λ h w. sweep-lower side f edges limit start b few (pre .inside) t p l s inside (lower-at inside ∙ lt-ltb (getD f (beyond side b t) 0) l h) w)
 
   turn-passes : (i : ℕ) → i ≡ beyond side b t → t < beside side (length f) b → l ≤ getD f i 0 → Sweep side f edges limit start b (t + 1) p l
   turn-passes i at inside h =
-      sweep-passes side f edges limit start b few (pre .inside) t p l s inside (lower-at inside ∙ le-ltb (getD f (beyond side b t) 0) l (subst (λ (x : ℕ). l ≤ getD f x 0) at h))
+      sweep-passes side f edges limit start b few (pre .inside) t p l s inside
+      (lower-at inside ∙ le-ltb (getD f (beyond side b t) 0) l (subst (λ (x : ℕ). l ≤ getD f x 0) at h))
 
   -- the ends: a place that the limit stops, or no block left
-  ends-stopped : (i : ℕ) → i ≡ beyond side b t → t < beside side (length f) b → reaches side limit (getD edges i 0) ≡ false → p ≡ lastReached side f edges limit start b
+  ends-stopped : (i : ℕ) → i ≡ beyond side b t → t < beside side (length f) b → reaches side limit (getD edges i 0) ≡ false
+      → p ≡ lastReached side f edges limit start b
   ends-stopped i at inside e =
       sweep-ends side f edges limit start b few (pre .inside) t p l s
       (λ d m n. stopped side edges (length f) limit b t d (pre .rising) (pre .inside) m n (subst (λ (x : ℕ). reaches side limit (getD edges x 0) ≡ false) at e))

@@ -13,7 +13,9 @@ cost-of-requires : tie.Need-cost-of-requires
 cost-of-requires c κs = search needs
 
 returns : tie.Need-returns
-returns c = c .cost-of .ensures ∙ ap (valueOf costLimit) (c .before .spill-cost-bits .ensures) ∙ bits-cost (c .before .before .args .kind) (c .before .before .args .cost)
+returns c =
+    c .cost-of .ensures ∙ ap (valueOf costLimit) (c .before .spill-cost-bits .ensures)
+    ∙ bits-cost (c .before .before .args .kind) (c .before .before .args .cost)
 
 pub spill-cost-spec : {M : Type 1} → statement M
 spill-cost-spec = tie.close (tie.spec spill-cost-bits-requires cost-of-requires returns)

@@ -20,17 +20,21 @@ returns-2 : tie.Need-returns-2
 unfolding scaled
 returns-2 c =
     let s = c .before .before .before .before .args .scales in
-    simp (ne-eqb _ _ (c .before .before .if1 .left), eq-eqb _ _ (c .before .if2 .taken)) (ap (λ (x : Float). mul binary32 x (s .«cheaper_than_load»)) (c .before .before .before .spill-cost .ensures))
+    simp (ne-eqb _ _ (c .before .before .if1 .left), eq-eqb _ _ (c .before .if2 .taken))
+    (ap (λ (x : Float). mul binary32 x (s .«cheaper_than_load»)) (c .before .before .before .spill-cost .ensures))
 
 returns-3 : tie.Need-returns-3
 unfolding scaled
 returns-3 c =
     let s = c .before .before .before .before .before .args .scales in
-    simp (ne-eqb _ _ (c .before .before .before .if1 .left), ne-eqb _ _ (c .before .before .if2 .left), eq-eqb _ _ (c .before .if3 .taken)) (ap (λ (x : Float). mul binary32 x (s .indirect)) (c .before .before .before .before .spill-cost .ensures))
+    simp (ne-eqb _ _ (c .before .before .before .if1 .left), ne-eqb _ _ (c .before .before .if2 .left), eq-eqb _ _ (c .before .if3 .taken))
+    (ap (λ (x : Float). mul binary32 x (s .indirect)) (c .before .before .before .before .spill-cost .ensures))
 
 returns-4 : tie.Need-returns-4
 unfolding scaled
-returns-4 c = simp (ne-eqb _ _ (c .before .before .if1 .left), ne-eqb _ _ (c .before .if2 .left), ne-eqb _ _ (c .if3 .left)) (c .before .before .before .spill-cost .ensures)
+returns-4 c =
+    simp (ne-eqb _ _ (c .before .before .if1 .left), ne-eqb _ _ (c .before .if2 .left), ne-eqb _ _ (c .if3 .left))
+    (c .before .before .before .spill-cost .ensures)
 
 pub use-spill-cost-spec : {M : Type 1} → statement M
 use-spill-cost-spec = tie.close (tie.spec spill-cost-requires returns returns-2 returns-3 returns-4)

@@ -1,4 +1,5 @@
--- `build_gap_segments` goes through the segments: what the segments from i on give is left to put, and the gaps before `gap` end by the end of the segment before
+-- `build_gap_segments` goes through the segments: what the segments from i on give is left to put, and the gaps before `gap` end by the
+-- end of the segment before
 use mathlib.Core.Path.{refl, sym, subst}
 use Prim.Native.Nat.{ℕ, _+_, _-_, _≤_, zero-le}
 use native.Mathlib.Nat.{le-of-eq, not-suc-le-zero}

@@ -6,7 +6,8 @@ use Rattle.overlaps.proofs.GapRows.{put-some, put-none, room-one}
 use Rattle.overlaps.proofs.gap_segments.put_overlap.Statement.{statement}
 use Rattle.overlaps.proofs.gap_segments.put_overlap.Tie as tie
 
-room : (c : tie.Else1) → let a = c .before .args in SegmentRoom 1 (segmentColumns (a .out-from .now) (a .out-to .now) (a .out-value .now) (a .out-gap .now) (a .used))
+room : (c : tie.Else1) → let a =
+    c .before .args in SegmentRoom 1 (segmentColumns (a .out-from .now) (a .out-to .now) (a .out-value .now) (a .out-gap .now) (a .used))
 room c =
     let a = c .before .args in
     room-one (a .from) (a .to) (a .value) (a .gap)

@@ -7,7 +7,8 @@ use borrow.Author.Needs.{needs}
 use lib.ListN.{length, getD}
 use Rattle.numbers.specs.Point.{instOf}
 use Rattle.overlaps.specs.Live.{liveFrom, liveTo}
-use Rattle.overlaps.proofs.LiveLaws.{Sofar, sofar-none, sofar-room, sofar-next, sofar-all, rest-gaps, rest-counted, back, lastOf, last-next, live-order, live-inside}
+use Rattle.overlaps.proofs.LiveLaws.{Sofar, sofar-none, sofar-room, sofar-next, sofar-all, rest-gaps, rest-counted, back, lastOf, last-next, live-order}
+use Rattle.overlaps.proofs.LiveLaws.{live-inside}
 use Rattle.overlaps.proofs.live.count_live_insts.Statement.{statement}
 use Rattle.overlaps.proofs.live.count_live_insts.Tie as tie
 

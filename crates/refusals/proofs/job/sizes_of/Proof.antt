@@ -22,7 +22,9 @@ fixed-use-count-requires : tie.Need-fixed-use-count-requires
 fixed-use-count-requires c κs = search needs
 
 returns : tie.Need-returns
-returns c = sizes-by (c .before .before .before .before .count .ensures) refl (c .before .before .before .segment-count .ensures) (c .before .before .use-count .ensures) refl (c .before .reservation-count .ensures) (c .fixed-use-count .ensures)
+returns c =
+    sizes-by (c .before .before .before .before .count .ensures) refl (c .before .before .before .segment-count .ensures)
+    (c .before .before .use-count .ensures) refl (c .before .reservation-count .ensures) (c .fixed-use-count .ensures)
 
 pub sizes-of-spec : {M : Type 1} → statement M
 sizes-of-spec =

@@ -15,7 +15,9 @@ use Rattle.refusals.proofs.lines.check_segments.Statement.{statement}
 use Rattle.refusals.proofs.lines.check_segments.Tie as tie
 
 abbrev segments : tie.Start → List Segment
-segments s = segmentsOf (s .args .s-start .now) (s .args .s-end .now) (s .args .s-value .now) (s .args .s-first-use .now) (s .args .s-end-use .now) (s .args .s-flags .now)
+segments s =
+    segmentsOf (s .args .s-start .now) (s .args .s-end .now) (s .args .s-value .now) (s .args .s-first-use .now) (s .args .s-end-use .now)
+    (s .args .s-flags .now)
 
 abbrev uses : tie.Start → List Use
 uses s = usesOf (s .args .position .now) (s .args .u-kind .now) (s .args .cost .now)
@@ -42,7 +44,9 @@ verdict-requires : tie.Need-verdict-requires
 verdict-requires c κs = search needs
 
 returns : tie.Need-returns
-returns c = verdict-here (five (c .before .before .before .before .before .before .before .before .before .before .before .before .before)) _ _ (c .before .before .before .segment-count .ensures) (c .before .before .first-bad-segment .ensures) _ _ (c .before .if1 .taken) (c .verdict .ensures)
+returns c =
+    verdict-here (five (c .before .before .before .before .before .before .before .before .before .before .before .before .before)) _ _
+    (c .before .before .before .segment-count .ensures) (c .before .before .first-bad-segment .ensures) _ _ (c .before .if1 .taken) (c .verdict .ensures)
 
 first-bad-def-requires : tie.Need-first-bad-def-requires
 first-bad-def-requires c κs = search needs
@@ -51,28 +55,70 @@ verdict-requires-2 : tie.Need-verdict-requires-2
 verdict-requires-2 c κs = search needs
 
 returns-2 : tie.Need-returns-2
-returns-2 c = verdict-here (six (c .before .before .before .before .before .before .before .before .before .before .before .before .before .before .before)) _ _ (c .before .before .before .before .before .segment-count .ensures) (c .before .before .first-bad-def .ensures) _ _ (c .before .if2 .taken) (c .verdict2 .ensures) ∙ sym (verdict-on (five (c .before .before .before .before .before .before .before .before .before .before .before .before .before .before .before)) _ _ (c .before .before .before .before .before .segment-count .ensures) (c .before .before .before .before .first-bad-segment .ensures) _ (c .before .before .before .if1 .left))
+returns-2 c =
+    verdict-here (six (c .before .before .before .before .before .before .before .before .before .before .before .before .before .before .before)) _ _
+    (c .before .before .before .before .before .segment-count .ensures) (c .before .before .first-bad-def .ensures) _ _ (c .before .if2 .taken)
+    (c .verdict2 .ensures)
+    ∙ sym (verdict-on (five (c .before .before .before .before .before .before .before .before .before .before .before .before .before .before .before)) _ _
+    (c .before .before .before .before .before .segment-count .ensures) (c .before .before .before .before .first-bad-segment .ensures) _
+    (c .before .before .before .if1 .left))
 
 use-count-requires : tie.Need-use-count-requires
 use-count-requires c κs = search needs
 
 first-bad-use-requires : tie.Need-first-bad-use-requires
-first-bad-use-requires c κs = subst (λ (n : ℕ). Lists n (segments (c .before .before .before .before .before .before .before .before .before .before .before .before .before .before .before))) (c .before .before .before .before .before .before .before .before .before .before .before .before .before .before .before .pre .counted) (segments-lists (c .before .before .before .before .before .before .before .before .before .before .before .before .before .before .before .args .limits) (segments (c .before .before .before .before .before .before .before .before .before .before .before .before .before .before .before)) (verdict-passed (five (c .before .before .before .before .before .before .before .before .before .before .before .before .before .before .before)) _ _ (c .before .before .before .before .before .segment-count .ensures) (c .before .before .before .before .first-bad-segment .ensures) (c .before .before .before .if1 .left)) (c .before .before .before .before .before .before .before .before .before .before .before .before .before .before .before .pre .some))
+first-bad-use-requires c κs =
+    subst (λ (n : ℕ). Lists n
+    (segments (c .before .before .before .before .before .before .before .before .before .before .before .before .before .before .before)))
+    (c .before .before .before .before .before .before .before .before .before .before .before .before .before .before .before .pre .counted)
+    (segments-lists (c .before .before .before .before .before .before .before .before .before .before .before .before .before .before .before .args .limits)
+    (segments (c .before .before .before .before .before .before .before .before .before .before .before .before .before .before .before))
+    (verdict-passed (five (c .before .before .before .before .before .before .before .before .before .before .before .before .before .before .before)) _ _
+    (c .before .before .before .before .before .segment-count .ensures) (c .before .before .before .before .first-bad-segment .ensures)
+    (c .before .before .before .if1 .left)) (c .before .before .before .before .before .before .before .before .before .before .before .before .before .before
+    .before .pre .some))
 
 verdict-requires-3 : tie.Need-verdict-requires-3
-verdict-requires-3 c κs = le-trans (le-of-eq (c .before .before .use-count .ensures)) (c .before .before .before .before .before .before .before .before .before .before .before .before .before .before .before .before .before .pre .few-uses)
+verdict-requires-3 c κs =
+    le-trans (le-of-eq (c .before .before .use-count .ensures))
+    (c .before .before .before .before .before .before .before .before .before .before .before .before .before .before .before .before .before .pre .few-uses)
 
 returns-3 : tie.Need-returns-3
-returns-3 c = verdict-here (seven (c .before .before .before .before .before .before .before .before .before .before .before .before .before .before .before .before .before .before)) _ _ (c .before .before .before .use-count .ensures) (c .before .before .first-bad-use .ensures) _ _ (c .before .if3 .taken) (c .verdict3 .ensures) ∙ sym (verdict-on (five (c .before .before .before .before .before .before .before .before .before .before .before .before .before .before .before .before .before .before)) _ _ (c .before .before .before .before .before .before .before .before .segment-count .ensures) (c .before .before .before .before .before .before .before .first-bad-segment .ensures) _ (c .before .before .before .before .before .before .if1 .left) ∙ verdict-on (six (c .before .before .before .before .before .before .before .before .before .before .before .before .before .before .before .before .before .before)) _ _ (c .before .before .before .before .before .before .before .before .segment-count .ensures) (c .before .before .before .before .before .first-bad-def .ensures) _ (c .before .before .before .before .if2 .left))
+returns-3 c =
+    verdict-here (seven (c .before .before .before .before .before .before .before .before .before .before .before .before .before .before .before .before
+    .before .before)) _ _ (c .before .before .before .use-count .ensures) (c .before .before .first-bad-use .ensures) _ _ (c .before .if3 .taken)
+    (c .verdict3 .ensures)
+    ∙ sym (verdict-on (five (c .before .before .before .before .before .before .before .before .before .before .before .before .before .before .before .before
+    .before .before)) _ _ (c .before .before .before .before .before .before .before .before .segment-count .ensures)
+    (c .before .before .before .before .before .before .before .first-bad-segment .ensures) _ (c .before .before .before .before .before .before .if1 .left)
+    ∙ verdict-on (six (c .before .before .before .before .before .before .before .before .before .before .before .before .before .before .before .before .before
+    .before)) _ _ (c .before .before .before .before .before .before .before .before .segment-count .ensures)
+    (c .before .before .before .before .before .first-bad-def .ensures) _ (c .before .before .before .before .if2 .left))
 
 first-bad-end-requires : tie.Need-first-bad-end-requires
 first-bad-end-requires c κs = search needs
 
 verdict-requires-4 : tie.Need-verdict-requires-4
-verdict-requires-4 c κs = le-trans (le-of-eq (c .before .before .before .before .before .before .before .before .segment-count .ensures)) (c .before .before .before .before .before .before .before .before .before .before .before .before .before .before .before .before .before .before .pre .few-segments)
+verdict-requires-4 c κs =
+    le-trans (le-of-eq (c .before .before .before .before .before .before .before .before .segment-count .ensures))
+    (c .before .before .before .before .before .before .before .before .before .before .before .before .before .before .before .before .before .before .pre
+    .few-segments)
 
 returns-4 : tie.Need-returns-4
-returns-4 c = verdict-last (eight (c .before .before .before .before .before .before .before .before .before .before .before .before .before .before .before .before .before .before .before)) _ _ (c .before .before .before .before .before .before .before .before .before .segment-count .ensures) (c .before .first-bad-end .ensures) _ (c .verdict4 .ensures) ∙ sym (verdict-on (five (c .before .before .before .before .before .before .before .before .before .before .before .before .before .before .before .before .before .before .before)) _ _ (c .before .before .before .before .before .before .before .before .before .segment-count .ensures) (c .before .before .before .before .before .before .before .before .first-bad-segment .ensures) _ (c .before .before .before .before .before .before .before .if1 .left) ∙ verdict-on (six (c .before .before .before .before .before .before .before .before .before .before .before .before .before .before .before .before .before .before .before)) _ _ (c .before .before .before .before .before .before .before .before .before .segment-count .ensures) (c .before .before .before .before .before .before .first-bad-def .ensures) _ (c .before .before .before .before .before .if2 .left) ∙ verdict-on (seven (c .before .before .before .before .before .before .before .before .before .before .before .before .before .before .before .before .before .before .before)) _ _ (c .before .before .before .before .use-count .ensures) (c .before .before .before .first-bad-use .ensures) _ (c .before .before .if3 .left))
+returns-4 c =
+    verdict-last (eight (c .before .before .before .before .before .before .before .before .before .before .before .before .before .before .before .before
+    .before .before .before)) _ _ (c .before .before .before .before .before .before .before .before .before .segment-count .ensures)
+    (c .before .first-bad-end .ensures) _ (c .verdict4 .ensures) ∙ sym
+    (verdict-on (five (c .before .before .before .before .before .before .before .before .before .before .before .before .before .before .before .before .before
+    .before .before)) _ _ (c .before .before .before .before .before .before .before .before .before .segment-count .ensures)
+    (c .before .before .before .before .before .before .before .before .first-bad-segment .ensures) _
+    (c .before .before .before .before .before .before .before .if1 .left)
+    ∙ verdict-on (six (c .before .before .before .before .before .before .before .before .before .before .before .before .before .before .before .before .before
+    .before .before)) _ _ (c .before .before .before .before .before .before .before .before .before .segment-count .ensures)
+    (c .before .before .before .before .before .before .first-bad-def .ensures) _ (c .before .before .before .before .before .if2 .left)
+    ∙ verdict-on (seven (c .before .before .before .before .before .before .before .before .before .before .before .before .before .before .before .before
+    .before .before .before)) _ _ (c .before .before .before .before .use-count .ensures) (c .before .before .before .first-bad-use .ensures) _
+    (c .before .before .if3 .left))
 
 pub check-segments-spec : {M : Type 1} → statement M
 check-segments-spec =

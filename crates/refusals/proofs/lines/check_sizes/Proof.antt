@@ -16,10 +16,14 @@ sizes-are-bad-requires : tie.Need-sizes-are-bad-requires
 sizes-are-bad-requires c κs = search needs
 
 returns-2 : tie.Need-returns-2
-returns-2 c = one-here 2 _ _ (sym (c .before .sizes-are-bad .ensures) ∙ c .if2 .taken) ∙ sym (one-on 1 _ _ (sym (c .before .before .before .parameters-are-bad .ensures) ∙ c .before .before .if1 .left))
+returns-2 c =
+    one-here 2 _ _ (sym (c .before .sizes-are-bad .ensures) ∙ c .if2 .taken)
+    ∙ sym (one-on 1 _ _ (sym (c .before .before .before .parameters-are-bad .ensures) ∙ c .before .before .if1 .left))
 
 returns-3 : tie.Need-returns-3
-returns-3 c = sym (one-on 1 _ _ (sym (c .before .before .before .parameters-are-bad .ensures) ∙ c .before .before .if1 .left) ∙ one-on 2 _ _ (sym (c .before .sizes-are-bad .ensures) ∙ c .if2 .left) ∙ empty-sound)
+returns-3 c =
+    sym (one-on 1 _ _ (sym (c .before .before .before .parameters-are-bad .ensures) ∙ c .before .before .if1 .left)
+    ∙ one-on 2 _ _ (sym (c .before .sizes-are-bad .ensures) ∙ c .if2 .left) ∙ empty-sound)
 
 pub check-sizes-spec : {M : Type 1} → statement M
 check-sizes-spec =

@@ -16,11 +16,15 @@ returns-2 c = sym (or-first _ _ (or-first _ _ (or-second _ _ _ (le-ltb _ _ (c .b
 
 returns-3 : tie.Need-returns-3
 unfolding badParameters
-returns-3 c = sym (or-first _ _ (or-second _ _ _ (or-none (le-ltb _ _ (c .before .before .before .before .if1 .left)) (le-ltb _ _ (c .before .before .if2 .left))) (lt-ltb _ _ (c .if3 .taken))))
+returns-3 c =
+    sym (or-first _ _ (or-second _ _ _ (or-none (le-ltb _ _ (c .before .before .before .before .if1 .left)) (le-ltb _ _ (c .before .before .if2 .left)))
+    (lt-ltb _ _ (c .if3 .taken))))
 
 returns-4 : tie.Need-returns-4
 unfolding badParameters
-returns-4 c = sym (or-second _ _ _ (or-none (or-none (le-ltb _ _ (c .before .before .before .before .before .if1 .left)) (le-ltb _ _ (c .before .before .before .if2 .left))) (le-ltb _ _ (c .before .if3 .left))) (refl))
+returns-4 c =
+    sym (or-second _ _ _ (or-none (or-none (le-ltb _ _ (c .before .before .before .before .before .if1 .left))
+    (le-ltb _ _ (c .before .before .before .if2 .left))) (le-ltb _ _ (c .before .if3 .left))) (refl))
 
 pub parameters-are-bad-spec : {M : Type 1} → statement M
 parameters-are-bad-spec =

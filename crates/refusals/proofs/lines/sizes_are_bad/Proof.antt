@@ -17,18 +17,26 @@ returns-2 c = sym (or-first _ _ (or-first _ _ (or-first _ _ (or-second _ _ _ (ne
 
 returns-3 : tie.Need-returns-3
 unfolding badSizes
-returns-3 c = sym (or-first _ _ (or-first _ _ (or-second _ _ _ (or-none (ne-eqb _ _ (c .before .before .before .if1 .left)) (ne-eqb _ _ (c .before .if2 .left))) (eq-eqb _ _ (c .if3 .taken)))))
+returns-3 c =
+    sym (or-first _ _ (or-first _ _ (or-second _ _ _ (or-none (ne-eqb _ _ (c .before .before .before .if1 .left)) (ne-eqb _ _ (c .before .if2 .left)))
+    (eq-eqb _ _ (c .if3 .taken)))))
 
 returns-4 : tie.Need-returns-4
 unfolding badSizes
-returns-4 c = sym (or-first _ _ (or-second _ _ _ (or-none (or-none (ne-eqb _ _ (c .before .before .before .before .if1 .left)) (ne-eqb _ _ (c .before .before .if2 .left))) (ne-eqb _ _ (c .before .if3 .left))) (lt-ltb _ _ (c .if4 .taken))))
+returns-4 c =
+    sym (or-first _ _ (or-second _ _ _
+    (or-none (or-none (ne-eqb _ _ (c .before .before .before .before .if1 .left)) (ne-eqb _ _ (c .before .before .if2 .left)))
+    (ne-eqb _ _ (c .before .if3 .left))) (lt-ltb _ _ (c .if4 .taken))))
 
 some-long-requires : tie.Need-some-long-requires
 some-long-requires c κs = search needs
 
 returns-5 : tie.Need-returns-5
 unfolding badSizes
-returns-5 c = sym (or-second _ _ _ (or-none (or-none (or-none (ne-eqb _ _ (c .before .before .before .before .before .if1 .left)) (ne-eqb _ _ (c .before .before .before .if2 .left))) (ne-eqb _ _ (c .before .before .if3 .left))) (le-ltb _ _ (c .before .if4 .left))) (sym (c .some-long .ensures)))
+returns-5 c =
+    sym (or-second _ _ _ (or-none
+    (or-none (or-none (ne-eqb _ _ (c .before .before .before .before .before .if1 .left)) (ne-eqb _ _ (c .before .before .before .if2 .left)))
+    (ne-eqb _ _ (c .before .before .if3 .left))) (le-ltb _ _ (c .before .if4 .left))) (sym (c .some-long .ensures)))
 
 pub sizes-are-bad-spec : {M : Type 1} → statement M
 sizes-are-bad-spec =

@@ -13,8 +13,8 @@ use Rattle.overlaps.specs.GapSegments.{segmentColumns}
 use Rattle.walks.specs.Standing.{StandsRight, StandsLeft}
 use Rattle.walks.proofs.GapWalk.{gaps-searchable}
 use Rattle.jobs.specs.Rows.{reservationsOf}
-use Rattle.region.specs.declared.proposal.SplitProposal.{SplitProposal}
-use Rattle.region.specs.declared.proposal.Region.the-variants.{Found}
+use Rattle.growth.specs.declared.proposal.SplitProposal.{SplitProposal}
+use Rattle.growth.specs.declared.proposal.Region.the-variants.{Found}
 use Rattle.region.specs.Find.{seenBy}
 use Rattle.region.proofs.Growing.{right-starts, left-starts, own-fails, own-reached}
 use Rattle.region.proofs.find.find_split_region.Statement.{statement}
@@ -160,7 +160,8 @@ grow-requires c κs =
     let at-args = at-shared-slice-known6 .before .before .before .before .before .before in
     let a = at-args .args in
     let p = at-args .pre in
-    let stands = subst (λ (x : ℕ). StandsLeft (a .register) (reservationsOf (a .unit .now) (a .start .now) (a .end .now) (a .kind .now) (a .index .now) (a .fixed .now)) x (at-new .new .result .left)) (at-point-at .point-at .ensures) (at-new .new .ensures .2) in (
+    let stands = subst (λ (x : ℕ). StandsLeft (a .register) (reservationsOf (a .unit .now) (a .start .now) (a .end .now) (a .kind .now) (a .index .now)
+    (a .fixed .now)) x (at-new .new .result .left)) (at-point-at .point-at .ensures) (at-new .new .ensures .2) in (
       (p .0, p .1),
       own-reached (a .register)
           (reservedOf (a .unit .now) (a .start .now) (a .end .now) (a .kind .now) (a .index .now) (a .fixed .now) (a .f-unit .now)

@@ -6,16 +6,17 @@ use borrow.Author.Needs.{needs}
 use lib.ListN.{length}
 use Rattle.walks.specs.Meeting.{reservedOf}
 use Rattle.overlaps.specs.GapSegments.{segmentColumns}
-use Rattle.region.specs.Columns.{stateOf}
-use Rattle.region.proofs.Tries.{leftToTry}
-use Rattle.region.proofs.Loop.{going-inside}
+use Rattle.growth.specs.Columns.{stateOf}
+use Rattle.growth.proofs.Tries.{leftToTry}
+use Rattle.growth.proofs.Loop.{going-inside}
 use Rattle.region.specs.Find.{seenBy, Reached}
 use Rattle.region.proofs.Growing.{try-ready, try-less, try-reached, end-answers}
 use Rattle.region.proofs.find.grow.Statement.{statement}
 use Rattle.region.proofs.find.grow.Tie as tie
 
 abbrev Inv-grow : tie.InvT-grow
-Inv-grow from weight live min-freq initial out-from out-to out-value out-gap unit start end kind index fixed f-unit f-point f-value spill-weight register k gaps stand₀ stand =
+Inv-grow from weight live min-freq initial out-from out-to out-value out-gap unit start end kind index fixed f-unit f-point f-value spill-weight register k gaps
+    stand₀ stand =
     Reached
     (seenBy register (reservedOf unit start end kind index fixed f-unit f-point f-value spill-weight)
     (segmentColumns out-from out-to out-value out-gap (length out-from)) from weight live min-freq initial k) register
@@ -23,7 +24,8 @@ Inv-grow from weight live min-freq initial out-from out-to out-value out-gap uni
     (segmentColumns out-from out-to out-value out-gap (length out-from)) stand
 
 abbrev μ-grow : tie.MeasureT-grow
-μ-grow from weight live min-freq initial out-from out-to out-value out-gap unit start end kind index fixed f-unit f-point f-value spill-weight register k gaps stand₀ stand =
+μ-grow from weight live min-freq initial out-from out-to out-value out-gap unit start end kind index fixed f-unit f-point f-value spill-weight register k gaps
+    stand₀ stand =
     leftToTry
     (seenBy register (reservedOf unit start end kind index fixed f-unit f-point f-value spill-weight)
     (segmentColumns out-from out-to out-value out-gap (length out-from)) from weight live min-freq initial k)

@@ -10,8 +10,8 @@ use Rattle.links.specs.declared.lower.Side.the-variants.{Previous}
 use Rattle.jobs.specs.Rows.{reservationsOf}
 use Rattle.walks.specs.Gaps.{LeftAt}
 use Rattle.overlaps.specs.GapSegments.{segmentColumns}
-use Rattle.region.specs.Columns.{numberAt, floatAt, testedOf, afterTry}
-use Rattle.region.specs.declared.growth.Tried.{Tried}
+use Rattle.growth.specs.Columns.{numberAt, floatAt, testedOf, afterTry}
+use Rattle.growth.specs.declared.step.Tried.{Tried}
 use Rattle.region.proofs.one_try.try_left.Statement.{statement}
 use Rattle.region.proofs.one_try.try_left.Tie as tie
 
@@ -96,7 +96,8 @@ returns c =
     let a = at-args .args in
     let m = at-take-gap .take-gap .ensures in (
       c .after .ensures ∙ ap (λ (t : Tried). afterTry Previous t (a .growth)) (c .before .before .tested .ensures
-          ∙ ap₂ (λ (f : Bool) (h : Float). testedOf (not f) (a .growth .region) (floatAt (a .weight .now) (a .growth .region .left - 1)) (numberAt (a .live .now) (a .growth .region .left - 1)) h (a .k) (a .growth .region .left - 1) (a .growth .region .right)) (m .0) (m .1)),
+          ∙ ap₂ (λ (f : Bool) (h : Float). testedOf (not f) (a .growth .region) (floatAt (a .weight .now) (a .growth .region .left - 1))
+          (numberAt (a .live .now) (a .growth .region .left - 1)) h (a .k) (a .growth .region .left - 1) (a .growth .region .right)) (m .0) (m .1)),
       m .2,
     )
 

@@ -10,8 +10,8 @@ use Rattle.links.specs.declared.lower.Side.the-variants.{Next}
 use Rattle.jobs.specs.Rows.{reservationsOf}
 use Rattle.walks.specs.Gaps.{RightAt}
 use Rattle.overlaps.specs.GapSegments.{segmentColumns}
-use Rattle.region.specs.Columns.{numberAt, floatAt, testedOf, afterTry}
-use Rattle.region.specs.declared.growth.Tried.{Tried}
+use Rattle.growth.specs.Columns.{numberAt, floatAt, testedOf, afterTry}
+use Rattle.growth.specs.declared.step.Tried.{Tried}
 use Rattle.region.proofs.one_try.try_right.Statement.{statement}
 use Rattle.region.proofs.one_try.try_right.Tie as tie
 
@@ -82,7 +82,8 @@ returns c =
     let a = at-args .args in
     let m = at-take-gap .take-gap .ensures in (
       c .after .ensures ∙ ap (λ (t : Tried). afterTry Next t (a .growth)) (c .before .before .tested .ensures
-          ∙ ap₂ (λ (f : Bool) (h : Float). testedOf (not f) (a .growth .region) (floatAt (a .weight .now) (a .growth .region .right)) (numberAt (a .live .now) (a .growth .region .right)) h (a .k) (a .growth .region .left) (a .growth .region .right + 1)) (m .0) (m .1)),
+          ∙ ap₂ (λ (f : Bool) (h : Float). testedOf (not f) (a .growth .region) (floatAt (a .weight .now) (a .growth .region .right))
+          (numberAt (a .live .now) (a .growth .region .right)) h (a .k) (a .growth .region .left) (a .growth .region .right + 1)) (m .0) (m .1)),
       m .2,
     )
 

@@ -33,13 +33,21 @@ add-if3-3 : tie.Need-add-if3-3
 add-if3-3 c = search needs
 
 returns-3 : tie.Need-returns-3
-returns-3 c = first-found _ 4 2 (lit≤ tt) (passed-2 _ (le-ltb _ _ (c .before .before .before .before .before .before .before .if1 .left)) (le-ltb _ _ (c .before .before .before .before .if2 .left))) (lt-ltb _ _ (c .if3 .taken))
+returns-3 c =
+    first-found _ 4 2 (lit≤ tt) (passed-2 _ (le-ltb _ _ (c .before .before .before .before .before .before .before .if1 .left))
+    (le-ltb _ _ (c .before .before .before .before .if2 .left))) (lt-ltb _ _ (c .if3 .taken))
 
 returns-4 : tie.Need-returns-4
-returns-4 c = first-found _ 4 3 (lit≤ tt) (passed-3 _ (le-ltb _ _ (c .before .before .before .before .before .before .before .before .before .before .if1 .left)) (le-ltb _ _ (c .before .before .before .before .before .before .before .if2 .left)) (le-ltb _ _ (c .before .before .before .if3 .left))) (lt-ltb _ _ (c .if4 .taken))
+returns-4 c =
+    first-found _ 4 3 (lit≤ tt) (passed-3 _ (le-ltb _ _ (c .before .before .before .before .before .before .before .before .before .before .if1 .left))
+    (le-ltb _ _ (c .before .before .before .before .before .before .before .if2 .left)) (le-ltb _ _ (c .before .before .before .if3 .left)))
+    (lt-ltb _ _ (c .if4 .taken))
 
 returns-5 : tie.Need-returns-5
-returns-5 c = first-none _ 4 (passed-4 _ (le-ltb _ _ (c .before .before .before .before .before .before .before .before .before .before .if1 .left)) (le-ltb _ _ (c .before .before .before .before .before .before .before .if2 .left)) (le-ltb _ _ (c .before .before .before .if3 .left)) (le-ltb _ _ (c .if4 .left)))
+returns-5 c =
+    first-none _ 4 (passed-4 _ (le-ltb _ _ (c .before .before .before .before .before .before .before .before .before .before .if1 .left))
+    (le-ltb _ _ (c .before .before .before .before .before .before .before .if2 .left)) (le-ltb _ _ (c .before .before .before .if3 .left))
+    (le-ltb _ _ (c .if4 .left)))
 
 pub first-short-spec : {M : Type 1} → statement M
 first-short-spec =

@@ -4,7 +4,8 @@ use native.Mathlib.Omega.{arith}
 use Prim.Native.Nat.{_-_, _<_}
 use mathlib.Core.Path.{sym, _∙_}
 use lib.ListN.{length}
-use Rattle.sheet.proofs.CheckLaws.{Upto, upto-none, upto-few, upto-end, Good, next-good, next-bad, next-many, next-pass, good-kind, good-moved, refused-checked, empty-refused}
+use Rattle.sheet.proofs.CheckLaws.{Upto, upto-none, upto-few, upto-end, Good, next-good, next-bad, next-many, next-pass, good-kind, good-moved}
+use Rattle.sheet.proofs.CheckLaws.{refused-checked, empty-refused}
 use Rattle.sheet.proofs.check.check_text.Statement.{statement}
 use Rattle.sheet.proofs.check.check_text.Tie as tie
 

@@ -103,7 +103,9 @@ add-from : tie.Need-add-from
 add-from c =
     let e = c .before .before .before .before .before .before in
     let b = begin e in
-    let l = le-trans (b .pre) (le-trans (le-of-eq (table-length (useRow (b .args .position .now) (b .args .kind .now) (b .args .cost .now)) (shortest (lengths b)))) (shortest-at-most (lengths b) 0 (lit< tt))) in
+    let l = le-trans (b .pre)
+    (le-trans (le-of-eq (table-length (useRow (b .args .position .now) (b .args .kind .now) (b .args .cost .now)) (shortest (lengths b))))
+    (shortest-at-most (lengths b) 0 (lit< tt))) in
     let one = le-trans (le-of-eq (c .picked-size .ensures)) (at-most (c .before .has-fixeddef .result)) in
     omega (arith, l, one, e .if1 .left, b .good .0 .1)
   where

@@ -36,7 +36,9 @@ in-list c = lt-of-lt-of-le (c .loop-test .taken) (begin c .pre .1)
 
 -- what the test says of the use that was read
 tested : (c : tie.After-use-is-bad Inv-loop μ-loop) (r : Bool) → c .use-is-bad .result ≡ r
-    → badUseOf (begin (c .before .before .before) .args .limits) (usesOf (begin (c .before .before .before) .args .position .now) (begin (c .before .before .before) .args .kind .now) (begin (c .before .before .before) .args .cost .now)) (begin (c .before .before .before) .args .s) (at (c .before .before .before)) ≡ r
+    → badUseOf (begin (c .before .before .before) .args .limits)
+    (usesOf (begin (c .before .before .before) .args .position .now) (begin (c .before .before .before) .args .kind .now)
+    (begin (c .before .before .before) .args .cost .now)) (begin (c .before .before .before) .args .s) (at (c .before .before .before)) ≡ r
 tested d r e =
     let c = d .before .before .before in
     let s = begin c .args .s in

@@ -11,7 +11,8 @@ use lib.Ieee.{Float, lt, ofBits, nan}
 use lib.ListN.{length, getD}
 use Rattle.numbers.specs.Weight.{zeroWeight, heaviest}
 use Rattle.use_rows.specs.Uses.{bestUse}
-use Rattle.use_rows.proofs.Largest.{row-any, Largest, largest-none, largest-as, largest-new, largest-same, largest-is, largest-first, best-short, best-found, best-none}
+use Rattle.use_rows.proofs.Largest.{row-any, Largest, largest-none, largest-as, largest-new, largest-same, largest-is, largest-first, best-short}
+use Rattle.use_rows.proofs.Largest.{best-found, best-none}
 use Rattle.use_rows.proofs.row.find_best_use.Statement.{statement}
 use Rattle.use_rows.proofs.row.find_best_use.Tie as tie
 

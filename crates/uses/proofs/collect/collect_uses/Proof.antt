@@ -14,8 +14,9 @@ use Rattle.use_rows.specs.declared.row.SplitUse.{SplitUse}
 use Rattle.use_rows.specs.Uses.{Source, sourceOf, noWeights, startInst, endInst, firstInst, lastInst, useTableOf}
 use Rattle.use_rows.specs.UseColumns.{UseColumns, useColumns, Inside, Holds}
 use Rattle.uses.specs.CheckedUses.{CheckedUses}
-use Rattle.uses.specs.Collecting.{Collecting, countedLists, Starting, Ending, RowsLeft, Held, withLast}
-use Rattle.uses.proofs.Adding.{inside-less}
+use Rattle.use_lists.specs.Collecting.{Collecting, countedLists, RowsLeft, Held, withLast}
+use Rattle.uses.specs.FirstLast.{Starting, Ending}
+use Rattle.use_rows.proofs.Rows.{inside-less}
 use Rattle.uses.proofs.CheckedJob.{job-starting, job-ending, job-listings}
 use Rattle.uses.proofs.Held.{last-room, last-held}
 use borrow.Author.Needs.{needs}
@@ -125,7 +126,12 @@ segment-at-requires : tie.Need-segment-at-requires
 segment-at-requires c κs = search needs
 
 sub-segment-at : tie.Need-sub-segment-at
-sub-segment-at c = let e = c .before .segment-count .ensures in let h = c .before .before .before .before .before .before .before .before .before .before .before .before .before .before .before .before .before .before .before .pre .1 .0 .some in one (c .before .segment-count .result) (length (segments (c .before .before .before .before .before .before .before .before .before .before .before .before .before .before .before .before .before .before .before))) e h
+sub-segment-at c =
+    let e = c .before .segment-count .ensures in let h = c .before .before .before .before .before .before .before .before .before .before .before .before
+    .before .before .before .before .before .before .before .pre .1 .0 .some in
+    one (c .before .segment-count .result)
+    (length (segments (c .before .before .before .before .before .before .before .before .before .before .before .before .before .before .before .before .before
+    .before .before))) e h
   where
     one : (n m : ℕ) → n ≡ m → 0 < m → 1 ≤ n
     one n m e h = omega (arith, e, h)

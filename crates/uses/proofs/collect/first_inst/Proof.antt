@@ -20,7 +20,9 @@ returns : tie.Need-returns
 returns c = ap (λ (t : Bool). c .before .before .before .args .s .start / 4 - cond t 1 0) (sym (sym (c .before .has-fixeddef .ensures) ∙ c .if1 .taken))
 
 returns-2 : tie.Need-returns-2
-returns-2 c = whole (c .before .before .before .args .s .start / 4) ∙ ap (λ (t : Bool). c .before .before .before .args .s .start / 4 - cond t 1 0) (sym (sym (c .before .has-fixeddef .ensures) ∙ c .if1 .left))
+returns-2 c =
+    whole (c .before .before .before .args .s .start / 4) ∙ ap (λ (t : Bool). c .before .before .before .args .s .start / 4 - cond t 1 0)
+    (sym (sym (c .before .has-fixeddef .ensures) ∙ c .if1 .left))
   where
     whole : (x : ℕ) → x ≡ x - cond false 1 0
     whole x = omega arith

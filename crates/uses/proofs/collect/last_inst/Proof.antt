@@ -20,7 +20,9 @@ has-liveout-requires : tie.Need-has-liveout-requires
 has-liveout-requires c κs = search needs
 
 sub-t8 : tie.Need-sub-t8
-sub-t8 c = quarter (c .before .before .before .before .before .before .args .s .end) (c .before .before .before .before .before .before .pre .out (sym (c .before .before .has-liveout .ensures) ∙ c .before .if1 .taken))
+sub-t8 c =
+    quarter (c .before .before .before .before .before .before .args .s .end)
+    (c .before .before .before .before .before .before .pre .out (sym (c .before .before .has-liveout .ensures) ∙ c .before .if1 .taken))
   where
     quarter : (x : ℕ) → 4 ≤ x → 1 ≤ x / 4
     quarter x h = omega (arith, h)

@@ -169,15 +169,24 @@ loop-again : tie.Need-loop-again Inv-loop μ-loop
 loop-again c =
     let b = c .before .before .before .before .before .before .before .before .before .before .before .before .before .before .before .before .before in
     let i = c .before .before .before .before .before .before .before .before .before .before .loop .i in (
-      up (from (c .before .before .before .before .before .before .before .before .before .before) + b .args .r .fixed) i (c .before .before .before .before .before .before .before .before .before .before .loop .inv .0),
-      λ k h l. ⊎-elim (λ m. c .before .before .before .before .before .before .before .before .before .before .loop .inv .1 k m l) (λ m. ap (test b) (next-only k i h m) ∙ no-clash (uses b) (b .pre) (b .args .r) (b .args .s) (from (c .before .before .before .before .before .before .before .before .before .before)) (c .before .before .before .before .before .before .before .before .before .before .before .before .first-use .ensures) i (tested (c .before) false (c .if3 .left))) (split k i),
+      up (from (c .before .before .before .before .before .before .before .before .before .before) + b .args .r .fixed) i
+          (c .before .before .before .before .before .before .before .before .before .before .loop .inv .0),
+      λ k h l. ⊎-elim (λ m. c .before .before .before .before .before .before .before .before .before .before .loop .inv .1 k m l)
+          (λ m. ap (test b) (next-only k i h m) ∙ no-clash (uses b) (b .pre) (b .args .r) (b .args .s)
+          (from (c .before .before .before .before .before .before .before .before .before .before))
+          (c .before .before .before .before .before .before .before .before .before .before .before .before .first-use .ensures) i
+          (tested (c .before) false (c .if3 .left))) (split k i),
     )
   where
     up : (a i : ℕ) → a ≤ i → a ≤ i + 1
     up a i h = omega arith
 
 returns-4 : tie.Need-returns-4 Inv-loop μ-loop
-returns-4 c = sym (none (c .before) (λ j m l. absurd (never (c .before .before .before .before .fixed-use-count .result) (c .before .loop .i) j (length (uses (c .before .before .before .before .before .before .before .before))) (c .loop-test .left) (c .before .before .before .before .fixed-use-count .ensures) m l)))
+returns-4 c =
+    sym (none (c .before)
+    (λ j m l. absurd (never (c .before .before .before .before .fixed-use-count .result) (c .before .loop .i) j
+    (length (uses (c .before .before .before .before .before .before .before .before))) (c .loop-test .left)
+    (c .before .before .before .before .fixed-use-count .ensures) m l)))
   where
     never : (n i j k : ℕ) → n ≤ i → n ≡ k → i ≤ j → j < k → ⊥
     never n i j k p e q r = omega arith

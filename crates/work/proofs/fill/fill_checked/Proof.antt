@@ -46,7 +46,8 @@ lent s =
 abbrev cols : tie.After-fill-uses → UseColumns
 cols c =
     let l = c .fill-uses .last in
-    useColumns (l .1 .1 .1 .1 .1 .1 .1 .1 .1 .1 .1 .1 .1 .1 .1 .1 .0) (l .1 .1 .1 .1 .1 .1 .1 .1 .1 .1 .1 .1 .1 .1 .1 .1 .1 .0) (l .1 .1 .1 .1 .1 .1 .1 .1 .1 .1 .1 .1 .1 .1 .1 .1 .1 .1 .0) (l .1 .1 .1 .1 .1 .1 .1 .1 .1 .1 .1 .1 .1 .1 .1 .1 .1 .1 .1 .0)
+    useColumns (l .1 .1 .1 .1 .1 .1 .1 .1 .1 .1 .1 .1 .1 .1 .1 .1 .0) (l .1 .1 .1 .1 .1 .1 .1 .1 .1 .1 .1 .1 .1 .1 .1 .1 .1 .0)
+    (l .1 .1 .1 .1 .1 .1 .1 .1 .1 .1 .1 .1 .1 .1 .1 .1 .1 .1 .0) (l .1 .1 .1 .1 .1 .1 .1 .1 .1 .1 .1 .1 .1 .1 .1 .1 .1 .1 .1 .0)
 
 fill-uses-requires : tie.Need-fill-uses-requires
 fill-uses-requires c κs =
@@ -71,22 +72,34 @@ enum-told : tie.Need-enum-told
 enum-told c = search needs
 
 same-length : tie.Need-same-length
-same-length c = c .before .before .before .before .before .before .before .before .before .before .before .before .before .before .fill-uses .kept .1 .1 .1 .1 .1 .1 .1 .1 .1 .1 .1 .1 .1 .1 .0
+same-length c =
+    c .before .before .before .before .before .before .before .before .before .before .before .before .before .before .fill-uses .kept .1 .1 .1 .1 .1 .1 .1 .1
+    .1 .1 .1 .1 .1 .1 .0
 
 same-length-2 : tie.Need-same-length-2
-same-length-2 c = c .before .before .before .before .before .before .before .before .before .before .before .before .before .before .fill-uses .kept .1 .1 .1 .1 .1 .1 .1 .1 .1 .1 .1 .1 .1 .1 .1 .0
+same-length-2 c =
+    c .before .before .before .before .before .before .before .before .before .before .before .before .before .before .fill-uses .kept .1 .1 .1 .1 .1 .1 .1 .1
+    .1 .1 .1 .1 .1 .1 .1 .0
 
 same-length-3 : tie.Need-same-length-3
-same-length-3 c = c .before .before .before .before .before .before .before .before .before .before .before .before .before .before .fill-uses .kept .1 .1 .1 .1 .1 .1 .1 .1 .1 .1 .1 .1 .1 .1 .1 .1 .0
+same-length-3 c =
+    c .before .before .before .before .before .before .before .before .before .before .before .before .before .before .fill-uses .kept .1 .1 .1 .1 .1 .1 .1 .1
+    .1 .1 .1 .1 .1 .1 .1 .1 .0
 
 same-length-4 : tie.Need-same-length-4
-same-length-4 c = c .before .before .before .before .before .before .before .before .before .before .before .before .before .before .fill-uses .kept .1 .1 .1 .1 .1 .1 .1 .1 .1 .1 .1 .1 .1 .1 .1 .1 .1 .0
+same-length-4 c =
+    c .before .before .before .before .before .before .before .before .before .before .before .before .before .before .fill-uses .kept .1 .1 .1 .1 .1 .1 .1 .1
+    .1 .1 .1 .1 .1 .1 .1 .1 .1 .0
 
 same-length-5 : tie.Need-same-length-5
-same-length-5 c = c .before .before .before .before .before .before .before .before .before .before .before .before .before .before .fill-uses .kept .1 .1 .1 .1 .1 .1 .1 .1 .1 .1 .1 .1 .1 .1 .1 .1 .1 .1 .0
+same-length-5 c =
+    c .before .before .before .before .before .before .before .before .before .before .before .before .before .before .fill-uses .kept .1 .1 .1 .1 .1 .1 .1 .1
+    .1 .1 .1 .1 .1 .1 .1 .1 .1 .1 .0
 
 same-length-6 : tie.Need-same-length-6
-same-length-6 c = c .before .before .before .before .before .before .before .before .before .before .before .before .before .before .fill-uses .kept .1 .1 .1 .1 .1 .1 .1 .1 .1 .1 .1 .1 .1 .1 .1 .1 .1 .1 .1 .0
+same-length-6 c =
+    c .before .before .before .before .before .before .before .before .before .before .before .before .before .before .fill-uses .kept .1 .1 .1 .1 .1 .1 .1 .1
+    .1 .1 .1 .1 .1 .1 .1 .1 .1 .1 .1 .0
 
 returns : tie.Need-returns
 returns c =
@@ -96,7 +109,8 @@ returns c =
     let q = s .pre in
     let l = u .fill-uses .last in
     none-filled (source s) (s .args .scales) (lent s) (q .0) (q .1) (q .2) (q .3)
-    (l .1 .1 .1 .1 .1 .1 .1 .1 .1 .1 .1 .1 .1 .1 .0) (l .1 .1 .1 .1 .1 .1 .1 .1 .1 .1 .1 .1 .1 .1 .1 .0) (cols u) (u .fill-uses .result .rows) (u .fill-uses .result .best) (u .fill-uses .ensures) (c .enum-told .given .1)
+    (l .1 .1 .1 .1 .1 .1 .1 .1 .1 .1 .1 .1 .1 .1 .0) (l .1 .1 .1 .1 .1 .1 .1 .1 .1 .1 .1 .1 .1 .1 .1 .0) (cols u) (u .fill-uses .result .rows)
+    (u .fill-uses .result .best) (u .fill-uses .ensures) (c .enum-told .given .1)
 
 segment-count-requires : tie.Need-segment-count-requires
 segment-count-requires c κs = tt
@@ -110,22 +124,27 @@ fill-gap-tables-requires c κs =
     let s = begin u in
     let q = s .pre in
     let l = u .fill-uses .last in
-    let f = c .before .before .before .before .before .before .before .before .before .before .before .before .before .before .before .before .before .found .given in
+    let f = c .before .before .before .before .before .before .before .before .before .before .before .before .before .before .before .before .before .found
+    .given in
     let n = c .before .before .before .before .before .before .before .before .before .before .before .before .before .before .before .segment-count in (
       cut-inside (source s) (s .args .scales) (lent s) (q .0) (q .1) (q .2) (q .3)
-          (l .1 .1 .1 .1 .1 .1 .1 .1 .1 .1 .1 .1 .1 .1 .0) (l .1 .1 .1 .1 .1 .1 .1 .1 .1 .1 .1 .1 .1 .1 .1 .0) (cols u) (u .fill-uses .result .rows) (u .fill-uses .result .best) (u .fill-uses .ensures)
+          (l .1 .1 .1 .1 .1 .1 .1 .1 .1 .1 .1 .1 .1 .1 .0) (l .1 .1 .1 .1 .1 .1 .1 .1 .1 .1 .1 .1 .1 .1 .1 .0) (cols u) (u .fill-uses .result .rows)
+          (u .fill-uses .result .best) (u .fill-uses .ensures)
           (f .0 .0) (f .1) (n .result) (n .ensures),
       (
         (
           cut-cuttable (source s) (s .args .scales) (lent s) (q .0) (q .1) (q .2) (q .3)
-              (l .1 .1 .1 .1 .1 .1 .1 .1 .1 .1 .1 .1 .1 .1 .0) (l .1 .1 .1 .1 .1 .1 .1 .1 .1 .1 .1 .1 .1 .1 .1 .0) (cols u) (u .fill-uses .result .rows) (u .fill-uses .result .best) (u .fill-uses .ensures)
+              (l .1 .1 .1 .1 .1 .1 .1 .1 .1 .1 .1 .1 .1 .1 .0) (l .1 .1 .1 .1 .1 .1 .1 .1 .1 .1 .1 .1 .1 .1 .1 .0) (cols u) (u .fill-uses .result .rows)
+              (u .fill-uses .result .best) (u .fill-uses .ensures)
               (f .0 .0) (f .1),
           cut-valued (source s) (s .args .scales) (lent s) (q .0) (q .1) (q .2) (q .3)
-              (l .1 .1 .1 .1 .1 .1 .1 .1 .1 .1 .1 .1 .1 .1 .0) (l .1 .1 .1 .1 .1 .1 .1 .1 .1 .1 .1 .1 .1 .1 .1 .0) (cols u) (u .fill-uses .result .rows) (u .fill-uses .result .best) (u .fill-uses .ensures)
+              (l .1 .1 .1 .1 .1 .1 .1 .1 .1 .1 .1 .1 .1 .1 .0) (l .1 .1 .1 .1 .1 .1 .1 .1 .1 .1 .1 .1 .1 .1 .1 .0) (cols u) (u .fill-uses .result .rows)
+              (u .fill-uses .result .best) (u .fill-uses .ensures)
               (f .0 .0) (f .1) (n .result) (n .ensures),
         ),
         cut-room (source s) (s .args .scales) (lent s) (q .0) (q .1) (q .2) (q .3)
-            (l .1 .1 .1 .1 .1 .1 .1 .1 .1 .1 .1 .1 .1 .1 .0) (l .1 .1 .1 .1 .1 .1 .1 .1 .1 .1 .1 .1 .1 .1 .1 .0) (cols u) (u .fill-uses .result .rows) (u .fill-uses .result .best) (u .fill-uses .ensures)
+            (l .1 .1 .1 .1 .1 .1 .1 .1 .1 .1 .1 .1 .1 .1 .0) (l .1 .1 .1 .1 .1 .1 .1 .1 .1 .1 .1 .1 .1 .1 .1 .0) (cols u) (u .fill-uses .result .rows)
+            (u .fill-uses .result .best) (u .fill-uses .ensures)
             (f .0 .0) (f .1) (n .result) (n .ensures),
       ),
     )
@@ -266,11 +285,16 @@ returns-2 c =
     .before .before .before .before .before .before .before .before .before .before .before .before .before .before
     .before .before .before .before .before .before .segment-count in
     all-filled (source s) (s .args .scales) (lent s) (q .0) (q .1) (q .2) (q .3)
-    (l .1 .1 .1 .1 .1 .1 .1 .1 .1 .1 .1 .1 .1 .1 .0) (l .1 .1 .1 .1 .1 .1 .1 .1 .1 .1 .1 .1 .1 .1 .1 .0) (cols u) (u .fill-uses .result .rows) (u .fill-uses .result .best) (u .fill-uses .ensures)
+    (l .1 .1 .1 .1 .1 .1 .1 .1 .1 .1 .1 .1 .1 .1 .0) (l .1 .1 .1 .1 .1 .1 .1 .1 .1 .1 .1 .1 .1 .1 .1 .0) (cols u) (u .fill-uses .result .rows)
+    (u .fill-uses .result .best) (u .fill-uses .ensures)
     (f .0 .0) (f .1) (n .result) (n .ensures)
-    (lentTables (m .1 .1 .1 .1 .1 .1 .1 .1 .1 .1 .1 .1 .1 .1 .1 .0) (m .1 .1 .1 .1 .1 .1 .1 .1 .1 .1 .1 .1 .1 .1 .1 .1 .0) (m .1 .1 .1 .1 .1 .1 .1 .1 .1 .1 .1 .1 .1 .1 .1 .1 .1 .0) (m .1 .1 .1 .1 .1 .1 .1 .1 .1 .1 .1 .1 .1 .1 .1 .1 .1 .1 .0) (m .1 .1 .1 .1 .1 .1 .1 .1 .1 .1 .1 .1 .1 .1 .1 .1 .1 .1 .1 .0)
-    (m .1 .1 .1 .1 .1 .1 .1 .1 .1 .1 .1 .1 .1 .1 .1 .1 .1 .1 .1 .1 .0) (m .1 .1 .1 .1 .1 .1 .1 .1 .1 .1 .1 .1 .1 .1 .1 .1 .1 .1 .1 .1 .1 .0) (m .1 .1 .1 .1 .1 .1 .1 .1 .1 .1 .1 .1 .1 .1 .1 .1 .1 .1 .1 .1 .1 .1 .0) (m .1 .1 .1 .1 .1 .1 .1 .1 .1 .1 .1 .1 .1 .1 .1 .1 .1 .1 .1 .1 .1 .1 .1 .0))
-    (g .fill-gap-tables .result .gaps) (g .fill-gap-tables .result .segments) (g .fill-gap-tables .result .initial) (g .fill-gap-tables .ensures .0) (g .fill-gap-tables .ensures .1)
+    (lentTables (m .1 .1 .1 .1 .1 .1 .1 .1 .1 .1 .1 .1 .1 .1 .1 .0) (m .1 .1 .1 .1 .1 .1 .1 .1 .1 .1 .1 .1 .1 .1 .1 .1 .0)
+    (m .1 .1 .1 .1 .1 .1 .1 .1 .1 .1 .1 .1 .1 .1 .1 .1 .1 .0) (m .1 .1 .1 .1 .1 .1 .1 .1 .1 .1 .1 .1 .1 .1 .1 .1 .1 .1 .0)
+    (m .1 .1 .1 .1 .1 .1 .1 .1 .1 .1 .1 .1 .1 .1 .1 .1 .1 .1 .1 .0)
+    (m .1 .1 .1 .1 .1 .1 .1 .1 .1 .1 .1 .1 .1 .1 .1 .1 .1 .1 .1 .1 .0) (m .1 .1 .1 .1 .1 .1 .1 .1 .1 .1 .1 .1 .1 .1 .1 .1 .1 .1 .1 .1 .1 .0)
+    (m .1 .1 .1 .1 .1 .1 .1 .1 .1 .1 .1 .1 .1 .1 .1 .1 .1 .1 .1 .1 .1 .1 .0) (m .1 .1 .1 .1 .1 .1 .1 .1 .1 .1 .1 .1 .1 .1 .1 .1 .1 .1 .1 .1 .1 .1 .1 .0))
+    (g .fill-gap-tables .result .gaps) (g .fill-gap-tables .result .segments) (g .fill-gap-tables .result .initial) (g .fill-gap-tables .ensures .0)
+    (g .fill-gap-tables .ensures .1)
 
 pub fill-checked-spec : {M : Type 1} → statement M
 fill-checked-spec =

@@ -18,7 +18,8 @@ use Rattle.overlaps.specs.GapSegments.{SegmentColumns, segmentColumns}
 use Rattle.walks.proofs.Steps.{last-inside, last-before}
 use Rattle.walks.proofs.Seen.{made}
 use Rattle.walks.proofs.GapSegments.{SeenGap, gap-is}
-use Rattle.walks.proofs.GapWalk.{Within, within-last, left-earlier, left-moved, last-of-gap-true, last-of-gap-false, left-out, left-step, left-first, left-more, left-whole}
+use Rattle.walks.proofs.GapWalk.{Within, within-last, left-earlier, left-moved, last-of-gap-true, last-of-gap-false, left-out, left-step, left-first}
+use Rattle.walks.proofs.GapWalk.{left-more, left-whole}
 use Rattle.walks.proofs.left.LeftWalker.take_gap.Statement.{statement}
 use Rattle.walks.proofs.left.LeftWalker.take_gap.Tie as tie
 

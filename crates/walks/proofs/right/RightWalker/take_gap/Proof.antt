@@ -18,7 +18,8 @@ use Rattle.overlaps.specs.GapSegments.{SegmentColumns, segmentColumns}
 use Rattle.walks.proofs.Steps.{next-after}
 use Rattle.walks.proofs.Seen.{made}
 use Rattle.walks.proofs.GapSegments.{SeenGap, gap-is}
-use Rattle.walks.proofs.GapWalk.{Within, within-first, right-later, right-moved, of-gap-true, of-gap-false, right-out, right-step, right-first, right-more, right-whole}
+use Rattle.walks.proofs.GapWalk.{Within, within-first, right-later, right-moved, of-gap-true, of-gap-false, right-out, right-step, right-first}
+use Rattle.walks.proofs.GapWalk.{right-more, right-whole}
 use Rattle.walks.proofs.right.RightWalker.take_gap.Statement.{statement}
 use Rattle.walks.proofs.right.RightWalker.take_gap.Tie as tie
 

@@ -109,7 +109,8 @@ returns c =
     let b = c .before .before .before .before .before .before .before .before .before .before .before .before .before in
     let l = c .before .before .loop in
     let e = le-antisymm (l .inv .0) (c .if1 .left) in
-    let m = seen-is (b .args .register) (table b) (b .args .s) (first b) (l .met) (b .pre .1 .1 .1) (subst (λ (v : ℕ). Seen (firstUnits (b .args .register) v) (table b) (b .args .s) (All (table b)) (first b) (l .met)) e (l .inv .2)) in (
+    let m = seen-is (b .args .register) (table b) (b .args .s) (first b) (l .met) (b .pre .1 .1 .1)
+    (subst (λ (v : ℕ). Seen (firstUnits (b .args .register) v) (table b) (b .args .s) (All (table b)) (first b) (l .met)) e (l .inv .2)) in (
       ap (λ (x : Met). x .fixed) m,
       ap (λ (x : Met). x .heaviest) m,
       l .inv .3,

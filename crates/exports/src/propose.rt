@@ -1,0 +1,136 @@
+// The call that proposes, for programs in C and in Rust.
+use proposer::propose::propose_split;
+use refusals::job::Parameters;
+use words::words::proposed_words;
+ghost use Rattle.refusals.specs.Job.{jobOf, jobColumns};
+ghost use Rattle.filling.specs.SourceTables.{workColumns};
+ghost use Rattle.words.specs.Words.{IsExported};
+
+// The answer to a job, and its tables in the lent columns: `propose_split`, with its answer in ten words.
+#[no_mangle]
+pub extern "C" fn gelduvra_propose_split<'a>(
+    freq: &'a [u32],
+    first: &'a [u32],
+    end: &'a [u32],
+    code: &'a [u32],
+    s_start: &'a [u32],
+    s_end: &'a [u32],
+    s_value: &'a [u32],
+    s_first_use: &'a [u32],
+    s_end_use: &'a [u32],
+    s_flags: &'a [u32],
+    position: &'a [u32],
+    u_kind: &'a [u32],
+    cost: &'a [u32],
+    spill_weight: &'a [u32],
+    r_unit: &'a [u32],
+    r_start: &'a [u32],
+    r_end: &'a [u32],
+    r_kind: &'a [u32],
+    r_index: &'a [u32],
+    r_fixed: &'a [u32],
+    f_unit: &'a [u32],
+    f_point: &'a [u32],
+    f_value: &'a [u32],
+    k: u32,
+    cheaper_than_move: u32,
+    cheaper_than_load: u32,
+    indirect: u32,
+    units: u32,
+    prev_lower_freq: &mut [u32],
+    next_lower_freq: &mut [u32],
+    inst: &mut [u32],
+    weight: &mut [f32],
+    left_weight: &mut [f32],
+    right_weight: &mut [f32],
+    from: &mut [u32],
+    to: &mut [u32],
+    gap_weight: &mut [f32],
+    live: &mut [u32],
+    min_freq: &mut [f32],
+    out_from: &mut [u32],
+    out_to: &mut [u32],
+    out_value: &mut [u32],
+    out_gap: &mut [u32],
+    answer: &mut [u64; 10],
+)
+    ensures { λ _. ⌜
+        (let job = jobOf
+        (record {
+          k = k;
+          «cheaper_than_move» = «cheaper_than_move»;
+          «cheaper_than_load» = «cheaper_than_load»;
+          indirect = indirect;
+          units = units;
+        })
+        (jobColumns (now (freq .entry)) (now (first .entry)) (now (end .entry)) (now (code .entry))
+        (now («s_start» .entry)) (now («s_end» .entry)) (now («s_value» .entry))
+        (now («s_first_use» .entry)) (now («s_end_use» .entry)) (now («s_flags» .entry))
+        (now (position .entry)) (now («u_kind» .entry)) (now (cost .entry)) (now («spill_weight» .entry))
+        (now («r_unit» .entry)) (now («r_start» .entry)) (now («r_end» .entry))
+        (now («r_kind» .entry)) (now («r_index» .entry)) (now («r_fixed» .entry))
+        (now («f_unit» .entry)) (now («f_point» .entry)) (now («f_value» .entry))) in
+        let lent = workColumns
+        (now («prev_lower_freq» .entry)) (now («next_lower_freq» .entry))
+        (now (inst .entry)) (now (weight .entry)) (now («left_weight» .entry)) (now («right_weight» .entry))
+        (now (from .entry)) (now (to .entry)) (now («gap_weight» .entry)) (now (live .entry)) (now («min_freq» .entry))
+        (now («out_from» .entry)) (now («out_to» .entry)) (now («out_value» .entry)) (now («out_gap» .entry)) in
+        let after = workColumns
+        (now («prev_lower_freq» .exit)) (now («next_lower_freq» .exit))
+        (now (inst .exit)) (now (weight .exit)) (now («left_weight» .exit)) (now («right_weight» .exit))
+        (now (from .exit)) (now (to .exit)) (now («gap_weight» .exit)) (now (live .exit)) (now («min_freq» .exit))
+        (now («out_from» .exit)) (now («out_to» .exit)) (now («out_value» .exit)) (now («out_gap» .exit)) in
+        IsExported job lent after (now (answer .exit))) ⌝ }
+{
+    let columns = [
+        freq,
+        first,
+        end,
+        code,
+        s_start,
+        s_end,
+        s_value,
+        s_first_use,
+        s_end_use,
+        s_flags,
+        position,
+        u_kind,
+        cost,
+        spill_weight,
+        r_unit,
+        r_start,
+        r_end,
+        r_kind,
+        r_index,
+        r_fixed,
+        f_unit,
+        f_point,
+        f_value,
+    ];
+    let proposed = propose_split(
+        columns,
+        Parameters {
+            k,
+            cheaper_than_move,
+            cheaper_than_load,
+            indirect,
+            units,
+        },
+        prev_lower_freq,
+        next_lower_freq,
+        inst,
+        weight,
+        left_weight,
+        right_weight,
+        from,
+        to,
+        gap_weight,
+        live,
+        min_freq,
+        out_from,
+        out_to,
+        out_value,
+        out_gap,
+    );
+    *answer = proposed_words(proposed);
+}

@@ -1,0 +1,132 @@
+// What a job is answered, where its tables are filled: growth over shared columns.
+use growth::proposal::Region;
+use growth::proposal::SplitProposal;
+use links::blocks::Refusal;
+use region::find::find_in_tables;
+use walks::meeting::Register;
+use work::fill::FilledTables;
+ghost use mathlib.Core.Path.{_≡_};
+ghost use Rattle.walks.specs.Meeting.{reservedOf};
+ghost use Rattle.outcome.specs.Outcome.{ofRegion};
+ghost use Rattle.outcome.specs.Growing.{growthColumns, GrowableIf, grownFrom};
+
+// What a job is answered: refused by document 01's table, none for want of a best use or of a region, or a proposal.
+pub enum Answer {
+    Refused(Refusal),
+    NoBestUse,
+    NoRegion,
+    Found(SplitProposal),
+}
+
+// The answer, and how many rows of the use table, of the gaps and of the gap segments are used.
+pub struct Proposed {
+    pub answer: Answer,
+    pub uses: usize,
+    pub gaps: usize,
+    pub gap_segments: usize,
+}
+
+// A region found is a proposal.
+fn answer_of(region: Region) -> Answer
+    ensures { λ r. ⌜ r ≡ ofRegion region ⌝ }
+{
+    let Region::Found(p) = region else {
+        return Answer::NoRegion;
+    };
+    Answer::Found(p)
+}
+
+// Where tables are ready, grows a region in them.
+pub fn grow_filled(
+    from: &[u32],
+    gap_weight: &[f32],
+    live: &[u32],
+    min_freq: &[f32],
+    out_from: &[u32],
+    out_to: &[u32],
+    out_value: &[u32],
+    out_gap: &[u32],
+    r_unit: &[u32],
+    r_start: &[u32],
+    r_end: &[u32],
+    r_kind: &[u32],
+    r_index: &[u32],
+    r_fixed: &[u32],
+    f_unit: &[u32],
+    f_point: &[u32],
+    f_value: &[u32],
+    spill_weight: &[u32],
+    register: Register,
+    k: u32,
+    filled: FilledTables,
+) -> Proposed
+    requires { ⌜
+        (let reserved = reservedOf
+        (now «r_unit») (now «r_start») (now «r_end») (now «r_kind») (now «r_index») (now «r_fixed»)
+        (now «f_unit») (now «f_point») (now «f_value»)
+        (now «spill_weight») in
+        let gaps = growthColumns
+        (now from) (now «gap_weight») (now live) (now «min_freq»)
+        (now «out_from») (now «out_to») (now «out_value») (now «out_gap») in
+        GrowableIf register reserved k gaps filled)
+        ⌝ }
+    ensures { λ r. ⌜
+        (let reserved = reservedOf
+        (now («r_unit» .entry)) (now («r_start» .entry)) (now («r_end» .entry))
+        (now («r_kind» .entry)) (now («r_index» .entry)) (now («r_fixed» .entry))
+        (now («f_unit» .entry)) (now («f_point» .entry)) (now («f_value» .entry))
+        (now («spill_weight» .entry)) in
+        let gaps = growthColumns
+        (now (from .entry)) (now («gap_weight» .entry)) (now (live .entry)) (now («min_freq» .entry))
+        (now («out_from» .entry)) (now («out_to» .entry)) (now («out_value» .entry)) (now («out_gap» .entry)) in
+        r ≡ grownFrom register reserved k gaps filled)
+        ⌝ }
+{
+    match filled {
+        FilledTables::Refused(r) => Proposed {
+            answer: Answer::Refused(r),
+            uses: 0,
+            gaps: 0,
+            gap_segments: 0,
+        },
+        FilledTables::NoBestUse(uses) => Proposed {
+            answer: Answer::NoBestUse,
+            uses,
+            gaps: 0,
+            gap_segments: 0,
+        },
+        FilledTables::Ready(t) => {
+            let region = find_in_tables(
+                from,
+                gap_weight,
+                live,
+                min_freq,
+                t.gaps,
+                t.own,
+                out_from,
+                out_to,
+                out_value,
+                out_gap,
+                t.gap_segments,
+                r_unit,
+                r_start,
+                r_end,
+                r_kind,
+                r_index,
+                r_fixed,
+                f_unit,
+                f_point,
+                f_value,
+                spill_weight,
+                register,
+                k,
+            );
+            Proposed {
+                answer: answer_of(region),
+                uses: t.uses,
+                gaps: t.gaps,
+                gap_segments: t.gap_segments,
+            }
+        }
+    }
+}
