@@ -52,7 +52,7 @@ pub struct Limits {
 }
 
 // No segment, as it stands before the first.
-pub fn no_segment() -> Segment
+pub(crate) fn no_segment() -> Segment
     ensures { λ r. ⌜ r ≡ noSegment ⌝ }
 {
     Segment {
@@ -66,7 +66,7 @@ pub fn no_segment() -> Segment
 }
 
 // No fixed use, as it stands before the first.
-pub fn no_fixed_use() -> FixedUse
+pub(crate) fn no_fixed_use() -> FixedUse
     ensures { λ r. ⌜ r ≡ noFixedUse ⌝ }
 {
     FixedUse {
@@ -148,7 +148,7 @@ pub fn use_at(position: &[u32], kind: &[u32], cost: &[u32], i: usize) -> Use
 }
 
 // Use i, or no use past the last.
-pub fn use_or_none(position: &[u32], kind: &[u32], cost: &[u32], i: usize) -> Use
+pub(crate) fn use_or_none(position: &[u32], kind: &[u32], cost: &[u32], i: usize) -> Use
     ensures { λ r. ⌜ r ≡ getD (usesOf (now (position .entry)) (now (kind .entry)) (now (cost .entry))) i noUse ⌝ }
 {
     let n = use_count(position, kind, cost);
@@ -189,7 +189,7 @@ pub fn fixed_use_at(unit: &[u32], point: &[u32], value: &[u32], i: usize) -> Fix
 }
 
 // No reservation, as it stands before the first.
-pub fn no_reservation() -> Reservation
+pub(crate) fn no_reservation() -> Reservation
     ensures { λ r. ⌜ r ≡ noReservation ⌝ }
 {
     Reservation {
@@ -246,7 +246,7 @@ pub fn reservation_at(
 }
 
 // No use, as it stands before the first.
-pub fn no_use() -> Use
+fn no_use() -> Use
     ensures { λ r. ⌜ r ≡ noUse ⌝ }
 {
     Use {

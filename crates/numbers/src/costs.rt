@@ -33,7 +33,7 @@ fn spill_cost_bits(kind: u32, cost: u32) -> u32
 }
 
 // The cost of a use, from its kind and its cost field, before it is scaled.
-pub fn spill_cost(kind: u32, cost: u32) -> f32
+fn spill_cost(kind: u32, cost: u32) -> f32
     ensures { λ r. ⌜ r ≡ spillCost reloadCost moveCost kind cost ⌝ }
 {
     weights::cost_of(spill_cost_bits(kind, cost))

@@ -87,7 +87,7 @@ pub fn cost_of(bits: u32) -> f32
 }
 
 // The bits of a weight.
-pub fn weight_to_bits(w: f32) -> MaybeBits
+fn weight_to_bits(w: f32) -> MaybeBits
     ensures { λ r. ⌜ r ≡ bitsFrom w ⌝ }
 {
     if w != w {
