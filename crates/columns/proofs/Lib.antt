@@ -5,3 +5,4 @@ pub mod Tables
 pub mod Fillings
 pub mod Counting
 pub mod Joining
+pub mod Taken

@@ -18,7 +18,11 @@ pub record FirstIn (test : ℕ → Bool) (lo hi r : ℕ) : Type 0 where
   pub found : r < hi → test r ≡ true
 
 -- a part of a column that does not fall
+abbrev pub Rising : List ℕ → ℕ → ℕ → Type 0
+Rising col lo hi = (i k : ℕ) → lo ≤ i → i ≤ k → k < hi → getD col i 0 ≤ getD col k 0
+
+-- the same of a part that the column has
 pub record Searchable (col : List ℕ) (lo hi : ℕ) : Type 0 where
   pub order : lo ≤ hi
   pub inside : hi ≤ length col
-  pub rising : (i k : ℕ) → lo ≤ i → i ≤ k → k < hi → getD col i 0 ≤ getD col k 0
+  pub rising : Rising col lo hi

@@ -11,9 +11,10 @@ use Rattle.columns.proofs.Tests.{cond-both, cond-false}
 use Rattle.links.specs.declared.lower.Side.{Side}
 use Rattle.links.specs.declared.lower.Side.the-variants.{Previous, Next}
 use Rattle.links.specs.Links.{onSide}
-use Rattle.growth.specs.Growth.{GapsSeen, State, usedUp, grownBy, passesOn, start, sideOpen, isOpen, prefersLeft, sideTried, barred, grows, tryOn, tryAt}
-use Rattle.growth.specs.Growth.{try, growth}
+use Rattle.growth.specs.Growth.{GapsSeen, State, gapOutside, weightTest, usedUp, grownBy, passes, passesOn, start, sideOpen, isOpen, prefersLeft, sideTried}
+use Rattle.growth.specs.Growth.{barred, grows, came, afterCame, tryOn, tryAt, try, growth}
 use Rattle.growth.specs.Demand.{Around, Ended}
+use Rattle.growth.specs.declared.step.Came.the-variants.{Grown, Fixed, Weight}
 use Rattle.growth.specs.declared.step.Turn.{Turn}
 use Rattle.growth.specs.declared.step.Turn.the-variants.{Try, End}
 
@@ -56,16 +57,27 @@ module _ (seen : GapsSeen) where
       (λ q. cond-both P prefers (Try Previous) (Try Next) (λ _. t Previous p) (λ _. t Next q)) (λ _. t Previous p))
       (λ p. cond-both P (isOpen Next seen st) (Try Next) End (t Next) (λ q. e (record { left = p; right = q })))
 
+  -- what comes of a try: it grows if the gap passes, and else bars the side
+  pub try-on : (side : Side) (st : State) → tryOn side seen st ≡ cond (passesOn side seen (st .region)) (grows side seen st) (barred side st)
+  unfolding tryOn came passes
+  try-on side st = by (seen .fixed (gapOutside side (st .region))) (weightTest seen (grownBy side seen (st .region)))
+    where
+      by : (f t : Bool) → afterCame (cond f Fixed (cond t Grown Weight)) side seen st ≡ cond (not f && t) (grows side seen st) (barred side st)
+      by true t = refl
+      by false true = refl
+      by false false = refl
+
   -- a try grows by a gap on an open side that passes, or bars an open side on which none passes, or there is none and nothing changes
   pub try-cases : (P : State → Type 0) (st : State)
       → ((side : Side) → T (isOpen side seen st) → T (passesOn side seen (st .region)) → P (grows side seen st))
       → ((side : Side) → T (isOpen side seen st) → T (not (passesOn side seen (st .region))) → P (barred side st))
       → (Ended seen st → P st)
       → P (try seen st)
-  unfolding try tryOn
+  unfolding try
   try-cases P st g b e =
       turn-cases (λ (t : Turn). P (tryAt t seen st)) st
-      (λ side o. cond-both P (passesOn side seen (st .region)) (grows side seen st) (barred side st) (g side o) (b side o)) e
+      (λ side o. subst P (sym (try-on side st))
+      (cond-both P (passesOn side seen (st .region)) (grows side seen st) (barred side st) (g side o) (b side o))) e
 
   -- what holds at the start and is kept by each growing and each barring holds of growth
   pub growth-keeps : (P : State → Type 0) → P (start seen)

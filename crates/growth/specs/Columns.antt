@@ -3,17 +3,21 @@ use Prim.Native.Nat.{ℕ, _+_, _^_, _≤_, _<_}
 use mathlib.Core.Path.{_≡_}
 use mathlib.Core.Bool.{Bool, true, false, not, _&&_, cond}
 use mathlib.Core.List.{List}
-use lib.Dec.{T}
+use lib.Dec.{T, ltb}
 use lib.Ieee.{Float, nan, binary32, add}
 use lib.ListN.{getD}
+use Rattle.numbers.specs.Weight.{zeroWeight}
 use Rattle.numbers.specs.Normal.{normalised, exceeds}
 use Rattle.links.specs.Links.{onSide}
-use Rattle.growth.specs.Growth.{GapsSeen, Span, State, ownSpan, heaviestIn, passes, growth}
+use Rattle.growth.specs.Growth.{GapsSeen, Span, State, ownSpan, heaviestIn, normalisedOf, gapOutside, grownBy, passes, cameOn, sideTried, growth}
 use Rattle.links.specs.declared.lower.Side.{Side}
 use Rattle.growth.specs.declared.step.Grown.{Grown}
 use Rattle.growth.specs.declared.step.Growth.{Growth}
 use Rattle.growth.specs.declared.step.Tried.{Tried}
-use Rattle.growth.specs.declared.step.Tried.the-variants.{Grows, Fails}
+use Rattle.growth.specs.declared.step.Came.{Came}
+use Rattle.growth.specs.declared.step.Came.the-variants as Came·is
+use Rattle.growth.specs.declared.step.Turn.{Turn}
+use Rattle.growth.specs.declared.step.Turn.the-variants as Turn·is
 
 -- a column by row number
 abbrev pub numberAt : List ℕ → ℕ → ℕ
@@ -73,26 +77,71 @@ pub record HasNeighbours (n : ℕ) (g : Grown) : Type 0 where
 abbrev pub CountFits : Grown → ℕ → Type 0
 CountFits g insts = g .insts + insts < 2 ^ 32
 
--- a region if it passes
-abbrev pub triedOf : Bool → Grown → Tried
-triedOf passed g = cond passed (Grows g) Fails
+-- a try on a side of a region: the gap, the region with it and the heaviest weight that this meets, its normalised weight, and what came of it
+abbrev pub tried : Side → GapsSeen → Span → Tried
+tried side seen s =
+    record {
+      side = side;
+      gap = gapOutside side s;
+      region = grownOf seen (grownBy side seen s);
+      normalised = normalisedOf seen (grownBy side seen s);
+      came = cameOn side seen s;
+    }
 
--- the region with one more gap, from left to before right: it passes if the gap meets no fixed one and the weight test holds
-unfoldable pub testedOf : Bool → Grown → Float → ℕ → Float → ℕ → ℕ → ℕ → Tried
-testedOf free g weight insts heaviest k left right =
-    let w = add binary32 (g .weight) weight in
-    let n = g .insts + insts in
-    triedOf (free && exceeds 2007 (normalised w n k) heaviest) (record { left = left; right = right; weight = w; insts = n; heaviest = heaviest })
+-- the side whose turn it is; none for a region of no gap
+unfoldable pub turnOf : ℕ → (ℕ → Float) → (ℕ → ℕ) → Growth → Turn
+turnOf n freq live growth = cond (ltb (growth .region .left) (growth .region .right)) (sideTried n freq live (stateOf growth)) Turn·is.End
 
--- growth from a region, with no side barred
+-- a region with one more gap on a side, of this weight and so many instructions, and the heaviest weight that it then meets
+abbrev pub withGap : Side → ℕ → Grown → Float → ℕ → Float → Grown
+withGap side gap g weight insts heaviest =
+    record {
+      left = onSide side gap (g .left);
+      right = onSide side (g .right) (gap + 1);
+      weight = add binary32 (g .weight) weight;
+      insts = g .insts + insts;
+      heaviest = heaviest;
+    }
+
+-- what comes of a try, by whether the gap meets a fixed one, the normalised weight and the heaviest weight
+unfoldable pub cameWith : Bool → Float → Float → Came
+cameWith fixed normal heaviest = cond fixed Came·is.Fixed (cond (exceeds 2007 normal heaviest) Came·is.Grown Came·is.Weight)
+
+-- a try of a gap with these
+abbrev pub triedWith : Side → ℕ → Grown → Float → ℕ → Bool → Float → ℕ → Tried
+triedWith side gap g weight insts fixed heaviest k =
+    let r = withGap side gap g weight insts heaviest in
+    let normal = normalised (r .weight) (r .insts) k in
+    record { side = side; gap = gap; region = r; normalised = normal; came = cameWith fixed normal heaviest }
+
+-- growth from a region of no gap, left of the own gap
+abbrev pub noGrowth : ℕ → Growth
+noGrowth own =
+    record {
+      region = record { left = own; right = own; weight = zeroWeight; insts = 0; heaviest = zeroWeight };
+      «left_barred» = false;
+      «right_barred» = false;
+    }
+
+-- growth after a try: the region with the gap, or the side barred
+abbrev pub grownTo : Grown → Growth → Growth
+grownTo g growth = record { region = g; «left_barred» = growth .«left_barred»; «right_barred» = growth .«right_barred» }
+
+abbrev pub barredOn : Side → Growth → Growth
+barredOn side growth =
+    record { region = growth .region; «left_barred» = onSide side true (growth .«left_barred»); «right_barred» = onSide side (growth .«right_barred») true }
+
+abbrev pub afterWith : Came → Side → Grown → Growth → Growth
+afterWith Came·is.Grown side g growth = grownTo g growth
+afterWith Came·is.Fixed side g growth = barredOn side growth
+afterWith Came·is.Weight side g growth = barredOn side growth
+
+abbrev pub afterTried : Tried → Growth → Growth
+afterTried t growth = afterWith (t .came) (t .side) (t .region) growth
+
+-- growth with no side barred
 abbrev pub startAt : Grown → Growth
 startAt g = record { region = g; «left_barred» = false; «right_barred» = false }
-
--- growth after a try on a side
-abbrev pub afterTry : Side → Tried → Growth → Growth
-afterTry side (Grows g) growth = record { region = g; «left_barred» = growth .«left_barred»; «right_barred» = growth .«right_barred» }
-afterTry side Fails growth =
-    record { region = growth .region; «left_barred» = onSide side true (growth .«left_barred»); «right_barred» = onSide side (growth .«right_barred») true }
 
 -- the code's growth is that after some tries, and the own gap has passed
 pub record Going (seen : GapsSeen) (now : Growth) : Type 0 where

@@ -11,6 +11,8 @@ use Rattle.links.specs.declared.lower.Side.the-variants.{Previous, Next}
 use Rattle.links.specs.Links.{onSide}
 use Rattle.growth.specs.declared.step.Turn.{Turn}
 use Rattle.growth.specs.declared.step.Turn.the-variants as Turn·is
+use Rattle.growth.specs.declared.step.Came.{Came}
+use Rattle.growth.specs.declared.step.Came.the-variants as Came·is
 
 -- what growth sees of a job's gaps
 pub record GapsSeen : Type 0 where
@@ -138,9 +140,23 @@ grows side seen st = record { region = grownBy side seen (st .region); left-barr
 abbrev pub passesOn : Side → GapsSeen → Span → Bool
 passesOn side seen s = passes seen (gapOutside side s) (grownBy side seen s)
 
--- a try on a side: it grows by the gap there, or the side is barred
+-- what comes of trying a gap: it meets a fixed one, or the weight test of the region with it decides
+unfoldable pub came : GapsSeen → ℕ → Span → Came
+came seen gap with-it = cond (seen .fixed gap) Came·is.Fixed (cond (weightTest seen with-it) Came·is.Grown Came·is.Weight)
+
+-- what comes of trying the gap on a side
+abbrev pub cameOn : Side → GapsSeen → Span → Came
+cameOn side seen s = came seen (gapOutside side s) (grownBy side seen s)
+
+-- growth after a try on a side, by what came of it: it grows by the gap there, or the side is barred
+abbrev pub afterCame : Came → Side → GapsSeen → State → State
+afterCame Came·is.Grown side seen st = grows side seen st
+afterCame Came·is.Fixed side seen st = barred side st
+afterCame Came·is.Weight side seen st = barred side st
+
+-- a try on a side
 unfoldable pub tryOn : Side → GapsSeen → State → State
-tryOn side seen st = cond (passesOn side seen (st .region)) (grows side seen st) (barred side st)
+tryOn side seen st = afterCame (cameOn side seen (st .region)) side seen st
 
 -- a try on the side whose turn it is; with none nothing changes
 abbrev pub tryAt : Turn → GapsSeen → State → State

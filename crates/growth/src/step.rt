@@ -1,10 +1,12 @@
 // The steps of growth: which side is tried, and whether a gap passes.
 ghost use mathlib.Core.Path.{_≡_};
-ghost use Prim.Native.Nat.{_≤_};
+ghost use Prim.Native.Nat.{_+_, _^_, _≤_, _<_};
 ghost use lib.ListN.{length};
 ghost use lib.Dec.{leb, eqb};
-ghost use Rattle.growth.specs.Growth.{prefersLeft, sideTried};
-ghost use Rattle.growth.specs.Columns.{numberAt, floatAt, spanOf, stateOf, openWith, InsideGaps, HasNeighbours, CountFits, testedOf, startAt, afterTry};
+ghost use Rattle.links.specs.Links.{onSide};
+ghost use Rattle.growth.specs.Growth.{gapOutside, prefersLeft, sideTried};
+ghost use Rattle.growth.specs.Columns.{numberAt, floatAt, spanOf, stateOf, openWith, InsideGaps, HasNeighbours, CountFits};
+ghost use Rattle.growth.specs.Columns.{turnOf, withGap, cameWith, triedWith, noGrowth, afterTried};
 use links::lower::Side;
 
 // A region: the gaps from left to before right, their use weight and live instructions, and the heaviest weight met.
@@ -16,10 +18,21 @@ pub struct Grown {
     pub heaviest: f32,
 }
 
-// The region with one more gap, if that passes.
-pub enum Tried {
-    Grows(Grown),
-    Fails,
+// What came of a try: the region grew, or the gap meets something fixed, or the region with it can't evict the heaviest weight that it meets.
+pub enum Came {
+    Grown,
+    Fixed,
+    Weight,
+}
+
+// A try: the gap beside a region, the region with it and its normalised weight, and what came of it. What the region with the gap meets is
+// exact in every case.
+pub struct Tried {
+    pub side: Side,
+    pub gap: usize,
+    pub region: Grown,
+    pub normalised: f32,
+    pub came: Came,
 }
 
 // Growth so far: the region, and whether its sides are barred. A side that failed is barred for good.
@@ -76,7 +89,7 @@ fn can_grow_right(gaps: usize, g: Grown, barred: bool) -> bool
 }
 
 // Whether growth goes on, and on which side.
-pub fn grow_next(freq: &[f32], live: &[u32], gaps: usize, growth: Growth) -> Turn
+fn grow_next(freq: &[f32], live: &[u32], gaps: usize, growth: Growth) -> Turn
     requires { ⌜ InsideGaps gaps (growth .region) ⌝ }
     requires { ⌜ gaps ≤ length (now freq) ⌝ }
     requires { ⌜ gaps ≤ length (now live) ⌝ }
@@ -100,46 +113,118 @@ pub fn grow_next(freq: &[f32], live: &[u32], gaps: usize, growth: Growth) -> Tur
     Turn::Try(Side::Next)
 }
 
-// The region with one more gap, which makes it reach from left to before right. The gap must be free of fixed interference, and
-// the region must be able to evict the heaviest weight that it then meets.
-pub fn tested(
-    free: bool,
+// Whether growth goes on, from a region that may have no gap: its own gap has failed then, and nothing is tried any more.
+pub fn next_turn(freq: &[f32], live: &[u32], gaps: usize, growth: Growth) -> Turn
+    requires { ⌜ (growth .region .left < growth .region .right → InsideGaps gaps (growth .region)) ⌝ }
+    requires { ⌜ gaps ≤ length (now freq) ⌝ }
+    requires { ⌜ gaps ≤ length (now live) ⌝ }
+    ensures { λ r. ⌜ r ≡ turnOf gaps (floatAt (now (freq .entry))) (numberAt (now (live .entry))) growth ⌝ }
+{
+    let g = growth.region;
+    if g.left < g.right {
+        return grow_next(freq, live, gaps, growth);
+    }
+    Turn::End
+}
+
+// The gap just outside a region.
+pub fn gap_outside(side: Side, g: Grown) -> usize
+    requires { ⌜ onSide side 1 0 ≤ g .left ⌝ }
+    ensures { λ r. ⌜ r ≡ gapOutside side (spanOf g) ⌝ }
+{
+    match side {
+        Side::Previous => g.left - 1,
+        Side::Next => g.right,
+    }
+}
+
+// Live instructions together, at most the largest 32-bit number.
+fn sum_insts(a: u32, b: u32) -> u32
+    ensures { λ r. ⌜ (a + b < 2 ^ 32 → r ≡ a + b) ⌝ }
+{
+    if a > 4294967295 - b {
+        return 4294967295;
+    }
+    a + b
+}
+
+// A region with one more gap on a side, of this weight and so many instructions, and the heaviest weight that it then meets.
+fn with_gap(side: Side, gap: usize, g: Grown, weight: f32, insts: u32, heaviest: f32) -> Grown
+    requires { ⌜ gap < 4294967295 ⌝ }
+    ensures { λ r. ⌜ (CountFits g insts → r ≡ withGap side gap g weight insts heaviest) ⌝ }
+{
+    let weight = g.weight + weight;
+    let insts = sum_insts(g.insts, insts);
+    match side {
+        Side::Previous => Grown {
+            left: gap,
+            right: g.right,
+            weight,
+            insts,
+            heaviest,
+        },
+        Side::Next => Grown {
+            left: g.left,
+            right: gap + 1,
+            weight,
+            insts,
+            heaviest,
+        },
+    }
+}
+
+// What comes of a try: the gap must be free of fixed interference, and the region must be able to evict the heaviest weight that it then meets.
+fn came_of(fixed: bool, normalised: f32, heaviest: f32) -> Came
+    ensures { λ r. ⌜ r ≡ cameWith fixed normalised heaviest ⌝ }
+{
+    if fixed {
+        return Came::Fixed;
+    }
+    if numbers::normal::strictly_exceeds(normalised, heaviest) {
+        return Came::Grown;
+    }
+    Came::Weight
+}
+
+// One more gap on a side of a region, tried: the gap's weight and instructions, whether it meets something fixed, and the heaviest weight that
+// the region with it meets.
+pub fn try_gap(
+    side: Side,
+    gap: usize,
     g: Grown,
     weight: f32,
     insts: u32,
+    fixed: bool,
     heaviest: f32,
     k: u32,
-    left: usize,
-    right: usize,
 ) -> Tried
-    requires { ⌜ CountFits g insts ⌝ }
-    ensures { λ r. ⌜ r ≡ testedOf free g weight insts heaviest k left right ⌝ }
+    requires { ⌜ gap < 4294967295 ⌝ }
+    ensures { λ r. ⌜ (CountFits g insts → r ≡ triedWith side gap g weight insts fixed heaviest k) ⌝ }
 {
-    if !free {
-        return Tried::Fails;
+    let region = with_gap(side, gap, g, weight, insts, heaviest);
+    let normalised = numbers::normal::normalize_spill_weight(region.weight, region.insts, k);
+    let came = came_of(fixed, normalised, heaviest);
+    Tried {
+        side,
+        gap,
+        region,
+        normalised,
+        came,
     }
-    let w = g.weight + weight;
-    let n = g.insts + insts;
-    if numbers::normal::strictly_exceeds(
-        numbers::normal::normalize_spill_weight(w, n, k),
-        heaviest,
-    ) {
-        return Tried::Grows(Grown {
-            left,
-            right,
-            weight: w,
-            insts: n,
-            heaviest,
-        });
-    }
-    Tried::Fails
 }
 
 impl Growth {
-    // Growth from a region, with no side barred.
-    pub fn new(region: Grown) -> Self
-        ensures { λ r. ⌜ r ≡ startAt region ⌝ }
+    // Growth from a region of no gap, which the own gap lies right of.
+    pub fn new(own: usize) -> Self
+        ensures { λ r. ⌜ r ≡ noGrowth own ⌝ }
     {
+        let region = Grown {
+            left: own,
+            right: own,
+            weight: 0.0,
+            insts: 0,
+            heaviest: 0.0,
+        };
         Growth {
             region,
             left_barred: false,
@@ -147,24 +232,22 @@ impl Growth {
         }
     }
 
-    // Growth after a try on a side: the region that passed, or that side barred.
-    pub fn after(self, side: Side, tried: Tried) -> Self
-        ensures { λ r. ⌜ r ≡ afterTry side tried self ⌝ }
+    // Growth after a try: the region with the gap, or the side barred.
+    pub fn after(self, t: Tried) -> Self
+        ensures { λ r. ⌜ r ≡ afterTried t self ⌝ }
     {
         let left_barred = self.left_barred;
         let right_barred = self.right_barred;
-        match tried {
-            Tried::Grows(region) => {
-                return Growth {
-                    region,
-                    left_barred,
-                    right_barred,
-                };
-            }
-            Tried::Fails => {}
+        if let Came::Grown = t.came {
+            let region = t.region;
+            return Growth {
+                region,
+                left_barred,
+                right_barred,
+            };
         }
         let region = self.region;
-        match side {
+        match t.side {
             Side::Previous => Growth {
                 region,
                 left_barred: true,

@@ -103,7 +103,7 @@ tables-accepted job e =
         line7 = line 6 (lit≤ tt);
         line8 = line 7 (lit≤ tt);
       };
-      reserved = checked-ready (limitsOf job) (reservedOfJob job) refl (line 9 (lit≤ tt)) (line 10 (lit≤ tt));
+      reserved = checked-ready (limitsOf job) (reservedOfJob job) (line 9 (lit≤ tt)) (line 10 (lit≤ tt));
       register = record { few = size .few-units; fits = small (job .units) (size .few-units) };
       end-limited = four (lastEnd job) endLimit (last-limited (job .blocks) sound);
     }

@@ -1,14 +1,11 @@
 -- A job's columns taken one by one from the list in which they are lent
-use mathlib.Core.Path.{_≡_, refl}
-use mathlib.Core.List.{List, [], _∷_, map}
-use Prim.Native.Nat.{ℕ, zero, suc}
+use mathlib.Core.Path.{_≡_}
+use mathlib.Core.List.{List, map}
+use Prim.Native.Nat.{ℕ}
 use denote.Ref.{RefT, now}
 use lib.ListN.{getD}
+use Rattle.columns.proofs.Taken.{noColumn, taken-at}
 use Rattle.refusals.specs.Job.{JobColumns, jobColumns, jobColumnsIn}
-
--- what stands for a column past the last one
-abbrev pub noColumn : RefT (List ℕ)
-noColumn = record { ptr = (0, 0); name = 0; now = [] }
 
 -- the columns as code takes them: the reference at a place, and what it shows
 abbrev pub takenColumns : List (RefT (List ℕ)) → JobColumns
@@ -24,13 +21,7 @@ takenColumns cs =
     (now (getD cs 19 noColumn))
     (now (getD cs 20 noColumn)) (now (getD cs 21 noColumn)) (now (getD cs 22 noColumn))
 
--- what a reference of the list shows is what the list shows there
-taken-at : (cs : List (RefT (List ℕ))) (i : ℕ) → now (getD cs i noColumn) ≡ getD (map now cs) i []
-taken-at [] i = refl
-taken-at (c ∷ cs) zero = refl
-taken-at (c ∷ cs) (suc i) = taken-at cs i
-
--- so the columns taken are those of the list
+-- the columns taken are those of the list
 pub columns-taken : (cs : List (RefT (List ℕ))) → takenColumns cs ≡ jobColumnsIn (map now cs)
 columns-taken cs =
     λ i. jobColumns

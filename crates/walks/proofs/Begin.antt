@@ -9,14 +9,15 @@ use lib.Dec.{leb, lit<}
 use lib.ListN.{length, getD}
 use borrow.Author.Tests.{leb-true, leb-false}
 use Rattle.columns.specs.Table.{shortest}
-use Rattle.columns.specs.First.{FirstIn, Searchable}
+use Rattle.columns.specs.First.{FirstIn, Rising}
 use Rattle.columns.proofs.Firsts.{split}
 use Rattle.columns.proofs.Tables.{table-length, shortest-at-most}
 use Rattle.jobs.specs.declared.rows.Reservation.{Reservation}
 use Rattle.jobs.specs.declared.rows.FixedUse.{FixedUse}
 use Rattle.jobs.specs.Rows.{reservationRow, reservationsOf, noReservation, fixedUseRow, fixedUsesOf, noFixedUse}
 use Rattle.jobs.proofs.Walk.{own-row}
-use Rattle.walks.specs.Standing.{OrderedRows, OrderedUses, RowsOfUnit, UsesFrom, Behind, Beyond}
+use Rattle.links.specs.declared.lower.Side.the-variants.{Previous, Next}
+use Rattle.walks.specs.Standing.{OrderedRows, OrderedUses, RowsOfUnit, UsesFrom, StandsIn}
 use Rattle.walks.proofs.Steps.{after-next, within, lt-ne}
 
 -- a column that holds a field of the rows
@@ -26,16 +27,9 @@ pub record Holds {A : Type 0} (col : List ℕ) (rows : List A) (d : A) (field : 
 
 -- the first place at which a column that rises with the rows reaches x
 module _ {A : Type 0} (col : List ℕ) (rows : List A) (d : A) (field : A → ℕ) (h : Holds col rows d field) where
-  pub searchable : (lo hi : ℕ) → lo ≤ hi → hi ≤ length rows → ((i k : ℕ) → lo ≤ i → i ≤ k → k < hi → field (getD rows i d) ≤ field (getD rows k d))
-      → Searchable col lo hi
-  searchable lo hi o n f =
-      record {
-        order = o;
-        inside = le-trans n (h .long);
-        rising =
-            λ i k p q r. le-trans (le-of-eq (h .at i (within i k hi (length rows) q r n)))
-            (le-trans (f i k p q r) (le-of-eq (sym (h .at k (lt-of-lt-of-le r n)))));
-      }
+  pub rises : (lo hi : ℕ) → hi ≤ length rows → ((i k : ℕ) → lo ≤ i → i ≤ k → k < hi → field (getD rows i d) ≤ field (getD rows k d)) → Rising col lo hi
+  rises lo hi n f =
+      λ i k p q r. le-trans (le-of-eq (h .at i (within i k hi (length rows) q r n))) (le-trans (f i k p q r) (le-of-eq (sym (h .at k (lt-of-lt-of-le r n)))))
 
   pub passed : (x lo hi r : ℕ) → hi ≤ length rows → FirstIn (λ (k : ℕ). leb x (getD col k 0)) lo hi r → (k : ℕ) → lo ≤ k → k < r → field (getD rows k d) < x
   passed x lo hi r n f k p q =
@@ -99,9 +93,8 @@ module _ (rows : List Reservation) (ordered : OrderedRows rows) (u : ℕ) where
       (λ m. le-of-eq (ap (λ (j : ℕ). getD rows j noReservation .end) (le-antisymm h m))) (split i k)
 
   module _ (unit : List ℕ) (h : Holds unit rows noReservation (λ (r : Reservation). r .unit)) where
-    pub units-searchable : (lo : ℕ) → lo ≤ length rows → Searchable unit lo (length rows)
-    units-searchable lo l =
-        searchable unit rows noReservation (λ (r : Reservation). r .unit) h lo (length rows) l (le-refl (length rows)) (λ i k _ q r. ordered .units i k q r)
+    pub units-rise : (lo : ℕ) → Rising unit lo (length rows)
+    units-rise lo = rises unit rows noReservation (λ (r : Reservation). r .unit) h lo (length rows) (le-refl (length rows)) (λ i k _ q r. ordered .units i k q r)
 
     pub rows-found : (from to : ℕ) → FirstIn (λ (k : ℕ). leb u (getD unit k 0)) 0 (length rows) from
         → FirstIn (λ (k : ℕ). leb (u + 1) (getD unit k 0)) from (length rows) to → RowsOfUnit rows u from to
@@ -133,9 +126,9 @@ module _ (rows : List Reservation) (ordered : OrderedRows rows) (u : ℕ) where
     same-unit : (i k : ℕ) → from ≤ i → i ≤ k → k < to → getD rows i noReservation .unit ≡ getD rows k noReservation .unit
     same-unit i k p q r = own .own i p (lt-of-le-of-lt q r) ∙ sym (own .own k (le-trans p q) r)
 
-    pub ends-searchable : (end : List ℕ) → Holds end rows noReservation (λ (r : Reservation). r .end) → Searchable end from to
-    ends-searchable end h =
-        searchable end rows noReservation (λ (r : Reservation). r .end) h from to (own .order) (own .inside)
+    pub ends-rise-there : (end : List ℕ) → Holds end rows noReservation (λ (r : Reservation). r .end) → Rising end from to
+    ends-rise-there end h =
+        rises end rows noReservation (λ (r : Reservation). r .end) h from to (own .inside)
         (λ i k p q r. ends-rise i k q (lt-of-lt-of-le r (own .inside)) (same-unit i k p q r))
 
     -- a row of the unit is one of these
@@ -148,58 +141,61 @@ module _ (rows : List Reservation) (ordered : OrderedRows rows) (u : ℕ) where
         above : {a u : ℕ} → u < a → a ≡ u → ⊥
         above {a} {u} p q = omega (arith, p, q)
 
-    pub behind-found : (end : List ℕ) → Holds end rows noReservation (λ (r : Reservation). r .end) → (point r : ℕ)
-        → FirstIn (λ (k : ℕ). leb point (getD end k 0)) from to r → Behind rows u point r
-    behind-found end h point r f =
+    -- to the right
+    pub right-found : (end : List ℕ) → Holds end rows noReservation (λ (r : Reservation). r .end) → (point r : ℕ)
+        → FirstIn (λ (k : ℕ). leb point (getD end k 0)) from to r → StandsIn Next rows u point r
+    right-found end h point r f =
         record {
-          inside = le-trans (f .to) (own .inside);
-          later = λ k l m. ⊎-elim (λ x. le-of-eq (sym (own .own k (le-trans (f .from) l) x))) (λ x. le-of-lt (own .later k x m)) (split k to);
-          ended = λ k l e. le-of-lt (passed end rows noReservation (λ (x : Reservation). x .end) h point from to r (own .inside) f k (not-before k e) l);
+          ahead =
+              λ k m l. record { is = ⊎-elim (λ x. le-of-eq (sym (own .own k (le-trans (f .from) (l .is)) x))) (λ x. le-of-lt (own .later k x m)) (split k to) };
+          passed = λ k m l e. record { is = le-of-lt
+              (passed end rows noReservation (λ (x : Reservation). x .end) h point from to r (own .inside) f k (not-before k e) (below k r (l .is))) };
         }
+      where
+        below : (k r : ℕ) → k + 1 ≤ r → k < r
+        below k r h = omega arith
 
-    -- a place among the rows of the unit, from which on they start at or past the point
-    beyond-at : (point l : ℕ) → from ≤ l → l ≤ to → ((k : ℕ) → l ≤ k → k < to → point ≤ getD rows k noReservation .start) → Beyond rows u point l
-    beyond-at point l p q f =
+    -- to the left: a place among the rows of the unit, from which on they start at or past the point
+    left-at : (point l : ℕ) → l ≤ to → ((k : ℕ) → l ≤ k → k < to → point ≤ getD rows k noReservation .start) → StandsIn Previous rows u point l
+    left-at point l q f =
         record {
-          inside = le-trans q (own .inside);
-          earlier = λ k h. ⊎-elim (λ x. le-of-lt (own .before k x)) (λ x. le-of-eq (own .own k x (lt-of-lt-of-le h q))) (split k from);
-          begun = λ k h m e. f k h (not-later k m e);
+          ahead =
+              λ k m h. record { is = ⊎-elim (λ x. le-of-lt (own .before k x)) (λ x. le-of-eq (own .own k x (below k l to (h .is) q))) (split k from) };
+          passed = λ k m h e. record { is = f k (h .is) (not-later k m e) };
         }
+      where
+        below : (k l n : ℕ) → k + 1 ≤ l → l ≤ n → k < n
+        below k l n h q = omega arith
 
     -- behind a row that reaches the point, and at the first that does if it starts at the point or past it
     module _ (end : List ℕ) (h : Holds end rows noReservation (λ (r : Reservation). r .end)) (point r : ℕ)
         (f : FirstIn (λ (k : ℕ). leb point (getD end k 0)) from to r) where
-      pub beyond-row : r < to → Beyond rows u point (r + 1)
-      beyond-row q = beyond-at point (r + 1) (le-trans (f .from) (upto-next r)) (past r to q)
+      pub left-row : r < to → StandsIn Previous rows u point (r + 1)
+      left-row q = left-at point (r + 1) (past r to q)
           (λ k l m. le-trans (found end rows noReservation (λ (x : Reservation). x .end) h point from to r (own .inside) f q)
           (ordered .apart r k (past-row r k l) (lt-of-lt-of-le m (own .inside)) (same-unit r k (f .from) (le-of-lt (past-row r k l)) m)))
         where
-          upto-next : (a : ℕ) → a ≤ a + 1
-          upto-next a = omega arith
-
           past : (a b : ℕ) → a < b → a + 1 ≤ b
           past a b p = omega arith
 
           past-row : (a b : ℕ) → a + 1 ≤ b → a < b
           past-row a b p = omega arith
 
-      pub beyond-here : (r < to → point ≤ getD rows r noReservation .start) → Beyond rows u point r
-      beyond-here g =
-          beyond-at point r (f .from) (f .to) (λ k l m. le-trans (g (lt-of-le-of-lt l m))
+      pub left-here : (r < to → point ≤ getD rows r noReservation .start) → StandsIn Previous rows u point r
+      left-here g =
+          left-at point r (f .to) (λ k l m. le-trans (g (lt-of-le-of-lt l m))
           (starts-rise r k l (lt-of-lt-of-le m (own .inside)) (same-unit r k (f .from) l m)))
 
 -- ---- the fixed uses of a unit
 module _ (fixedUses : List FixedUse) (ordered : OrderedUses fixedUses) (u : ℕ) (unit : List ℕ)
     (h : Holds unit fixedUses noFixedUse (λ (f : FixedUse). f .unit)) where
-  pub uses-searchable : Searchable unit 0 (length fixedUses)
-  uses-searchable =
-      searchable unit fixedUses noFixedUse (λ (f : FixedUse). f .unit) h 0 (length fixedUses) zero-le (le-refl (length fixedUses))
-      (λ i k _ q r. ordered .units i k q r)
+  pub uses-rise : Rising unit 0 (length fixedUses)
+  uses-rise =
+      rises unit fixedUses noFixedUse (λ (f : FixedUse). f .unit) h 0 (length fixedUses) (le-refl (length fixedUses)) (λ i k _ q r. ordered .units i k q r)
 
   pub uses-found : (r : ℕ) → FirstIn (λ (k : ℕ). leb u (getD unit k 0)) 0 (length fixedUses) r → UsesFrom fixedUses u r
   uses-found r f =
       record {
-        inside = f .to;
         before = λ k l. passed unit fixedUses noFixedUse (λ (x : FixedUse). x .unit) h u 0 (length fixedUses) r (le-refl (length fixedUses)) f k zero-le l;
         later =
             λ k l m. le-trans (found unit fixedUses noFixedUse (λ (x : FixedUse). x .unit) h u 0 (length fixedUses) r (le-refl (length fixedUses)) f

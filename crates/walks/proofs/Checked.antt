@@ -58,29 +58,13 @@ spanned limits last r e =
           (p6 .1));
     }
 
-pub weighed : (limits : Limits) (have : ℕ) (r : Reservation) → badKind limits have r ≡ false → r .kind ≡ 0 → r .index < limits .weights
-unfolding badKind
-weighed limits have r e k =
-    leb-false (limits .weights) (r .index) (or-parts (leb (limits .weights) (r .index)) (not (eqb (r .fixed) noFixed) && leb have (r .fixed))
-    (first (eqb (r .kind) 0) _ _ (eq-eqb (r .kind) 0 k) e) .0)
-  where
-    first : (t x y : Bool) → t ≡ true → cond t x y ≡ false → x ≡ false
-    first true x y p q = q
-    first false x y p q = absurd (true≢false (sym p))
-
 module _ (limits : Limits) (fixedUses : List FixedUse) (rows : List Reservation)
     (passed : (i : ℕ) → i < length rows → badReservation limits fixedUses rows i ≡ false) where
-  both : (i : ℕ) → i < length rows → (badSpan limits (rowBefore rows noReservation i) (getD rows i noReservation) ≡ false)
-      × (badKind limits (fixedOf fixedUses (getD rows i noReservation .unit)) (getD rows i noReservation) ≡ false)
-  both i h =
-      or-parts (badSpan limits (rowBefore rows noReservation i) (getD rows i noReservation))
-      (badKind limits (fixedOf fixedUses (getD rows i noReservation .unit)) (getD rows i noReservation)) (passed i h)
-
   pub row-spanned : (i : ℕ) → i < length rows → Spanned limits (rowBefore rows noReservation i) (getD rows i noReservation)
-  row-spanned i h = spanned limits (rowBefore rows noReservation i) (getD rows i noReservation) (both i h .0)
-
-  pub row-weighed : (i : ℕ) → i < length rows → getD rows i noReservation .kind ≡ 0 → getD rows i noReservation .index < limits .weights
-  row-weighed i h = weighed limits (fixedOf fixedUses (getD rows i noReservation .unit)) (getD rows i noReservation) (both i h .1)
+  row-spanned i h =
+      spanned limits (rowBefore rows noReservation i) (getD rows i noReservation)
+      (or-parts (badSpan limits (rowBefore rows noReservation i) (getD rows i noReservation))
+      (badKind limits (fixedOf fixedUses (getD rows i noReservation .unit)) (getD rows i noReservation)) (passed i h) .0)
 
   units-rise : (i k : ℕ) → i ≤ k → k < length rows → getD rows i noReservation .unit ≤ getD rows k noReservation .unit
   units-rise = rises (λ (i : ℕ). getD rows i noReservation .unit) (length rows) (λ i h. row-spanned (suc i) h .rising)
@@ -142,13 +126,9 @@ module _ (limits : Limits) (fixedUses : List FixedUse) (passed : (i : ℕ) → i
   pub uses-ordered : OrderedUses fixedUses
   uses-ordered = record { units = use-units-rise; points = points-rise }
 
--- both lines, and as many spill weights as the limits say
-pub checked-ready : (limits : Limits) (t : Reserved) → limits .weights ≡ length (t .weights)
+-- both lines
+pub checked-ready : (limits : Limits) (t : Reserved)
     → ((i : ℕ) → i < length (t .rows) → badReservation limits (t .fixedUses) (t .rows) i ≡ false)
     → ((i : ℕ) → i < length (t .fixedUses) → badFixedUseAt limits (t .fixedUses) i ≡ false) → Ready t
-checked-ready limits t e passed sound =
-    record {
-      rows = rows-ordered limits (t .fixedUses) (t .rows) passed;
-      uses = uses-ordered limits (t .fixedUses) sound;
-      weights = λ k h z. lt-of-lt-of-le (row-weighed limits (t .fixedUses) (t .rows) passed k h z) (le-of-eq e);
-    }
+checked-ready limits t passed sound =
+    record { rows = rows-ordered limits (t .fixedUses) (t .rows) passed; uses = uses-ordered limits (t .fixedUses) sound }

@@ -1,6 +1,8 @@
--- What the walkers share. For the layer above: Checked (lines 10 and 11 give what walkers rely on), GapWalk (where new walkers stand),
--- Regions (a region that grows by one gap), Sets (the definitions as sets), Cases
+-- What the walkers share. For the layer above: Checked (lines 10 and 11 give what walkers rely on), GapWalk (where new walks stand),
+-- Sets (the definitions as sets), Cases
 pub mod Steps
+pub mod Taken
+pub mod Ways
 pub mod Uses
 pub mod Top
 pub mod Seen

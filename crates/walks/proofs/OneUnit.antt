@@ -1,26 +1,34 @@
--- A walk over the rows of one unit, to the right and to the left: where it begins, one row more, and the ways out
-use mathlib.Core.Path.{_≡_, sym, ap, _∙_}
+-- A walk over the rows of one unit: where it begins, one row more, and the ways out
+use mathlib.Core.Path.{_≡_, sym, _∙_, subst}
 use mathlib.Core.Logic.{_⊎_, inl, inr, ⊎-elim}
-use mathlib.Core.Bool.{false}
+use mathlib.Core.Bool.{true, false}
 use mathlib.Core.List.{List}
-use Prim.Native.Nat.{ℕ, _+_, _-_, _≤_, _<_}
-use native.Mathlib.Nat.{le-refl, le-trans, le-of-eq, le-of-lt, lt-of-lt-of-le}
-use native.Mathlib.Omega.{arith}
+use Prim.Native.Nat.{ℕ, _≤_, _<_}
+use native.Mathlib.Nat.{le-of-lt}
 use lib.Dec.{ltb, eqb}
 use lib.ListN.{length}
-use borrow.Author.Tests.{le-ltb, eqb-true, eqb-false}
+use borrow.Author.Tests.{le-ltb, eqb-true, eqb-false, ltb-true, ltb-false}
 use Rattle.numbers.specs.Weight.{Weight}
-use Rattle.columns.proofs.Firsts.{split}
 use Rattle.jobs.specs.declared.rows.Reservation.{Reservation}
 use Rattle.jobs.proofs.Walk.{and-first}
+use Rattle.links.specs.declared.lower.Side.{Side}
+use Rattle.links.specs.declared.lower.Side.the-variants.{Previous, Next}
 use Rattle.walks.specs.declared.meeting.GapSegment.{GapSegment}
 use Rattle.walks.specs.declared.meeting.Met.{Met}
 use Rattle.walks.specs.Meeting.{Reserved, meets, looked, oneUnit}
-use Rattle.walks.specs.Standing.{OrderedRows, Behind, Beyond}
-use Rattle.walks.proofs.Steps.{next-only, next-inside, next-after, below-next, past-next, after-next, last-only, last-inside, last-before, last-upto}
-use Rattle.walks.proofs.Steps.{upto-last, below-last, between-same}
+use Rattle.walks.specs.Ways.{Upto, Before, nearEnd, farEnd, Passed, AnyAhead, rowAhead, placeBehind}
+use Rattle.walks.specs.Standing.{OrderedRows, StandsIn, beginOf, endOf, reachesPast}
+use Rattle.walks.proofs.Ways.{upto-trans, upto-between, passed-or-ahead, row-inside, row-is-ahead, row-first, passed-only, passed-still}
+use Rattle.walks.proofs.Ways.{row-passed, ahead-before, row-before, none-ahead}
 use Rattle.walks.proofs.Uses.{either-way, and-right-false}
 use Rattle.walks.proofs.Seen.{Seen, All, Apart, rowOf, seen-none, seen-look, seen-all, unit-of, other-of}
+
+-- where a row begins and ends, on the way to a side
+abbrev pub rowBegin : Side → Reservation → ℕ
+rowBegin side r = nearEnd side (r .start) (r .end)
+
+abbrev pub rowEnd : Side → Reservation → ℕ
+rowEnd side r = farEnd side (r .start) (r .end)
 
 -- a row that ends before the segment, or starts past it, does not meet it
 ends-before : (s : GapSegment) (r : Reservation) → r .end ≤ s .from .0 → meets s r ≡ false
@@ -31,109 +39,97 @@ starts-past : (s : GapSegment) (r : Reservation) → s .to .0 ≤ r .start → m
 unfolding meets
 starts-past s r h = and-first (ltb (r .start) (s .to .0)) (ltb (s .from .0) (r .end)) (le-ltb (r .start) (s .to .0) h)
 
+-- nor does one that comes before it, or after it, on the way
+comes-before : (side : Side) (s : GapSegment) (r : Reservation) → Upto side (rowEnd side r) (beginOf side s) → meets s r ≡ false
+comes-before Previous s r h = starts-past s r (h .is)
+comes-before Next s r h = ends-before s r (h .is)
+
+comes-after : (side : Side) (s : GapSegment) (r : Reservation) → Upto side (endOf side s) (rowBegin side r) → meets s r ≡ false
+comes-after Previous s r h = ends-before s r (h .is)
+comes-after Next s r h = starts-past s r (h .is)
+
 -- a row of another unit lies apart; one of the unit does if it does not meet the segment
 apart-by : (s : GapSegment) (u : ℕ) (r : Reservation) → (r .unit ≡ u → meets s r ≡ false) → Apart (oneUnit u) s r
 apart-by s u r f =
     ⊎-elim (λ e. inr (f (eqb-true (r .unit) u e))) (λ e. inl (other-of u r (eqb-false (r .unit) u e))) (either-way (eqb (r .unit) u))
 
--- ---- carried on to a later point, or to an earlier one
-pub behind-later : {rows : List Reservation} {u p q at : ℕ} → p ≤ q → Behind rows u p at → Behind rows u q at
-behind-later h b = record { inside = b .inside; later = b .later; ended = λ k l e. le-trans (b .ended k l e) h }
+-- the test of a row that reaches past the segment
+pub reaches-true : (side : Side) (s : GapSegment) (r : Reservation) → reachesPast side s r ≡ true → Upto side (endOf side s) (rowEnd side r)
+reaches-true Previous s r e = record { is = le-of-lt (ltb-true (r .start) (s .from .0) e) }
+reaches-true Next s r e = record { is = le-of-lt (ltb-true (s .to .0) (r .end) e) }
 
-pub beyond-earlier : {rows : List Reservation} {u p q at : ℕ} → q ≤ p → Beyond rows u p at → Beyond rows u q at
-beyond-earlier h b = record { inside = b .inside; earlier = b .earlier; begun = λ k l n e. le-trans h (b .begun k l n e) }
+pub reaches-false : (side : Side) (s : GapSegment) (r : Reservation) → reachesPast side s r ≡ false → Upto side (rowEnd side r) (endOf side s)
+reaches-false Previous s r e = record { is = ltb-false (r .start) (s .from .0) e }
+reaches-false Next s r e = record { is = ltb-false (s .to .0) (r .end) e }
 
-module _ (t : Reserved) (ordered : OrderedRows (t .rows)) (s : GapSegment) (u : ℕ) where
-  -- ---- to the right: the rows before i were passed
-  abbrev pub Passed : ℕ → ℕ → Type 0
-  Passed i k = k < i
+-- carried on to a later point of the way
+pub stands-later : (side : Side) {rows : List Reservation} {u p q at : ℕ} → Upto side p q → StandsIn side rows u p at → StandsIn side rows u q at
+stands-later side h b = record { ahead = b .ahead; passed = λ k n x e. upto-trans side (b .passed k n x e) h }
 
-  pub right-begin : (at : ℕ) (m : Met) → Weight (m .heaviest) → Behind (t .rows) u (s .from .0) at → Seen (oneUnit u) t s (Passed at) m m
-  right-begin at m w b = seen-none (oneUnit u) t s (Passed at) m w (λ k l. apart-by s u (rowOf t k) (λ e. ends-before s (rowOf t k) (b .ended k l e)))
+-- rows in order, on the way
+module _ (t : Reserved) (ordered : OrderedRows (t .rows)) where
+  units-on : (side : Side) (j k : ℕ) → Upto side j k → j < length (t .rows) → k < length (t .rows) → Upto side (rowOf t j .unit) (rowOf t k .unit)
+  units-on Previous j k h l m = record { is = ordered .units k j (h .is) l }
+  units-on Next j k h l m = record { is = ordered .units j k (h .is) m }
 
-  pub right-look : (i : ℕ) (m₀ m : Met) → rowOf t i .unit ≡ u → Seen (oneUnit u) t s (Passed i) m₀ m
-      → Seen (oneUnit u) t s (Passed (i + 1)) m₀ (looked (t .fixedUses) (t .weights) s (rowOf t i) m)
-  right-look i m₀ m e k =
-      seen-look (oneUnit u) t s (Passed i) (Passed (i + 1)) i (λ j h. ⊎-elim (λ l. inl l) (λ l. inr (next-only j i h l)) (split j i)) (λ j h. below-next j i h)
-      (next-after i) m₀ m (unit-of u (rowOf t i) e) k
+  apart-on : (side : Side) (j k : ℕ) → Before side j k → j < length (t .rows) → k < length (t .rows) → rowOf t j .unit ≡ rowOf t k .unit
+      → Upto side (rowEnd side (rowOf t j)) (rowBegin side (rowOf t k))
+  apart-on Previous j k h l m e = record { is = ordered .apart k j (h .is) l (sym e) }
+  apart-on Next j k h l m e = record { is = ordered .apart j k (h .is) m e }
+
+-- the rows that were passed
+abbrev pub PassedRows : Side → Reserved → ℕ → ℕ → Type 0
+PassedRows side t i k = Passed side i k × (k < length (t .rows))
+
+module _ (side : Side) (t : Reserved) (ordered : OrderedRows (t .rows)) (s : GapSegment) (u : ℕ) where
+  pub unit-begin : (at : ℕ) (m : Met) → Weight (m .heaviest) → StandsIn side (t .rows) u (beginOf side s) at → Seen (oneUnit u) t s (PassedRows side t at) m m
+  unit-begin at m w b =
+      seen-none (oneUnit u) t s (PassedRows side t at) m w (λ k l. apart-by s u (rowOf t k) (λ e. comes-before side s (rowOf t k) (b .passed k (l .1) (l .0) e)))
+
+  -- at a row ahead
+  module _ (i : ℕ) (any : AnyAhead side i (length (t .rows))) (inside : i ≤ length (t .rows)) (m₀ m : Met) where
+    abbrev row : ℕ
+    row = rowAhead side i
+
+    there : row < length (t .rows)
+    there = row-inside side any inside
+
+    pub unit-look : rowOf t row .unit ≡ u → Seen (oneUnit u) t s (PassedRows side t i) m₀ m
+        → Seen (oneUnit u) t s (PassedRows side t (placeBehind side i)) m₀ (looked (t .fixedUses) (t .weights) s (rowOf t row) m)
+    unit-look e k =
+        seen-look (oneUnit u) t s (PassedRows side t i) (PassedRows side t (placeBehind side i)) row
+        (λ j q. ⊎-elim (λ l. inl (l, q .1)) (λ l. inr l) (passed-only side (q .0)))
+        (λ j q. (passed-still side (q .0), q .1)) (row-passed side i, there) m₀ m (unit-of u (rowOf t row) e) k
+
+    -- out at a row of another unit, or behind a row that reaches past the segment
+    pub unit-other : (rowOf t row .unit ≡ u → ⊥) → StandsIn side (t .rows) u (endOf side s) i → Seen (oneUnit u) t s (PassedRows side t i) m₀ m
+        → Seen (oneUnit u) t s (All t) m₀ m
+    unit-other ne b k =
+        seen-all (oneUnit u) t s (PassedRows side t i) (λ j q. q .1)
+        (λ j n. ⊎-elim (λ l. inl (l, n))
+        (λ l. inr (inl (other-of u (rowOf t j)
+        (λ e. ne (upto-between side (b .ahead row there (row-is-ahead side any)) (units-on t ordered side row j (row-first side l) there n) e)))))
+        (passed-or-ahead side i j)) m₀ m k
+
+    pub unit-past : rowOf t row .unit ≡ u → Upto side (endOf side s) (rowEnd side (rowOf t row)) → Seen (oneUnit u) t s (PassedRows side t (placeBehind side i)) m₀ m
+        → Seen (oneUnit u) t s (All t) m₀ m
+    unit-past e l k =
+        seen-all (oneUnit u) t s (PassedRows side t (placeBehind side i)) (λ j q. q .1)
+        (λ j n. ⊎-elim (λ q. inl (q, n))
+        (λ q. inr (apart-by s u (rowOf t j)
+        (λ f. comes-after side s (rowOf t j) (upto-trans side l (apart-on t ordered side row j (row-before side i q) there n (e ∙ sym f))))))
+        (passed-or-ahead side (placeBehind side i) j)) m₀ m k
 
   -- the next row, if this one does not reach past the segment
-  pub right-next : (i : ℕ) → i < length (t .rows) → rowOf t i .end ≤ s .to .0 → Behind (t .rows) u (s .to .0) i → Behind (t .rows) u (s .to .0) (i + 1)
-  right-next i h l b =
+  pub unit-next : (i : ℕ) → Upto side (rowEnd side (rowOf t (rowAhead side i))) (endOf side s) → StandsIn side (t .rows) u (endOf side s) i
+      → StandsIn side (t .rows) u (endOf side s) (placeBehind side i)
+  unit-next i l b =
       record {
-        inside = next-inside i (length (t .rows)) h;
-        later = λ k m n. b .later k (past-next i k m) n;
-        ended = λ k m e. ⊎-elim (λ x. b .ended k x e) (λ x. le-trans (le-of-eq (ap (λ (j : ℕ). rowOf t j .end) (next-only k i m x))) l) (split k i);
+        ahead = λ k n a. b .ahead k n (ahead-before side i a);
+        passed =
+            λ k n q e. ⊎-elim (λ x. b .passed k n x e) (λ x. subst (λ (j : ℕ). Upto side (rowEnd side (rowOf t j)) (endOf side s)) (sym x) l) (passed-only side q);
       }
 
-  -- out behind the last row, at a row of another unit, or behind a row that reaches past the segment
-  pub right-end : (i : ℕ) (m₀ m : Met) → length (t .rows) ≤ i → i ≤ length (t .rows) → Seen (oneUnit u) t s (Passed i) m₀ m → Seen (oneUnit u) t s (All t) m₀ m
-  right-end i m₀ m h l k = seen-all (oneUnit u) t s (Passed i) (λ j p. lt-of-lt-of-le p l) (λ j p. inl (lt-of-lt-of-le p h)) m₀ m k
-
-  pub right-unit : (i : ℕ) (m₀ m : Met) → i < length (t .rows) → (rowOf t i .unit ≡ u → ⊥) → Behind (t .rows) u (s .to .0) i
-      → Seen (oneUnit u) t s (Passed i) m₀ m → Seen (oneUnit u) t s (All t) m₀ m
-  right-unit i m₀ m h ne b k =
-      seen-all (oneUnit u) t s (Passed i) (λ j p. lt-of-lt-of-le p (le-of-lt h))
-      (λ j p. ⊎-elim (λ l. inl l) (λ l. inr (inl (other-of u (rowOf t j) (λ e. ne (between-same (b .later i (le-refl i) h) (ordered .units i j l p) e)))))
-      (split j i)) m₀ m k
-
-  pub right-past : (i : ℕ) (m₀ m : Met) → i < length (t .rows) → rowOf t i .unit ≡ u → s .to .0 < rowOf t i .end → Seen (oneUnit u) t s (Passed (i + 1)) m₀ m
-      → Seen (oneUnit u) t s (All t) m₀ m
-  right-past i m₀ m h e l k =
-      seen-all (oneUnit u) t s (Passed (i + 1)) (λ j p. inner j i (length (t .rows)) p h)
-      (λ j p. ⊎-elim (λ q. inl q)
-      (λ q. inr (apart-by s u (rowOf t j) (λ f. starts-past s (rowOf t j) (le-trans (le-of-lt l) (ordered .apart i j (after-next i j q) p (e ∙ sym f))))))
-      (split j (i + 1))) m₀ m k
-    where
-      inner : (j i n : ℕ) → j < i + 1 → i < n → j < n
-      inner j i n p q = omega arith
-
-  -- ---- to the left: the rows from i on were passed
-  abbrev pub PassedLeft : ℕ → ℕ → Type 0
-  PassedLeft i k = (i ≤ k) × (k < length (t .rows))
-
-  pub left-begin : (at : ℕ) (m : Met) → Weight (m .heaviest) → Beyond (t .rows) u (s .to .0) at → Seen (oneUnit u) t s (PassedLeft at) m m
-  left-begin at m w b =
-      seen-none (oneUnit u) t s (PassedLeft at) m w (λ k l. apart-by s u (rowOf t k) (λ e. starts-past s (rowOf t k) (b .begun k (l .0) (l .1) e)))
-
-  pub left-look : (i : ℕ) (m₀ m : Met) → 0 < i → i ≤ length (t .rows) → rowOf t (i - 1) .unit ≡ u → Seen (oneUnit u) t s (PassedLeft i) m₀ m
-      → Seen (oneUnit u) t s (PassedLeft (i - 1)) m₀ (looked (t .fixedUses) (t .weights) s (rowOf t (i - 1)) m)
-  left-look i m₀ m h n e k =
-      seen-look (oneUnit u) t s (PassedLeft i) (PassedLeft (i - 1)) (i - 1) (λ j p. ⊎-elim (λ l. inr (last-only j i (p .0) l)) (λ l. inl (l, p .1)) (split j i))
-      (λ j p. (last-upto i j (p .0), p .1)) (le-refl (i - 1), last-inside i (length (t .rows)) h n) m₀ m (unit-of u (rowOf t (i - 1)) e) k
-
-  -- the next row, if this one does not start before the segment
-  pub left-next : (i : ℕ) → 0 < i → s .from .0 ≤ rowOf t (i - 1) .start → Beyond (t .rows) u (s .from .0) i → Beyond (t .rows) u (s .from .0) (i - 1)
-  left-next i h l b =
-      record {
-        inside = last-upto i (length (t .rows)) (b .inside);
-        earlier = λ k m. b .earlier k (below-last k i m);
-        begun = λ k m n e. ⊎-elim (λ x. le-trans l (le-of-eq (ap (λ (j : ℕ). rowOf t j .start) (sym (last-only k i m x))))) (λ x. b .begun k x n e) (split k i);
-      }
-
-  -- out before the first row, at a row of another unit, or behind a row that starts before the segment
-  pub left-end : (i : ℕ) (m₀ m : Met) → i ≤ 0 → Seen (oneUnit u) t s (PassedLeft i) m₀ m → Seen (oneUnit u) t s (All t) m₀ m
-  left-end i m₀ m h k = seen-all (oneUnit u) t s (PassedLeft i) (λ j p. p .1) (λ j p. inl (all i j h, p)) m₀ m k
-    where
-      all : (i j : ℕ) → i ≤ 0 → i ≤ j
-      all i j h = omega arith
-
-  pub left-unit : (i : ℕ) (m₀ m : Met) → 0 < i → (rowOf t (i - 1) .unit ≡ u → ⊥) → Beyond (t .rows) u (s .from .0) i → Seen (oneUnit u) t s (PassedLeft i) m₀ m
-      → Seen (oneUnit u) t s (All t) m₀ m
-  left-unit i m₀ m h ne b k =
-      seen-all (oneUnit u) t s (PassedLeft i) (λ j p. p .1)
-      (λ j p. ⊎-elim (λ l. inr
-      (inl (other-of u (rowOf t j)
-      (λ e. ne (same (b .earlier (i - 1) (last-before i h)) (ordered .units j (i - 1) (upto-last j i l) (last-inside i (length (t .rows)) h (b .inside))) e)))))
-      (λ l. inl (l, p)) (split j i)) m₀ m k
-    where
-      same : {a b u : ℕ} → a ≤ u → b ≤ a → b ≡ u → a ≡ u
-      same {a} {b} {u} p q e = omega (arith, p, q, e)
-
-  pub left-past : (i : ℕ) (m₀ m : Met) → 0 < i → i ≤ length (t .rows) → rowOf t (i - 1) .unit ≡ u → rowOf t (i - 1) .start < s .from .0
-      → Seen (oneUnit u) t s (PassedLeft (i - 1)) m₀ m → Seen (oneUnit u) t s (All t) m₀ m
-  left-past i m₀ m h n e l k =
-      seen-all (oneUnit u) t s (PassedLeft (i - 1)) (λ j p. p .1)
-      (λ j p. ⊎-elim (λ q. inr
-      (apart-by s u (rowOf t j) (λ f. ends-before s (rowOf t j)
-      (le-trans (ordered .apart j (i - 1) q (last-inside i (length (t .rows)) h n) (f ∙ sym e)) (le-of-lt l))))) (λ q. inl (q, p)) (split j (i - 1))) m₀ m k
+  -- out where no row is ahead
+  pub unit-end : (i : ℕ) (m₀ m : Met) → (AnyAhead side i (length (t .rows)) → ⊥) → Seen (oneUnit u) t s (PassedRows side t i) m₀ m → Seen (oneUnit u) t s (All t) m₀ m
+  unit-end i m₀ m none k = seen-all (oneUnit u) t s (PassedRows side t i) (λ j q. q .1) (λ j n. inl (none-ahead side none n, n)) m₀ m k

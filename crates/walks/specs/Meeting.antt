@@ -27,6 +27,12 @@ abbrev pub reservedOf : List ℕ → List ℕ → List ℕ → List ℕ → List
 reservedOf units starts ends kinds indices fixed useUnits points values weights =
     record { rows = reservationsOf units starts ends kinds indices fixed; fixedUses = fixedUsesOf useUnits points values; weights = weights }
 
+-- the same of ten lent columns: units, starts, ends, kinds, indices, fixed rows; units, points and values of fixed uses; spill weights
+abbrev pub reservedIn : List (List ℕ) → Reserved
+reservedIn cs =
+    reservedOf (getD cs 0 []) (getD cs 1 []) (getD cs 2 []) (getD cs 3 []) (getD cs 4 []) (getD cs 5 [])
+    (getD cs 6 []) (getD cs 7 []) (getD cs 8 []) (getD cs 9 [])
+
 -- a reservation meets a gap segment: they overlap
 unfoldable pub meets : GapSegment → Reservation → Bool
 meets s r = ltb (r .start) (s .to .0) && ltb (s .from .0) (r .end)

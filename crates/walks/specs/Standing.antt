@@ -1,15 +1,22 @@
--- What walkers rely on, and where a walker stands
+-- What walks rely on, and where a walk stands
 use mathlib.Core.Path.{_≡_}
 use Prim.Native.Nat.{ℕ, _+_, _≤_, _<_}
+use mathlib.Core.Bool.{Bool}
 use mathlib.Core.List.{List}
+use lib.Dec.{ltb}
 use lib.ListN.{length, getD}
+use Rattle.numbers.specs.Weight.{Weight}
 use Rattle.jobs.specs.Rows.{noReservation, noFixedUse}
 use Rattle.jobs.specs.declared.rows.Reservation.{Reservation}
 use Rattle.jobs.specs.declared.rows.FixedUse.{FixedUse}
+use Rattle.links.specs.declared.lower.Side.{Side}
+use Rattle.links.specs.Links.{onSide}
+use Rattle.walks.specs.declared.meeting.GapSegment.{GapSegment}
+use Rattle.walks.specs.declared.meeting.Met.{Met}
 use Rattle.walks.specs.declared.meeting.Register.{Register}
-use Rattle.walks.specs.declared.right.RightWalker.{RightWalker}
-use Rattle.walks.specs.declared.left.LeftWalker.{LeftWalker}
+use Rattle.walks.specs.declared.walk.Walk.{Walk}
 use Rattle.walks.specs.Meeting.{Reserved}
+use Rattle.walks.specs.Ways.{Upto, nearEnd, farEnd, Ahead, Passed}
 
 -- reservations as line 10 leaves them: units do not fall; within a unit they are nonempty, ordered and disjoint
 pub record OrderedRows (rows : List Reservation) : Type 0 where
@@ -24,42 +31,52 @@ pub record OrderedUses (fixedUses : List FixedUse) : Type 0 where
   pub points : (i k : ℕ) → i ≤ k → k < length fixedUses → getD fixedUses i noFixedUse .unit ≡ getD fixedUses k noFixedUse .unit
       → getD fixedUses i noFixedUse .point ≤ getD fixedUses k noFixedUse .point
 
--- both, and each kind 0 row has a spill weight
+-- both
 pub record Ready (t : Reserved) : Type 0 where
   pub rows : OrderedRows (t .rows)
   pub uses : OrderedUses (t .fixedUses)
-  pub weights : (k : ℕ) → k < length (t .rows) → getD (t .rows) k noReservation .kind ≡ 0 → getD (t .rows) k noReservation .index < length (t .weights)
 
 -- a register of at most eight units, all of them 32-bit numbers
 pub record Known (p : Register) : Type 0 where
   pub few : p .units ≤ 8
   pub fits : p .first .0 + p .units ≤ 4294967295
 
--- to the right: no row of an earlier unit stands from `at` on, and the unit's rows before `at` end at or before the point
-pub record Behind (rows : List Reservation) (unit point at : ℕ) : Type 0 where
-  pub inside : at ≤ length rows
-  pub later : (k : ℕ) → at ≤ k → k < length rows → unit ≤ getD rows k noReservation .unit
-  pub ended : (k : ℕ) → k < at → getD rows k noReservation .unit ≡ unit → getD rows k noReservation .end ≤ point
+-- a walk to a side stands at a point in a unit's rows: no row ahead is of a unit before this one, and the unit's rows that it has passed end
+-- at the point or before it, all on the way to that side
+pub record StandsIn (side : Side) (rows : List Reservation) (unit point at : ℕ) : Type 0 where
+  pub ahead : (k : ℕ) → k < length rows → Ahead side at k → Upto side unit (getD rows k noReservation .unit)
+  pub passed : (k : ℕ) → k < length rows → Passed side at k → getD rows k noReservation .unit ≡ unit
+      → Upto side (farEnd side (getD rows k noReservation .start) (getD rows k noReservation .end)) point
 
--- to the left: no row of a later unit stands before `at`, and the unit's rows from `at` on start at or past the point
-pub record Beyond (rows : List Reservation) (unit point at : ℕ) : Type 0 where
-  pub inside : at ≤ length rows
-  pub earlier : (k : ℕ) → k < at → getD rows k noReservation .unit ≤ unit
-  pub begun : (k : ℕ) → at ≤ k → k < length rows → getD rows k noReservation .unit ≡ unit → point ≤ getD rows k noReservation .start
+-- it does in each unit of the register
+pub record Stands (side : Side) (p : Register) (rows : List Reservation) (point : ℕ) (w : Walk) : Type 0 where
+  pub in-unit : (v : ℕ) → v < p .units → StandsIn side rows (p .first .0 + v) point (getD (w .at) v 0)
 
--- a walker to the right stands at a point: it is behind it in each unit of the register; and one to the left, beyond it
-pub record StandsRight (p : Register) (rows : List Reservation) (point : ℕ) (w : RightWalker) : Type 0 where
+-- its places lie within n rows
+pub record PlacesInside (p : Register) (n : ℕ) (w : Walk) : Type 0 where
   pub eight : length (w .at) ≡ 8
-  pub behind : (v : ℕ) → v < p .units → Behind rows (p .first .0 + v) point (getD (w .at) v 0)
-
-pub record StandsLeft (p : Register) (rows : List Reservation) (point : ℕ) (w : LeftWalker) : Type 0 where
-  pub eight : length (w .at) ≡ 8
-  pub beyond : (v : ℕ) → v < p .units → Beyond rows (p .first .0 + v) point (getD (w .at) v 0)
+  pub inside : (v : ℕ) → v < p .units → getD (w .at) v 0 ≤ n
 
 -- ---- for contracts of private functions
+-- where a gap segment begins and ends, on the way to a side
+abbrev pub beginOf : Side → GapSegment → ℕ
+beginOf side s = nearEnd side (s .from .0) (s .to .0)
+
+abbrev pub endOf : Side → GapSegment → ℕ
+endOf side s = farEnd side (s .from .0) (s .to .0)
+
+-- a row reaches past a gap segment's end
+abbrev pub reachesPast : Side → GapSegment → Reservation → Bool
+reachesPast side s r = onSide side (ltb (r .start) (s .from .0)) (ltb (s .to .0) (r .end))
+
+-- rows and fixed uses in order, a gap segment that is not empty, and a weight
+pub record Sound (t : Reserved) (s : GapSegment) (met : Met) : Type 0 where
+  pub ready : Ready t
+  pub nonempty : s .from .0 < s .to .0
+  pub weight : Weight (met .heaviest)
+
 -- a unit's fixed uses begin at `from`
 pub record UsesFrom (fixedUses : List FixedUse) (unit from : ℕ) : Type 0 where
-  pub inside : from ≤ length fixedUses
   pub before : (k : ℕ) → k < from → getD fixedUses k noFixedUse .unit < unit
   pub later : (k : ℕ) → from ≤ k → k < length fixedUses → unit ≤ getD fixedUses k noFixedUse .unit
 

@@ -1,11 +1,14 @@
-// The rows of the gap segments: a row's gap segment, and whether a row is of a gap.
+// The rows of the gap segments: a row's gap segment, and whether the row ahead is of a gap.
 use crate::meeting::GapSegment;
+use crate::places::any_ahead;
+use crate::places::row_ahead;
+use links::lower::Side;
 use numbers::Point;
 use numbers::Value;
 ghost use mathlib.Core.Path.{_≡_};
 ghost use Prim.Native.Nat.{_<_, _≤_};
 ghost use lib.ListN.{length};
-ghost use Rattle.walks.specs.Gaps.{gapSegmentRow, isOfGap, lastIsOfGap};
+ghost use Rattle.walks.specs.Gaps.{gapSegmentRow, isOfGap};
 
 // The gap segment of a row.
 pub(crate) fn segment_at(
@@ -24,24 +27,14 @@ pub(crate) fn segment_at(
     }
 }
 
-// Row i is used, and of the gap.
-pub(crate) fn is_of_gap(out_gap: &[u32], used: usize, gap: u32, i: usize) -> bool
-    requires { ⌜ used ≤ length (now «out_gap») ⌝ }
-    ensures { λ r. ⌜ r ≡ isOfGap (now («out_gap» .entry)) used gap i ⌝ }
+// One of the rows used lies ahead, and it is of the gap.
+pub(crate) fn is_of_gap(side: Side, out_gap: &[u32], used: usize, gap: u32, i: usize) -> bool
+    requires { ⌜ (used ≤ length (now «out_gap»)) × (i ≤ used) ⌝ }
+    ensures { λ r. ⌜ r ≡ isOfGap side (now («out_gap» .entry)) used gap i ⌝ }
 {
-    if i >= used {
+    if !any_ahead(side, i, used) {
         return false;
     }
-    out_gap[i] == gap
-}
-
-// There is a row before row i, and it is of the gap.
-pub(crate) fn last_is_of_gap(out_gap: &[u32], gap: u32, i: usize) -> bool
-    requires { ⌜ i ≤ length (now «out_gap») ⌝ }
-    ensures { λ r. ⌜ r ≡ lastIsOfGap (now («out_gap» .entry)) gap i ⌝ }
-{
-    if i == 0 {
-        return false;
-    }
-    out_gap[i - 1] == gap
+    let row = row_ahead(side, i);
+    out_gap[row] == gap
 }

@@ -1,10 +1,10 @@
 // What a gap segment meets: one fixed use, one reservation, and what was met so far.
 use crate::units::first_use;
-use jobs::rows::FixedUse;
-use jobs::rows::Reservation;
-use jobs::rows::cell;
-use jobs::rows::fixed_use_at;
+use jobs::checked::Held;
+use jobs::checked::HeldUse;
+use jobs::checked::held_use_at;
 use jobs::rows::fixed_use_count;
+use links::lower::Side;
 use numbers::Point;
 use numbers::Unit;
 use numbers::Value;
@@ -12,12 +12,13 @@ use numbers::pick::either;
 use numbers::weights::heavier;
 use numbers::weights::weight_of;
 ghost use mathlib.Core.Path.{_≡_};
-ghost use Prim.Native.Nat.{_<_};
-ghost use lib.ListN.{length};
+ghost use lib.ListN.{length, getD};
 ghost use Rattle.jobs.specs.Rows.{fixedUsesOf};
+ghost use Rattle.jobs.specs.Checked.{plainRow, plainFixedUse};
 ghost use Rattle.columns.specs.Below.{anyBelow};
+ghost use Rattle.numbers.specs.Weight.{weightLimit, valueOf};
 ghost use Rattle.walks.specs.Meeting.{meets, clashes, useCounts, countsAsFixed, looked};
-ghost use Rattle.walks.specs.Standing.{OrderedUses};
+ghost use Rattle.walks.specs.Standing.{OrderedUses, reachesPast};
 
 // A gap segment: points from one to before another, and a value.
 pub struct GapSegment {
@@ -33,32 +34,42 @@ pub struct Register {
 }
 
 // What was met so far: whether something counts as fixed, and the heaviest weight.
-pub(crate) struct Met {
+pub struct Met {
     pub fixed: bool,
     pub heaviest: f32,
 }
 
 // A reservation meets a gap segment.
-fn meets(s: GapSegment, r: Reservation) -> bool
-    ensures { λ b. ⌜ b ≡ meets s r ⌝ }
+fn meets(s: GapSegment, r: Held) -> bool
+    ensures { λ b. ⌜ b ≡ meets s (plainRow r) ⌝ }
 {
-    if r.start >= s.to.0 {
+    if r.start.0 >= s.to.0 {
         return false;
     }
-    s.from.0 < r.end
+    s.from.0 < r.end.0
+}
+
+// It reaches past the segment's end, on the way to a side.
+pub(crate) fn reaches_past(side: Side, s: GapSegment, r: Held) -> bool
+    ensures { λ b. ⌜ b ≡ reachesPast side s (plainRow r) ⌝ }
+{
+    match side {
+        Side::Previous => r.start.0 < s.from.0,
+        Side::Next => s.to.0 < r.end.0,
+    }
 }
 
 // A fixed use overlaps a gap segment and has another value. The sum is made in 64 bits: a point may be any 32-bit number here.
-fn clashes(s: GapSegment, f: FixedUse) -> bool
-    ensures { λ b. ⌜ b ≡ clashes s f ⌝ }
+fn clashes(s: GapSegment, f: HeldUse) -> bool
+    ensures { λ b. ⌜ b ≡ clashes s (plainFixedUse f) ⌝ }
 {
-    if f.point >= s.to.0 {
+    if f.point.0 >= s.to.0 {
         return false;
     }
-    if (s.from.0 as u64) >= (f.point as u64) + 2 {
+    if (s.from.0 as u64) >= (f.point.0 as u64) + 2 {
         return false;
     }
-    f.value != s.value.0
+    f.value.0 != s.value.0
 }
 
 // A fixed use of the reservation's unit, from its fixed row on, clashes with the segment. Where the unit's fixed uses begin is
@@ -67,23 +78,22 @@ fn use_clashes(
     f_unit: &[u32],
     f_point: &[u32],
     f_value: &[u32],
-    r: Reservation,
+    r: Held,
     s: GapSegment,
 ) -> bool
-    requires { ⌜ OrderedUses (fixedUsesOf (now «f_unit») (now «f_point») (now «f_value»)) ⌝ }
     ensures { λ b. ⌜
         (let fixedUses = fixedUsesOf (now («f_unit» .entry)) (now («f_point» .entry)) (now («f_value» .entry)) in
-        b ≡ anyBelow (useCounts fixedUses s r) (length fixedUses)) ⌝ }
+        OrderedUses fixedUses → b ≡ anyBelow (useCounts fixedUses s (plainRow r)) (length fixedUses)) ⌝ }
 {
     let n = fixed_use_count(f_unit, f_point, f_value);
-    let from = first_use(f_unit, f_point, f_value, Unit(r.unit));
+    let from = first_use(f_unit, f_point, f_value, r.unit);
     let mut i = from + r.fixed as usize;
     while i < n {
-        let f = fixed_use_at(f_unit, f_point, f_value, i);
-        if f.unit != r.unit {
+        let f = held_use_at(f_unit, f_point, f_value, i);
+        if f.unit.0 != r.unit.0 {
             return false;
         }
-        if f.point >= s.to.0 {
+        if f.point.0 >= s.to.0 {
             return false;
         }
         if clashes(s, f) {
@@ -99,11 +109,12 @@ fn counts_as_fixed(
     f_unit: &[u32],
     f_point: &[u32],
     f_value: &[u32],
-    r: Reservation,
+    r: Held,
     s: GapSegment,
 ) -> bool
-    requires { ⌜ OrderedUses (fixedUsesOf (now «f_unit») (now «f_point») (now «f_value»)) ⌝ }
-    ensures { λ b. ⌜ b ≡ countsAsFixed (fixedUsesOf (now («f_unit» .entry)) (now («f_point» .entry)) (now («f_value» .entry))) s r ⌝ }
+    ensures { λ b. ⌜
+        (let fixedUses = fixedUsesOf (now («f_unit» .entry)) (now («f_point» .entry)) (now («f_value» .entry)) in
+        OrderedUses fixedUses → b ≡ countsAsFixed fixedUses s (plainRow r)) ⌝ }
 {
     if r.kind == 0 {
         if r.fixed == 4294967295 {
@@ -120,21 +131,30 @@ fn counts_as_fixed(
     r.index != s.value.0
 }
 
+// The spill weight at an index, zero if there is none.
+fn spill_weight(weight: &[u32], index: u32) -> f32
+    ensures { λ r. ⌜ r ≡ valueOf weightLimit (getD (now (weight .entry)) index 0) ⌝ }
+{
+    let i = index as usize;
+    if i < weight.len() {
+        return weight_of(weight[i]);
+    }
+    weight_of(0)
+}
+
 // What was met, and with it one reservation of the register.
 pub(crate) fn look(
     f_unit: &[u32],
     f_point: &[u32],
     f_value: &[u32],
     weight: &[u32],
-    r: Reservation,
+    r: Held,
     s: GapSegment,
     met: Met,
 ) -> Met
-    requires { ⌜ OrderedUses (fixedUsesOf (now «f_unit») (now «f_point») (now «f_value»)) ⌝ }
-    requires { ⌜ (r .kind ≡ 0 → r .index < length (now weight)) ⌝ }
     ensures { λ m. ⌜
         (let fixedUses = fixedUsesOf (now («f_unit» .entry)) (now («f_point» .entry)) (now («f_value» .entry)) in
-        m ≡ looked fixedUses (now (weight .entry)) s r met) ⌝ }
+        OrderedUses fixedUses → m ≡ looked fixedUses (now (weight .entry)) s (plainRow r) met) ⌝ }
 {
     if !meets(s, r) {
         return met;
@@ -142,7 +162,7 @@ pub(crate) fn look(
     let counts = counts_as_fixed(f_unit, f_point, f_value, r, s);
     let fixed = either(met.fixed, counts);
     if r.kind == 0 {
-        let w = weight_of(cell(weight, r.index as usize));
+        let w = spill_weight(weight, r.index);
         let heaviest = heavier(met.heaviest, w);
         return Met { fixed, heaviest };
     }

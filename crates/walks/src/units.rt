@@ -4,7 +4,8 @@ use columns::search::first_from_ends;
 use jobs::rows::fixed_use_count;
 use jobs::rows::reservation_count;
 use numbers::Unit;
-ghost use Prim.Native.Nat.{_<_};
+ghost use Prim.Native.Nat.{_≤_, _<_};
+ghost use lib.ListN.{length};
 ghost use Rattle.jobs.specs.Rows.{reservationsOf, fixedUsesOf};
 ghost use Rattle.walks.specs.Standing.{OrderedRows, OrderedUses, RowsOfUnit, UsesFrom};
 
@@ -37,8 +38,9 @@ pub(crate) fn rows_of_unit(
 
 // Where a unit's fixed uses begin.
 pub(crate) fn first_use(f_unit: &[u32], f_point: &[u32], f_value: &[u32], u: Unit) -> usize
-    requires { ⌜ OrderedUses (fixedUsesOf (now «f_unit») (now «f_point») (now «f_value»)) ⌝ }
-    ensures { λ r. ⌜ UsesFrom (fixedUsesOf (now («f_unit» .entry)) (now («f_point» .entry)) (now («f_value» .entry))) (u .0) r ⌝ }
+    ensures { λ r. ⌜
+        (let fixedUses = fixedUsesOf (now («f_unit» .entry)) (now («f_point» .entry)) (now («f_value» .entry)) in
+        (r ≤ length fixedUses) × (OrderedUses fixedUses → UsesFrom fixedUses (u .0) r)) ⌝ }
 {
     let n = fixed_use_count(f_unit, f_point, f_value);
     first_from_ends(f_unit, 0, n, u.0)

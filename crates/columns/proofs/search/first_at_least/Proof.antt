@@ -11,7 +11,7 @@ use borrow.Author.Needs.{needs, scaled-fits}
 use borrow.Author.Tests.{le-leb, lt-leb, lt-ltb, le-ltb}
 use lib.Dec.{ltb, leb}
 use lib.ListN.{length, getD}
-use Rattle.columns.specs.First.{FirstIn, Searchable}
+use Rattle.columns.specs.First.{FirstIn, Rising}
 use Rattle.columns.proofs.Firsts.{split}
 use Rattle.columns.proofs.search.first_at_least.Statement.{statement}
 use Rattle.columns.proofs.search.first_at_least.Tie as tie
@@ -21,8 +21,8 @@ pub record Between (col : List ℕ) (lo hi x base size : ℕ) : Type 0 where
   pub some : 0 < size
   pub from : lo ≤ base
   pub to : base + size ≤ hi
-  pub passed : (k : ℕ) → lo ≤ k → k < base → getD col k 0 < x
-  pub reached : (k : ℕ) → base + size ≤ k → k < hi → x ≤ getD col k 0
+  pub passed : Rising col lo hi → (k : ℕ) → lo ≤ k → k < base → getD col k 0 < x
+  pub reached : Rising col lo hi → (k : ℕ) → base + size ≤ k → k < hi → x ≤ getD col k 0
 
 -- a number is below x, or it is not
 data Below (n x r : ℕ) : Type 0 where
@@ -44,9 +44,9 @@ at-most : (h n x r : ℕ) → r ≡ cond (ltb n x) 1 0 → h * r ≤ h
 at-most h n x r e = elim (times h n x r (by-test n x r e)) [ inl p ↦ omega (arith, p) | inr p ↦ omega (arith, p) ]
 
 -- a step by half
-halved : (col : List ℕ) (lo hi x base size r : ℕ) → Searchable col lo hi → Between col lo hi x base size → 1 < size
+halved : (col : List ℕ) (lo hi x base size r : ℕ) → Between col lo hi x base size → 1 < size
     → r ≡ cond (ltb (getD col (base + size / 2) 0) x) 1 0 → Between col lo hi x (base + size / 2 * r) (size - size / 2)
-halved col lo hi x base size r s b h e = by (by-test (getD col (base + size / 2) 0) x r e)
+halved col lo hi x base size r b h e = by (by-test (getD col (base + size / 2) 0) x r e)
   where
     by : Below (getD col (base + size / 2) 0) x r → Between col lo hi x (base + size / 2 * r) (size - size / 2)
     by (is p q) =
@@ -57,8 +57,8 @@ halved col lo hi x base size r s b h e = by (by-test (getD col (base + size / 2)
           some = omega arith;
           from = omega arith;
           to = omega arith;
-          passed = λ k u v. lt-of-le-of-lt (s .rising k (base + size / 2) u (omega arith) (omega arith)) p;
-          reached = λ k u v. b .reached k (omega arith) v;
+          passed = λ s k u v. lt-of-le-of-lt (s k (base + size / 2) u (omega arith) (omega arith)) p;
+          reached = λ s k u v. b .reached s k (omega arith) v;
         }
     by (is-not p q) =
         let m : size / 2 * r ≡ 0 = ap (λ (y : ℕ). size / 2 * y) q ∙ mul-zero (size / 2) in
@@ -68,41 +68,52 @@ halved col lo hi x base size r s b h e = by (by-test (getD col (base + size / 2)
           some = omega arith;
           from = omega arith;
           to = omega arith;
-          passed = λ k u v. b .passed k u (omega arith);
-          reached = λ k u v. le-trans p (s .rising (base + size / 2) k (omega arith) (omega arith) v);
+          passed = λ s k u v. b .passed s k u (omega arith);
+          reached = λ s k u v. le-trans p (s (base + size / 2) k (omega arith) (omega arith) v);
         }
 
 -- before a place and the one behind it
 upto : (k base r : ℕ) → k < base + r → r ≡ 1 → (k ≡ base) ⊎ (k < base)
 upto k base r v q = eq-or-lt-of-le (omega (arith, v, q))
 
+-- where a search ends
+abbrev Found : List ℕ → ℕ → ℕ → ℕ → ℕ → Type 0
+Found col lo hi x r = (lo ≤ r) × (r ≤ hi) × (Rising col lo hi → FirstIn (λ (k : ℕ). leb x (getD col k 0)) lo hi r)
+
 -- one place is left
 ended : (col : List ℕ) (lo hi x base size r : ℕ) → Between col lo hi x base size → size ≤ 1 →
-    r ≡ cond (ltb (getD col base 0) x) 1 0 → FirstIn (λ (k : ℕ). leb x (getD col k 0)) lo hi (base + r)
+    r ≡ cond (ltb (getD col base 0) x) 1 0 → Found col lo hi x (base + r)
 ended col lo hi x base size r b h e = by (by-test (getD col base 0) x r e)
   where
-    by : Below (getD col base 0) x r → FirstIn (λ (k : ℕ). leb x (getD col k 0)) lo hi (base + r)
+    by : Below (getD col base 0) x r → Found col lo hi x (base + r)
     by (is p q) =
         let n = b .some in
         let t = b .to in
-        let f = b .from in
-        record {
-          from = omega arith;
-          to = omega arith;
-          passed =
-              λ k u v. lt-leb x (getD col k 0) (elim (upto k base r v q) [ inl w ↦ subst (λ (y : ℕ). getD col y 0 < x) (sym w) p | inr w ↦ b .passed k u w ]);
-          found = λ u. le-leb x (getD col (base + r) 0) (b .reached (base + r) (omega arith) u);
-        }
+        let f = b .from in (
+          omega arith,
+          omega arith,
+          λ s. record {
+            from = omega arith;
+            to = omega arith;
+            passed =
+                λ k u v. lt-leb x (getD col k 0)
+                (elim (upto k base r v q) [ inl w ↦ subst (λ (y : ℕ). getD col y 0 < x) (sym w) p | inr w ↦ b .passed s k u w ]);
+            found = λ u. le-leb x (getD col (base + r) 0) (b .reached s (base + r) (omega arith) u);
+          },
+        )
     by (is-not p q) =
         let n = b .some in
         let t = b .to in
-        let f = b .from in
-        record {
-          from = omega arith;
-          to = omega arith;
-          passed = λ k u v. lt-leb x (getD col k 0) (b .passed k u (omega arith));
-          found = λ u. subst (λ (y : ℕ). leb x (getD col y 0) ≡ true) (omega arith) (le-leb x (getD col base 0) p);
-        }
+        let f = b .from in (
+          omega arith,
+          omega arith,
+          λ s. record {
+            from = omega arith;
+            to = omega arith;
+            passed = λ k u v. lt-leb x (getD col k 0) (b .passed s k u (omega arith));
+            found = λ u. subst (λ (y : ℕ). leb x (getD col y 0) ≡ true) (omega arith) (le-leb x (getD col base 0) p);
+          },
+        )
 
 abbrev Inv-loop : tie.InvT-loop
 Inv-loop col lo hi x base₀ size₀ base size =
@@ -113,29 +124,30 @@ abbrev μ-loop : tie.MeasureT-loop
 
 returns : tie.Need-returns Inv-loop μ-loop
 returns c =
-    record { from = c .before .before .pre .order; to = omega arith; passed = λ k p q. absurd (omega arith); found = λ p. absurd (omega arith) }
+    let o = c .before .before .pre .0 in
+    (o, omega arith, λ s. record { from = o; to = omega arith; passed = λ k p q. absurd (omega arith); found = λ p. absurd (omega arith) })
 
 sub-size : tie.Need-sub-size Inv-loop μ-loop
-sub-size c = let o = c .before .before .pre .order in omega arith
+sub-size c = let o = c .before .before .pre .0 in omega arith
 
 loop-holds : tie.Need-loop-holds Inv-loop μ-loop
 loop-holds c =
-    let o = c .before .before .pre .order in
-    record { some = omega arith; from = omega arith; to = omega arith; passed = λ k p q. absurd (omega arith); reached = λ k p q. absurd (omega arith) }
+    let o = c .before .before .pre .0 in
+    record { some = omega arith; from = omega arith; to = omega arith; passed = λ s k p q. absurd (omega arith); reached = λ s k p q. absurd (omega arith) }
 
 add-below : tie.Need-add-below Inv-loop μ-loop
 add-below c = omega arith
 
 mul-below : tie.Need-mul-below Inv-loop μ-loop
 mul-below c =
-    let i = c .before .before .before .before .pre .inside in
+    let i = c .before .before .before .before .pre .1 in
     let t = c .before .loop .inv .to in
     let n = c .loop-test .taken in
     scaled-fits _ (length (c .before .before .before .before .args .col .now)) 4 (omega arith) (c .before .before .before .before .good .0 .1)
 
 shared-slice-read-below : tie.Need-shared-slice-read-below Inv-loop μ-loop
 shared-slice-read-below c =
-    let i = c .before .before .before .before .before .pre .inside in
+    let i = c .before .before .before .before .before .pre .1 in
     let t = c .before .before .loop .inv .to in
     omega arith
 
@@ -171,19 +183,19 @@ loop-again c =
     let at-args = at-loop .before .before .before in
     let a = at-args .args in
     let l = at-loop .loop in
-    halved (a .col .now) (a .lo) (a .hi) (a .x) (l .base) (l .size) (c .below .result) (at-args .pre) (l .inv) (omega arith)
+    halved (a .col .now) (a .lo) (a .hi) (a .x) (l .base) (l .size) (c .below .result) (l .inv) (omega arith)
     (c .below .ensures)
 
 mul-below-2 : tie.Need-mul-below-2 Inv-loop μ-loop
 mul-below-2 c =
-    let i = c .before .before .before .before .pre .inside in
+    let i = c .before .before .before .before .pre .1 in
     let t = c .before .loop .inv .to in
     let n = c .before .loop .inv .some in
     scaled-fits _ (length (c .before .before .before .before .args .col .now)) 4 (omega arith) (c .before .before .before .before .good .0 .1)
 
 shared-slice-read-below-2 : tie.Need-shared-slice-read-below-2 Inv-loop μ-loop
 shared-slice-read-below-2 c =
-    let i = c .before .before .before .before .before .pre .inside in
+    let i = c .before .before .before .before .before .pre .1 in
     let t = c .before .before .loop .inv .to in
     let n = c .before .before .loop .inv .some in
     omega arith

@@ -25,7 +25,7 @@ add-first-at-least : tie.Need-add-first-at-least
 add-first-at-least c = search needs
 
 first-at-least-requires : tie.Need-first-at-least-requires
-first-at-least-requires c κs = search needs
+first-at-least-requires c κs = let s = c .before .before .pre .searchable in (s .order, s .inside)
 
 cast-t5 : tie.Need-cast-t5
 cast-t5 c = search needs
@@ -33,7 +33,7 @@ cast-t5 c = search needs
 returns : tie.Need-returns
 returns c =
     let at-args = c .before .before .before in
-    above (at-args .args .end .now) (at-args .args .n) (at-args .args .inst .0) _ (c .first-at-least .ensures)
+    above (at-args .args .end .now) (at-args .args .n) (at-args .args .inst .0) _ (c .first-at-least .ensures .2 (at-args .pre .searchable .rising))
 
 pub block-of-spec : {M : Type 1} → statement M
 block-of-spec = tie.close (tie.spec add-first-at-least first-at-least-requires cast-t5 returns)

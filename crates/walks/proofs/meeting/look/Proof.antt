@@ -4,7 +4,7 @@ use mathlib.Core.Bool.{Bool, _||_}
 use lib.Ieee.{Float}
 use borrow.Author.Needs.{needs}
 use borrow.Author.Tests.{eq-eqb, ne-eqb, not-true, not-false}
-use Rattle.numbers.specs.Weight.{weightLimit, valueOf, heavier}
+use Rattle.numbers.specs.Weight.{heavier}
 use Rattle.columns.proofs.Tests.{cond-true, cond-false}
 use Rattle.jobs.proofs.Walk.{pick-first, pick-second}
 use Rattle.walks.specs.declared.meeting.Met.{Met}
@@ -17,22 +17,16 @@ meets-requires c κs = search needs
 
 returns : tie.Need-returns
 unfolding looked
-returns c = sym (pick-second _ _ _ _ (sym (c .before .meets .ensures) ∙ not-true _ (c .if1 .taken)) refl)
+returns c = λ _. sym (pick-second _ _ _ _ (sym (c .before .meets .ensures) ∙ not-true _ (c .if1 .taken)) refl)
 
 counts-as-fixed-requires : tie.Need-counts-as-fixed-requires
-counts-as-fixed-requires c κs = let b = c .before .before .before .before .before .before in b .pre .0
+counts-as-fixed-requires c κs = search needs
 
 either-requires : tie.Need-either-requires
 either-requires c κs = search needs
 
-cast-cell : tie.Need-cast-cell
-cast-cell c = search needs
-
-cell-requires : tie.Need-cell-requires
-cell-requires c κs = c .before .before .before .before .before .before .before .before .before .before .before .pre .1 (c .before .if2 .taken)
-
-weight-of-requires : tie.Need-weight-of-requires
-weight-of-requires c κs = search needs
+spill-weight-requires : tie.Need-spill-weight-requires
+spill-weight-requires c κs = search needs
 
 heavier-requires : tie.Need-heavier-requires
 heavier-requires c κs = search needs
@@ -43,16 +37,14 @@ made b x = record { fixed = b; heaviest = x }
 returns-2 : tie.Need-returns-2
 unfolding looked spillWeight made
 returns-2 c =
-    let at-if2 = c .before .before .before .before in
+    let at-if2 = c .before .before in
     let at-either = at-if2 .before .before in
     let at-counts-as-fixed = at-either .before in
     let at-if1 = at-counts-as-fixed .before in
     let at-meets = at-if1 .before in
     let b = at-meets .before .before .before .before .before in
-    let f = at-either .either .ensures ∙ ap (λ (x : Bool). b .args .met .fixed || x) (at-counts-as-fixed .counts-as-fixed .ensures) in
-    let w = c .heavier .ensures
-    ∙ ap (heavier (b .args .met .heaviest))
-    (c .before .weight-of .ensures ∙ ap (valueOf weightLimit) (c .before .before .cell .ensures)) in
+    let w = c .heavier .ensures ∙ ap (heavier (b .args .met .heaviest)) (c .before .spill-weight .ensures) in λ o.
+    let f = at-either .either .ensures ∙ ap (λ (x : Bool). b .args .met .fixed || x) (at-counts-as-fixed .counts-as-fixed .ensures o) in
     ap₂ made f (w ∙ sym (cond-true _ (b .args .met .heaviest) (eq-eqb _ _ (at-if2 .if2 .taken))))
     ∙ sym (pick-first _ _ _ _ (sym (at-meets .meets .ensures) ∙ not-false _ (at-if1 .if1 .left)) refl)
 
@@ -63,8 +55,9 @@ returns-3 c =
     let at-if1 = at-counts-as-fixed .before in
     let at-meets = at-if1 .before in
     let b = at-meets .before .before .before .before .before in
+    λ o.
     let f = c .before .before .either .ensures
-    ∙ ap (λ (x : Bool). b .args .met .fixed || x) (at-counts-as-fixed .counts-as-fixed .ensures) in
+    ∙ ap (λ (x : Bool). b .args .met .fixed || x) (at-counts-as-fixed .counts-as-fixed .ensures o) in
     ap₂ made f (sym (cond-false _ (b .args .met .heaviest) (ne-eqb _ _ (c .if2 .left))))
     ∙ sym (pick-first _ _ _ _ (sym (at-meets .meets .ensures) ∙ not-false _ (at-if1 .if1 .left)) refl)
 
@@ -76,9 +69,7 @@ look-spec =
     returns
     counts-as-fixed-requires
     either-requires
-    cast-cell
-    cell-requires
-    weight-of-requires
+    spill-weight-requires
     heavier-requires
     returns-2
     returns-3)

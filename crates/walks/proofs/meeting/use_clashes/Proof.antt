@@ -16,7 +16,9 @@ use Rattle.jobs.specs.declared.rows.FixedUse.{FixedUse}
 use Rattle.jobs.specs.Rows.{fixedUseRow, fixedUsesOf, noFixedUse}
 use Rattle.jobs.proofs.Walk.{own-row}
 use Rattle.columns.specs.Below.{anyBelow}
+use Rattle.jobs.specs.Checked.{plainRow, plainFixedUse}
 use Rattle.walks.specs.Meeting.{clashes, useCounts}
+use Rattle.walks.specs.Standing.{OrderedUses}
 use Rattle.walks.proofs.Steps.{next-only}
 use Rattle.walks.proofs.Uses.{any-none, any-hit, too-early, past-unit, past-point, no-clash, one-counts}
 use Rattle.walks.proofs.meeting.use_clashes.Statement.{statement}
@@ -24,7 +26,7 @@ use Rattle.walks.proofs.meeting.use_clashes.Tie as tie
 
 abbrev Inv-loop : tie.InvT-loop
 Inv-loop f-unit f-point f-value r s n from i₀ i =
-    (from + r .fixed ≤ i) × ((k : ℕ) → k < i → k < length (fixedUsesOf f-unit f-point f-value) → useCounts (fixedUsesOf f-unit f-point f-value) s r k ≡ false)
+    (from + r .fixed ≤ i) × (OrderedUses (fixedUsesOf f-unit f-point f-value) → (k : ℕ) → k < i → k < length (fixedUsesOf f-unit f-point f-value) → useCounts (fixedUsesOf f-unit f-point f-value) s (plainRow r) k ≡ false)
 
 abbrev μ-loop : tie.MeasureT-loop
 μ-loop f-unit f-point f-value r s n from i₀ i = n - i
@@ -36,7 +38,7 @@ abbrev lengths : tie.Start Inv-loop μ-loop → List ℕ
 lengths b = length (b .args .f-unit .now) ∷ length (b .args .f-point .now) ∷ length (b .args .f-value .now) ∷ []
 
 abbrev test : tie.Start Inv-loop μ-loop → ℕ → Bool
-test b = useCounts (uses b) (b .args .s) (b .args .r)
+test b = useCounts (uses b) (b .args .s) (plainRow (b .args .r))
 
 abbrev begin : tie.In-loop Inv-loop μ-loop → tie.Start Inv-loop μ-loop
 begin c = c .before .before .before .before .before .before .before .before
@@ -45,12 +47,12 @@ in-list : (c : tie.In-loop Inv-loop μ-loop) → c .before .loop .i < length (us
 in-list c = lt-of-lt-of-le (c .loop-test .taken) (le-of-eq (c .before .before .before .before .fixed-use-count .ensures))
 
 -- the row that was read is the table's
-row : (d : tie.After-fixed-use-at Inv-loop μ-loop) → d .fixed-use-at .result ≡ getD (uses (begin (d .before))) (d .before .before .loop .i) noFixedUse
+row : (d : tie.After-held-use-at Inv-loop μ-loop) → plainFixedUse (d .held-use-at .result) ≡ getD (uses (begin (d .before))) (d .before .before .loop .i) noFixedUse
 row d =
     let b = begin (d .before) in
     own-row (fixedUseRow (b .args .f-unit .now) (b .args .f-point .now) (b .args .f-value .now))
     (shortest (length (b .args .f-unit .now) ∷ length (b .args .f-point .now) ∷ length (b .args .f-value .now) ∷ []))
-    (d .before .before .loop .i) noFixedUse (d .fixed-use-at .result) (d .fixed-use-at .ensures) (in-list (d .before))
+    (d .before .before .loop .i) noFixedUse (plainFixedUse (d .held-use-at .result)) (ap plainFixedUse (d .held-use-at .ensures)) (in-list (d .before))
 
 -- where the unit's fixed uses begin
 abbrev from : tie.At-loop Inv-loop μ-loop → ℕ
@@ -60,20 +62,20 @@ from-begin : (c : tie.At-loop Inv-loop μ-loop) → from c ≤ c .loop .i
 from-begin c = omega (arith, c .loop .inv .0)
 
 -- where none from i on counts, none counts
-none : (c : tie.At-loop Inv-loop μ-loop) →
+none : (c : tie.At-loop Inv-loop μ-loop) → OrderedUses (uses (c .before .before .before .before .before .before .before)) →
     ((j : ℕ) → c .loop .i ≤ j → j < length (uses (c .before .before .before .before .before .before .before)) →
     test (c .before .before .before .before .before .before .before) j ≡ false) →
     anyBelow (test (c .before .before .before .before .before .before .before))
     (length (uses (c .before .before .before .before .before .before .before))) ≡ false
-none c f =
+none c o f =
     let at-stage = c .before .before .before .before .before .before .before in
-    any-none (test (at-stage)) (length (uses (at-stage))) (λ k l. ⊎-elim (λ h. c .loop .inv .1 k h l) (λ h. f k h l) (split k (c .loop .i)))
+    any-none (test (at-stage)) (length (uses (at-stage))) (λ k l. ⊎-elim (λ h. c .loop .inv .1 o k h l) (λ h. f k h l) (split k (c .loop .i)))
 
 fixed-use-count-requires : tie.Need-fixed-use-count-requires Inv-loop μ-loop
 fixed-use-count-requires c κs = search needs
 
 first-use-requires : tie.Need-first-use-requires Inv-loop μ-loop
-first-use-requires c κs = c .before .before .before .before .pre
+first-use-requires c κs = search needs
 
 cast-i : tie.Need-cast-i Inv-loop μ-loop
 cast-i c = search needs
@@ -81,7 +83,7 @@ cast-i c = search needs
 add-i : tie.Need-add-i Inv-loop μ-loop
 add-i c =
     let b = c .before .before .before .before .before .before in
-    let l = le-trans (c .before .first-use .ensures .inside)
+    let l = le-trans (c .before .first-use .ensures .0)
     (le-trans
     (le-of-eq
     (table-length (fixedUseRow (b .args .f-unit .now) (b .args .f-point .now) (b .args .f-value .now)) (shortest (lengths b))))
@@ -92,12 +94,12 @@ loop-holds : tie.Need-loop-holds Inv-loop μ-loop
 loop-holds c =
     let b = c .before .before .before .before .before .before in (
       le-refl (c .before .first-use .result + b .args .r .fixed),
-      λ k h l. too-early (uses b) (b .pre) (b .args .r) (b .args .s)
-          (c .before .first-use .result) (c .before .first-use .ensures) k h l,
+      λ o k h l. too-early (uses b) o (plainRow (b .args .r)) (b .args .s)
+          (c .before .first-use .result) (c .before .first-use .ensures .1 o) k h l,
     )
 
-fixed-use-at-requires : tie.Need-fixed-use-at-requires Inv-loop μ-loop
-fixed-use-at-requires c κs = in-list c
+held-use-at-requires : tie.Need-held-use-at-requires Inv-loop μ-loop
+held-use-at-requires c κs = in-list c
 
 returns : tie.Need-returns Inv-loop μ-loop
 returns c =
@@ -106,9 +108,9 @@ returns c =
     let at-first-use = at-stage-2 .before .before in
     let b = at-first-use .before .before .before .before .before in
     let i = at-stage-2 .loop .i in
-    sym
-    (none (at-stage-2)
-    (λ j m l. past-unit (uses b) (b .pre) (b .args .r) (b .args .s) (from (at-stage-2)) (at-first-use .first-use .ensures) i j
+    λ o. sym
+    (none (at-stage-2) o
+    (λ j m l. past-unit (uses b) o (plainRow (b .args .r)) (b .args .s) (from (at-stage-2)) (at-first-use .first-use .ensures .1 o) i j
     (from-begin (at-stage-2)) m l (λ e. c .if1 .taken (ap (λ (f : FixedUse). f .unit) (row (at-stage)) ∙ e))))
 
 returns-2 : tie.Need-returns-2 Inv-loop μ-loop
@@ -120,9 +122,9 @@ returns-2 c =
     let b = at-first-use .before .before .before .before .before in
     let i = at-stage-2 .loop .i in
     let e = row (at-stage) in
-    sym
-    (none (at-stage-2)
-    (λ j m l. past-point (uses b) (b .pre) (b .args .r) (b .args .s) (from (at-stage-2)) (at-first-use .first-use .ensures) i j
+    λ o. sym
+    (none (at-stage-2) o
+    (λ j m l. past-point (uses b) o (plainRow (b .args .r)) (b .args .s) (from (at-stage-2)) (at-first-use .first-use .ensures .1 o) i j
     m l (ap (λ (f : FixedUse). f .unit) (sym e) ∙ at-if1 .if1 .left)
     (le-trans (c .if2 .taken) (le-of-eq (ap (λ (f : FixedUse). f .point) e)))))
 
@@ -153,9 +155,9 @@ returns-3 c =
     let b = at-first-use .before .before .before .before .before in
     let i = at-loop .loop .i in
     let e = row (at-stage) in
-    sym
+    λ o. sym
     (any-hit (test b) (length (uses b)) i (in-list (at-stage-2))
-    (one-counts (uses b) (b .pre) (b .args .r) (b .args .s) (from (at-loop)) (at-first-use .first-use .ensures) i
+    (one-counts (uses b) o (plainRow (b .args .r)) (b .args .s) (from (at-loop)) (at-first-use .first-use .ensures .1 o) i
     (at-loop .loop .inv .0) (in-list (at-stage-2)) (ap (λ (f : FixedUse). f .unit) (sym e) ∙ at-if1 .if1 .left)
     (tested (c .before) true (c .if3 .taken))))
 
@@ -171,10 +173,10 @@ loop-again c =
     let i = c .before .before .before .before .before .before .before .before .before .before .loop .i in (
       up (from (c .before .before .before .before .before .before .before .before .before .before) + b .args .r .fixed) i
           (c .before .before .before .before .before .before .before .before .before .before .loop .inv .0),
-      λ k h l. ⊎-elim (λ m. c .before .before .before .before .before .before .before .before .before .before .loop .inv .1 k m l)
-          (λ m. ap (test b) (next-only k i h m) ∙ no-clash (uses b) (b .pre) (b .args .r) (b .args .s)
+      λ o k h l. ⊎-elim (λ m. c .before .before .before .before .before .before .before .before .before .before .loop .inv .1 o k m l)
+          (λ m. ap (test b) (next-only k i h m) ∙ no-clash (uses b) o (plainRow (b .args .r)) (b .args .s)
           (from (c .before .before .before .before .before .before .before .before .before .before))
-          (c .before .before .before .before .before .before .before .before .before .before .before .before .first-use .ensures) i
+          (c .before .before .before .before .before .before .before .before .before .before .before .before .first-use .ensures .1 o) i
           (tested (c .before) false (c .if3 .left))) (split k i),
     )
   where
@@ -183,7 +185,7 @@ loop-again c =
 
 returns-4 : tie.Need-returns-4 Inv-loop μ-loop
 returns-4 c =
-    sym (none (c .before)
+    λ o. sym (none (c .before) o
     (λ j m l. absurd (never (c .before .before .before .before .fixed-use-count .result) (c .before .loop .i) j
     (length (uses (c .before .before .before .before .before .before .before .before))) (c .loop-test .left)
     (c .before .before .before .before .fixed-use-count .ensures) m l)))
@@ -202,7 +204,7 @@ use-clashes-spec =
     cast-i
     add-i
     loop-holds
-    fixed-use-at-requires
+    held-use-at-requires
     returns
     returns-2
     clashes-requires

@@ -4,10 +4,13 @@ use mathlib.Core.List.{List}
 use Prim.Native.Nat.{ℕ, _+_, _-_, _≤_, _<_, zero-le}
 use native.Mathlib.Omega.{arith}
 use borrow.Author.Needs.{needs}
+use lib.ListN.{length}
 use Rattle.jobs.specs.declared.rows.Reservation.{Reservation}
 use Rattle.jobs.specs.Rows.{reservationsOf}
 use Rattle.walks.specs.declared.meeting.Register.{Register}
-use Rattle.walks.specs.Standing.{Behind, Beyond}
+use Rattle.links.specs.declared.lower.Side.{Side}
+use Rattle.links.specs.declared.lower.Side.the-variants.{Previous, Next}
+use Rattle.walks.specs.Standing.{StandsIn}
 use Rattle.walks.proofs.Steps.{next-inside, below-upto}
 use Rattle.walks.proofs.AllUnits.{Walked, walked-none, walked-more}
 use Rattle.walks.proofs.both.Walkers.new.Statement.{statement}
@@ -17,11 +20,15 @@ use Rattle.walks.proofs.both.Walkers.new.Tie as tie
 abbrev Any : ℕ → ℕ → Type 0
 Any v x = Unit {0}
 
+-- a place in a unit's rows where a walk to a side stands
+abbrev Place : Side → Register → List Reservation → ℕ → ℕ → ℕ → Type 0
+Place side p rows point w x = (x ≤ length rows) × StandsIn side rows (p .first .0 + w) point x
+
 abbrev Found : Register → List Reservation → ℕ → List ℕ → List ℕ → ℕ → Type 0
 Found p rows point lefts rights v =
     (v ≤ p .units)
-    × Walked (p .units) Any (λ (w x : ℕ). Beyond rows (p .first .0 + w) point x) lefts v
-    × Walked (p .units) Any (λ (w x : ℕ). Behind rows (p .first .0 + w) point x) rights v
+    × Walked (p .units) Any (Place Previous p rows point) lefts v
+    × Walked (p .units) Any (Place Next p rows point) rights v
 
 abbrev Inv-loop : tie.InvT-loop
 Inv-loop unit start end kind index fixed register next point lefts₀ rights₀ v₀ lefts rights v =
@@ -83,14 +90,24 @@ loop-again c =
       walked-more (p .result .right) v few (p .ensures .1) (l .inv .2),
     )
 
+-- a walk that stands in each unit
+done : (c : tie.Else1 Inv-loop μ-loop) (v : ℕ) → v < c .before .before .before .before .before .before .before .before .before .args .register .units
+    → v < c .before .before .loop .v
+done c v h = below-upto v _ _ h (c .if1 .left)
+
 returns : tie.Need-returns Inv-loop μ-loop
 returns c =
-    let l = c .before .before .loop in
-    let n = c .before .before .before .before .before .before .before .before .before .args .register .units in (
+    let l = c .before .before .loop in (
       refl,
       refl,
-      record { eight = l .inv .1 .eight; beyond = λ v h. l .inv .1 .walked v (below-upto v n (l .v) h (c .if1 .left)) },
-      record { eight = l .inv .2 .eight; behind = λ v h. l .inv .2 .walked v (below-upto v n (l .v) h (c .if1 .left)) },
+      (
+        record { eight = l .inv .1 .eight; inside = λ v h. l .inv .1 .walked v (done c v h) .0 },
+        record { in-unit = λ v h. l .inv .1 .walked v (done c v h) .1 },
+      ),
+      (
+        record { eight = l .inv .2 .eight; inside = λ v h. l .inv .2 .walked v (done c v h) .0 },
+        record { in-unit = λ v h. l .inv .2 .walked v (done c v h) .1 },
+      ),
     )
 
 pub new-spec : {M : Type 1} → statement M

@@ -1,0 +1,128 @@
+-- The way to a side: order, and places from row to row. Each fact once, for both sides
+use mathlib.Core.Path.{_≡_, refl}
+use mathlib.Core.Logic.{_⊎_, inl, inr, ⊎-elim}
+use mathlib.Core.Bool.{true, false}
+use Prim.Native.Nat.{ℕ, _+_, _-_, _≤_, _<_}
+use native.Mathlib.Nat.{le-refl, le-trans, le-of-lt}
+use native.Mathlib.Omega.{arith}
+use borrow.Author.Tests.{ltb-true, ltb-false}
+use Rattle.columns.proofs.Firsts.{split}
+use Rattle.links.specs.declared.lower.Side.{Side}
+use Rattle.links.specs.declared.lower.Side.the-variants.{Previous, Next}
+use Rattle.links.specs.Links.{onSide}
+use Rattle.walks.specs.Ways.{Upto, Before, nearEnd, farEnd, Ahead, Passed, AnyAhead, anyAhead, rowAhead, placeBehind}
+
+-- ---- order
+pub upto-same : (side : Side) {a b : ℕ} → a ≡ b → Upto side a b
+upto-same Previous e = record { is = omega (arith, e) }
+upto-same Next e = record { is = omega (arith, e) }
+
+pub upto-trans : (side : Side) {a b c : ℕ} → Upto side a b → Upto side b c → Upto side a c
+upto-trans Previous p q = record { is = le-trans (q .is) (p .is) }
+upto-trans Next p q = record { is = le-trans (p .is) (q .is) }
+
+pub before-upto : (side : Side) {a b : ℕ} → Before side a b → Upto side a b
+before-upto side p = record { is = le-of-lt (p .is) }
+
+-- a number between two that are the same is that number
+pub upto-between : (side : Side) {a b c : ℕ} → Upto side c a → Upto side a b → b ≡ c → a ≡ c
+upto-between Previous p q e = omega (arith, p .is, q .is, e)
+upto-between Next p q e = omega (arith, p .is, q .is, e)
+
+-- the ends of a stretch that is not empty
+pub near-far : (side : Side) {from to : ℕ} → from < to → Upto side (nearEnd side from to) (farEnd side from to)
+near-far Previous h = record { is = le-of-lt h }
+near-far Next h = record { is = le-of-lt h }
+
+-- ---- rows about a place
+pub passed-or-ahead : (side : Side) (i k : ℕ) → Passed side i k ⊎ Ahead side i k
+passed-or-ahead Previous i k = ⊎-elim (λ h. inr (record { is = omega (arith, h) })) (λ h. inl (record { is = h })) (split k i)
+passed-or-ahead Next i k = ⊎-elim (λ h. inl (record { is = omega (arith, h) })) (λ h. inr (record { is = h })) (split k i)
+
+-- the row ahead is one of the rows, and none of those ahead comes before it
+pub row-inside : (side : Side) {i n : ℕ} → AnyAhead side i n → i ≤ n → rowAhead side i < n
+row-inside Previous h l = omega (arith, h .is, l)
+row-inside Next h l = h .is
+
+pub row-is-ahead : (side : Side) {i n : ℕ} → AnyAhead side i n → Ahead side i (rowAhead side i)
+row-is-ahead Previous h = record { is = omega (arith, h .is) }
+row-is-ahead Next {i} h = record { is = le-refl i }
+
+pub row-first : (side : Side) {i k : ℕ} → Ahead side i k → Upto side (rowAhead side i) k
+row-first Previous h = record { is = omega (arith, h .is) }
+row-first Next h = record { is = h .is }
+
+-- where a row lies ahead, some do
+pub some-ahead : (side : Side) {i k n : ℕ} → Ahead side i k → k < n → AnyAhead side i n
+some-ahead Previous p q = record { is = omega (arith, p .is) }
+some-ahead Next p q = record { is = omega (arith, p .is, q) }
+
+-- ---- from a place to the one behind the row ahead
+pub behind-inside : (side : Side) {i n : ℕ} → AnyAhead side i n → i ≤ n → placeBehind side i ≤ n
+behind-inside Previous h l = omega (arith, l)
+behind-inside Next h l = omega (arith, h .is)
+
+pub passed-only : (side : Side) {i k : ℕ} → Passed side (placeBehind side i) k → Passed side i k ⊎ (k ≡ rowAhead side i)
+passed-only Previous {i} {k} h = ⊎-elim (λ l. inr (omega (arith, h .is, l))) (λ l. inl (record { is = l })) (split k i)
+passed-only Next {i} {k} h = ⊎-elim (λ l. inl (record { is = omega (arith, l) })) (λ l. inr (omega (arith, h .is, l))) (split k i)
+
+pub passed-still : (side : Side) {i k : ℕ} → Passed side i k → Passed side (placeBehind side i) k
+passed-still Previous h = record { is = omega (arith, h .is) }
+passed-still Next h = record { is = omega (arith, h .is) }
+
+pub row-passed : (side : Side) (i : ℕ) → Passed side (placeBehind side i) (rowAhead side i)
+row-passed Previous i = record { is = le-refl (i - 1) }
+row-passed Next i = record { is = le-refl (i + 1) }
+
+pub ahead-before : (side : Side) (i : ℕ) {k : ℕ} → Ahead side (placeBehind side i) k → Ahead side i k
+ahead-before Previous i h = record { is = omega (arith, h .is) }
+ahead-before Next i h = record { is = omega (arith, h .is) }
+
+pub row-before : (side : Side) (i : ℕ) {k : ℕ} → Ahead side (placeBehind side i) k → Before side (rowAhead side i) k
+row-before Previous i h = record { is = omega (arith, h .is) }
+row-before Next i h = record { is = omega (arith, h .is) }
+
+-- fewer rows are ahead then
+pub fewer-ahead : (side : Side) {i n x : ℕ} → AnyAhead side i n → x ≡ placeBehind side i → onSide side x (n - x) < onSide side i (n - i)
+fewer-ahead Previous h e = omega (arith, h .is, e)
+fewer-ahead Next h e = omega (arith, h .is, e)
+
+-- with no row ahead all are passed
+pub none-ahead : (side : Side) {i n k : ℕ} → (AnyAhead side i n → ⊥) → k < n → Passed side i k
+none-ahead side {i} {n} {k} none h = ⊎-elim (λ p. p) (λ a. absurd (none (some-ahead side a h))) (passed-or-ahead side i k)
+
+-- ---- as code tests it
+pub ahead-true : (side : Side) (i n : ℕ) → anyAhead side i n ≡ true → AnyAhead side i n
+ahead-true Previous i n e = record { is = ltb-true 0 i e }
+ahead-true Next i n e = record { is = ltb-true i n e }
+
+pub ahead-false : (side : Side) (i n : ℕ) → anyAhead side i n ≡ false → AnyAhead side i n → ⊥
+ahead-false Previous i n e h = let l = ltb-false 0 i e in omega (arith, h .is, l)
+ahead-false Next i n e h = let l = ltb-false i n e in omega (arith, h .is, l)
+
+pub some-row : (side : Side) {i n : ℕ} → AnyAhead side i n → onSide side 1 0 ≤ i
+some-row Previous h = h .is
+some-row Next h = omega arith
+
+-- ---- edges: gap x is the stretch from x to x + 1, and what lies about its two edges
+pub near-other : (side : Side) (x : ℕ) {y : ℕ} → Passed side (nearEnd side x (x + 1)) y → y ≡ x → ⊥
+near-other Previous x p e = omega (arith, p .is, e)
+near-other Next x p e = omega (arith, p .is, e)
+
+pub far-other : (side : Side) (x : ℕ) {y : ℕ} → Ahead side (farEnd side x (x + 1)) y → y ≡ x → ⊥
+far-other Previous x p e = omega (arith, p .is, e)
+far-other Next x p e = omega (arith, p .is, e)
+
+pub far-passed : (side : Side) (x : ℕ) {y : ℕ} → Passed side (nearEnd side x (x + 1)) y ⊎ (y ≡ x) → Passed side (farEnd side x (x + 1)) y
+far-passed Previous x (inl p) = record { is = omega (arith, p .is) }
+far-passed Previous x (inr p) = record { is = omega (arith, p) }
+far-passed Next x (inl p) = record { is = omega (arith, p .is) }
+far-passed Next x (inr p) = record { is = omega (arith, p) }
+
+pub far-ahead : (side : Side) (x : ℕ) {y : ℕ} → Ahead side (nearEnd side x (x + 1)) y → (y ≡ x → ⊥) → Ahead side (farEnd side x (x + 1)) y
+far-ahead Previous x p n = record { is = omega (arith, p .is, n) }
+far-ahead Next x p n = record { is = omega (arith, p .is, n) }
+
+pub ahead-later : (side : Side) {i x y : ℕ} → Ahead side i x → Upto side x y → Ahead side i y
+ahead-later Previous p q = record { is = omega (arith, p .is, q .is) }
+ahead-later Next p q = record { is = omega (arith, p .is, q .is) }
