@@ -29,7 +29,7 @@ use Rattle.walks.specs.Meeting.{meets, countsAsFixed, spillWeight, ofRegister, 
 use Rattle.walks.specs.Meeting.{weightsMetAll}
 use Rattle.numbers.specs.Sum.{plus}
 use Rattle.gaps.specs.Gaps.{cutGaps, cuts, gapsBetween, gapsOf}
-use Rattle.growth.specs.Growth.{numbersFrom, weightsIn, weightTest, passes, sideOpen, leftFirst, sideTried, tryOn, try, growth, grown}
+use Rattle.growth.specs.Growth.{numbersFrom, weightsIn, weightTest, passes, sideOpen, leftFirst, sideTried, came, tryOn, try, growth, grown}
 use Rattle.growth.specs.Proposal.{splitCost, endOf, proposalWith, regionOf}
 use Rattle.refusals.specs.Refusals.{firstBroken, badParameters, someLong, badSizes}
 use Rattle.numbers.specs.Figure.{figure}
@@ -79,5 +79,5 @@ unfolding letter fields limit width position kindOf digitOrBlank digits field va
     badKind badFixedUse countBelow bestUse useTable rowsFrom carries splitUse addedToRow partOf costOf frequencyAt firstInst lastInst valueOf ofBits spillCost
     scaled firstBelow blockOf add sub mul round eq lt table gapsOf gapsBetween cuts cutGaps plus joined follow lowerLink isLower sumBelow overlapWith overlapsOf
     anyOf meets countsAsFixed spillWeight ofRegister fixedAgainst weighsAgainst fixedMet weightsWhere weightsMet fixedMetAny weightsMetAll picked numbersFrom
-    weightTest passes sideOpen leftFirst sideTried tryOn try growth grown splitCost endOf proposalWith regionOf normalised fraction exceeds div ofInt weightsIn
+    weightTest passes sideOpen leftFirst sideTried came tryOn try growth grown splitCost endOf proposalWith regionOf normalised fraction exceeds div ofInt weightsIn
 cases-answered = refl

@@ -8,7 +8,7 @@ use lib.ListN.{getD, length}
 use Rattle.numbers.specs.Normal.{normalised, fraction, exceeds}
 use Rattle.numbers.specs.declared.MaybeInst.{MaybeInst}
 use Rattle.numbers.specs.declared.MaybeInst.the-variants.{At, Absent}
-use Rattle.growth.specs.Growth.{numbersFrom, weightsIn, weightTest, passes, sideOpen, leftFirst, sideTried, tryOn, try, growth, grown}
+use Rattle.growth.specs.Growth.{numbersFrom, weightsIn, weightTest, passes, sideOpen, leftFirst, sideTried, came, tryOn, try, growth, grown}
 use Rattle.growth.specs.Proposal.{splitCost, endOf, proposalWith, regionOf}
 use Rattle.growth.specs.Columns.{seenIn}
 use Rattle.growth.specs.declared.proposal.Region.{Region}
@@ -36,7 +36,7 @@ gap first weight live freq fixed met = record { first = first; weight = weight; 
 
 -- the answer to gaps, with the own one's number and k
 answer : ℕ → ℕ → List Gap → Region
-unfolding value values regionOf numbersFrom weightsIn weightTest passes sideOpen leftFirst sideTried tryOn try growth grown splitCost endOf proposalWith
+unfolding value values regionOf numbersFrom weightsIn weightTest passes sideOpen leftFirst sideTried came tryOn try growth grown splitCost endOf proposalWith
     normalised fraction exceeds round add mul div lt ofInt
 answer own k gaps =
     regionOf

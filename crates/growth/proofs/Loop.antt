@@ -3,7 +3,7 @@ use mathlib.Core.Path.{_≡_, refl, sym, ap, _∙_, subst}
 use Prim.Native.Nat.{ℕ, zero, suc, _+_, _^_, _≤_, _<_, suc-le-suc}
 use native.Mathlib.Nat.{le-trans, add-comm}
 use native.Mathlib.Omega.{arith}
-use mathlib.Core.Bool.{Bool, true, false, not, cond}
+use mathlib.Core.Bool.{Bool, true, false, not, _&&_, cond}
 use mathlib.Core.List.{List, append-nil}
 use lib.Dec.{T, lit<}
 use lib.Ieee.{Float, binary32, add}
@@ -13,22 +13,25 @@ use Rattle.numbers.proofs.Units.{units-inj, zero-finite, zero-units}
 use Rattle.numbers.proofs.Rounding.{rounded, round-fixed}
 use Rattle.numbers.proofs.Operations.{sum-weight, sum-units}
 use Rattle.links.specs.declared.lower.Side.{Side}
+use Rattle.links.specs.declared.lower.Side.the-variants.{Previous, Next}
 use Rattle.growth.specs.Growth.{GapsSeen, Span, State, ownSpan, gapsIn, weightsIn, heaviestIn, weightTest, gapOutside, grownBy, passes, passesOn, isOpen}
-use Rattle.growth.specs.Growth.{sideTried, barred, grows, tryOn, tryAt, try, growth, grown}
+use Rattle.growth.specs.Growth.{sideTried, barred, grows, came, cameOn, afterCame, tryOn, tryAt, try, growth, grown}
 use Rattle.growth.specs.Proposal.{proposalWith, proposalOf, regionOf}
 use Rattle.growth.specs.Demand.{Around, Ended, SoundGaps}
-use Rattle.growth.specs.Columns.{grownOf, growthOf, spanOf, stateOf, InsideGaps, CountFits, triedOf, testedOf, startAt, afterTry, Going}
-use Rattle.growth.specs.declared.step.Grown.{Grown}
+use Rattle.growth.specs.Columns.{grownOf, growthOf, spanOf, stateOf, InsideGaps, CountFits, tried, ownTried, cameWith, triedWith, noGrowth, barredOn, afterWith, afterTried}
+use Rattle.growth.specs.Columns.{startAt, Going}
 use Rattle.growth.specs.declared.step.Growth.{Growth}
 use Rattle.growth.specs.declared.step.Tried.{Tried}
+use Rattle.growth.specs.declared.step.Came.{Came}
+use Rattle.growth.specs.declared.step.Came.the-variants as Came·is
 use Rattle.growth.specs.declared.step.Turn.{Turn}
 use Rattle.growth.specs.declared.step.Turn.the-variants.{Try, End}
 use Rattle.growth.specs.declared.proposal.Region.the-variants.{Found, Nothing}
-use Rattle.growth.proofs.Tries.{not-is, is-true, turn-cases, leftToTry, fewer-grown, fewer-barred, growth-around, ended-stays, growth-same}
+use Rattle.growth.proofs.Tries.{not-is, is-true, open-left, turn-cases, try-on, leftToTry, fewer-grown, fewer-barred, growth-around, ended-stays, growth-same}
 use Rattle.growth.proofs.Spans.{between-one, outside-inside, tried-insts-few}
 use Rattle.growth.proofs.Meetings.{heaviest-with-gap}
 use Rattle.growth.proofs.Proposals.{growth-met}
-use Rattle.growth.proofs.Steps.{tested-is}
+use Rattle.growth.proofs.Steps.{tried-is}
 
 module _ (seen : GapsSeen) where
   -- ---- the side that is tried
@@ -52,19 +55,19 @@ module _ (seen : GapsSeen) where
   unfolding try
   turn-tries st side e = ap (λ (t : Turn). tryAt t seen st) e
 
-  -- ---- the region with one more gap, by what the code knows of the gap
-  pub tested-step : seen .numerator ≡ 2007 → (st : State) (side : Side) → T (isOpen side seen st) → Around seen (st .region)
+  -- ---- a try, by what the code knows of the gap
+  pub tried-step : seen .numerator ≡ 2007 → (st : State) (side : Side) → T (isOpen side seen st) → Around seen (st .region)
       → Weights (weightsIn (seen .met) (gapsIn (st .region))) → Weights (seen .met (gapOutside side (st .region)))
-      → testedOf (not (seen .fixed (gapOutside side (st .region)))) (grownOf seen (st .region)) (seen .weight (gapOutside side (st .region)))
-      (seen .live (gapOutside side (st .region))) (heavier (heaviestIn seen (st .region)) (heaviest (seen .met (gapOutside side (st .region))))) (seen .k)
-      (grownBy side seen (st .region) .left) (grownBy side seen (st .region) .right)
-      ≡ triedOf (passesOn side seen (st .region)) (grownOf seen (grownBy side seen (st .region)))
-  tested-step e st side o a p q =
+      → triedWith side (gapOutside side (st .region)) (grownOf seen (st .region)) (seen .weight (gapOutside side (st .region)))
+      (seen .live (gapOutside side (st .region))) (seen .fixed (gapOutside side (st .region)))
+      (heavier (heaviestIn seen (st .region)) (heaviest (seen .met (gapOutside side (st .region))))) (seen .k)
+      ≡ tried side seen (st .region)
+  tried-step e st side o a p q =
       let s = st .region in
-      ap (λ (h : Float). testedOf (not (seen .fixed (gapOutside side s))) (grownOf seen s) (seen .weight (gapOutside side s)) (seen .live (gapOutside side s)) h
-      (seen .k) (grownBy side seen s .left) (grownBy side seen s .right))
+      ap (λ (h : Float). triedWith side (gapOutside side s) (grownOf seen s) (seen .weight (gapOutside side s)) (seen .live (gapOutside side s))
+      (seen .fixed (gapOutside side s)) h (seen .k))
       (sym (heaviest-with-gap seen st side o a p q))
-      ∙ tested-is side seen s e
+      ∙ tried-is side seen s e
 
   -- what the code's steps rely on
   pub growth-inside : seen .own < seen .count → (n : ℕ) → InsideGaps (seen .count) (grownOf seen (growth seen n .region))
@@ -80,20 +83,16 @@ module _ (seen : GapsSeen) where
       below a k m b h l = omega arith
 
   -- ---- growth after a try, as the code holds it
-  pub after-try : (st : State) (side : Side) → afterTry side (triedOf (passesOn side seen (st .region)) (grownOf seen (grownBy side seen (st .region))))
-      (growthOf seen st) ≡ growthOf seen (tryOn side seen st)
+  pub after-try : (st : State) (side : Side) → afterTried (tried side seen (st .region)) (growthOf seen st) ≡ growthOf seen (tryOn side seen st)
   unfolding tryOn
-  after-try st side = by (passesOn side seen (st .region))
+  after-try st side = by (cameOn side seen (st .region))
     where
-      by : (t : Bool) → afterTry side (triedOf t (grownOf seen (grownBy side seen (st .region)))) (growthOf seen st)
-          ≡ growthOf seen (cond t (grows side seen st) (barred side st))
-      by true = refl
-      by false = refl
+      by : (c : Came) → afterWith c side (grownOf seen (grownBy side seen (st .region))) (growthOf seen st) ≡ growthOf seen (afterCame c side seen st)
+      by Came·is.Grown = refl
+      by Came·is.Fixed = refl
+      by Came·is.Weight = refl
 
   -- ---- the start: no gap, and the own gap tried
-  abbrev pub noGap : Grown
-  noGap = record { left = seen .own; right = seen .own; weight = zeroWeight; insts = 0; heaviest = zeroWeight }
-
   -- zero added to a weight is that weight
   zero-added : {w : Float} → Weight w → add binary32 zeroWeight w ≡ w
   zero-added {w} p =
@@ -108,11 +107,23 @@ module _ (seen : GapsSeen) where
   unfolding weightsIn
   heaviest-own = ap (λ (gs : List ℕ). heaviest (weightsIn (seen .met) gs)) (between-one (seen .own)) ∙ ap heaviest (append-nil (seen .met (seen .own)))
 
-  pub tested-own : seen .numerator ≡ 2007 → Weight (seen .weight (seen .own))
-      → testedOf (not (seen .fixed (seen .own))) noGap (seen .weight (seen .own)) 1 (heaviest (seen .met (seen .own))) (seen .k) (seen .own) (seen .own + 1)
-      ≡ triedOf (passes seen (seen .own) (ownSpan seen)) (grownOf seen (ownSpan seen))
-  unfolding testedOf passes weightTest
-  tested-own e p = rw (zero-added p, ← heaviest-own, e)
+  pub own-tried : seen .numerator ≡ 2007 → Weight (seen .weight (seen .own))
+      → triedWith Next (seen .own) (noGrowth (seen .own) .region) (seen .weight (seen .own)) 1 (seen .fixed (seen .own)) (heaviest (seen .met (seen .own)))
+      (seen .k) ≡ ownTried seen
+  unfolding cameWith came weightTest
+  own-tried e p = rw (zero-added p, ← heaviest-own, e)
+
+  -- what comes of it: growth from the own gap, or from no gap with a side barred
+  pub own-after : (P : Growth → Type 0) → (T (passes seen (seen .own) (ownSpan seen)) → P (startAt (grownOf seen (ownSpan seen))))
+      → (T (not (passes seen (seen .own) (ownSpan seen))) → P (barredOn Next (noGrowth (seen .own)))) → P (afterTried (ownTried seen) (noGrowth (seen .own)))
+  unfolding came passes
+  own-after P pass fail = by (seen .fixed (seen .own)) (weightTest seen (ownSpan seen)) pass fail
+    where
+      by : (f t : Bool) → (T (not f && t) → P (startAt (grownOf seen (ownSpan seen)))) → (T (not (not f && t)) → P (barredOn Next (noGrowth (seen .own))))
+          → P (afterWith (cond f Came·is.Fixed (cond t Came·is.Grown Came·is.Weight)) Next (grownOf seen (ownSpan seen)) (noGrowth (seen .own)))
+      by true t pass fail = fail tt
+      by false true pass fail = pass tt
+      by false false pass fail = fail tt
 
   -- ---- the answer
   -- where growth has ended, it is the region with which growth ends
@@ -156,7 +167,7 @@ module _ (seen : GapsSeen) where
 
   -- what is tried on the side whose turn it is
   abbrev pub Tries : Growth → Side → Tried → Type 0
-  Tries now side t = t ≡ triedOf (passesOn side seen (spanOf (now .region))) (grownOf seen (grownBy side seen (spanOf (now .region))))
+  Tries now side t = t ≡ tried side seen (spanOf (now .region))
 
   abbrev pub TurnOf : Growth → Turn → Type 0
   TurnOf now t = t ≡ sideTried (seen .count) (seen .freq) (seen .live) (stateOf now)
@@ -166,38 +177,38 @@ module _ (seen : GapsSeen) where
   going-open now side e = turn-open (stateOf now) side (sym e)
 
   -- the outcome of a try
-  pub going-after : (now : Growth) (side : Side) (t : Tried) → Going seen now → TurnOf now (Try side) → Tries now side t → Going seen (afterTry side t now)
+  pub going-after : (now : Growth) (side : Side) (t : Tried) → Going seen now → TurnOf now (Try side) → Tries now side t → Going seen (afterTried t now)
   unfolding growth
   going-after now side t g turn e =
       let st = growth seen (g .tries) in
       let f = g .is-after in
       let turned : Try side ≡ sideTried (seen .count) (seen .freq) (seen .live) st = subst (λ (x : Growth). TurnOf x (Try side)) f turn in
-      let tried : Tries (growthOf seen st) side t = subst (λ (x : Growth). Tries x side t) f e in
+      let is : Tries (growthOf seen st) side t = subst (λ (x : Growth). Tries x side t) f e in
       record {
         own-passes = g .own-passes;
         tries = suc (g .tries);
         is-after =
-            ap (afterTry side t) f ∙ ap (λ (x : Tried). afterTry side x (growthOf seen st)) tried ∙ after-try st side
+            ap (afterTried t) f ∙ ap (λ (x : Tried). afterTried x (growthOf seen st)) is ∙ after-try st side
             ∙ ap (growthOf seen) (sym (turn-tries st side (sym turned)));
       }
 
   -- leaves fewer to try
   fewer-tried : (st : State) (side : Side) → T (isOpen side seen st) → leftToTry seen (tryOn side seen st) < leftToTry seen st
-  unfolding tryOn
   fewer-tried st side o =
-      cond-both (λ (s : State). leftToTry seen s < leftToTry seen st) (passesOn side seen (st .region)) (grows side seen st) (barred side st)
-      (λ _. fewer-grown seen st side o) (λ _. fewer-barred seen st side o)
+      subst (λ (s : State). leftToTry seen s < leftToTry seen st) (sym (try-on seen side st))
+      (cond-both (λ (s : State). leftToTry seen s < leftToTry seen st) (passesOn side seen (st .region)) (grows side seen st) (barred side st)
+      (λ _. fewer-grown seen st side o) (λ _. fewer-barred seen st side o))
 
   pub going-less : (now : Growth) (side : Side) (t : Tried) → Going seen now → TurnOf now (Try side) → Tries now side t
-      → leftToTry seen (stateOf (afterTry side t now)) < leftToTry seen (stateOf now)
+      → leftToTry seen (stateOf (afterTried t now)) < leftToTry seen (stateOf now)
   going-less now side t g turn e =
       let st = growth seen (g .tries) in
       let f = g .is-after in
       let turned : Try side ≡ sideTried (seen .count) (seen .freq) (seen .live) st = subst (λ (x : Growth). TurnOf x (Try side)) f turn in
-      let tried : Tries (growthOf seen st) side t = subst (λ (x : Growth). Tries x side t) f e in
-      subst (λ (x : Growth). leftToTry seen (stateOf (afterTry side t x)) < leftToTry seen (stateOf x)) (sym f)
+      let is : Tries (growthOf seen st) side t = subst (λ (x : Growth). Tries x side t) f e in
+      subst (λ (x : Growth). leftToTry seen (stateOf (afterTried t x)) < leftToTry seen (stateOf x)) (sym f)
       (subst (λ (x : Growth). leftToTry seen (stateOf x) < leftToTry seen st)
-      (sym (ap (λ (x : Tried). afterTry side x (growthOf seen st)) tried ∙ after-try st side)) (fewer-tried st side (turn-open st side (sym turned))))
+      (sym (ap (λ (x : Tried). afterTried x (growthOf seen st)) is ∙ after-try st side)) (fewer-tried st side (turn-open st side (sym turned))))
 
   -- at the end the region's proposal is the answer
   pub going-found : seen .own < seen .count → (now : Growth) → Going seen now → TurnOf now End
@@ -210,23 +221,21 @@ module _ (seen : GapsSeen) where
       ∙ answer-found h (g .own-passes) (g .tries) (turn-ended st (sym turned))
 
   -- ---- what the code knows of the gap tried
-  -- a gap that is free, with the heaviest weight of the region and of the gap
-  pub going-tested : SoundGaps seen → seen .numerator ≡ 2007 → (now : Growth) (side : Side) → Going seen now → TurnOf now (Try side)
-      → Tries now side (testedOf (not (seen .fixed (gapOutside side (spanOf (now .region))))) (now .region)
-      (seen .weight (gapOutside side (spanOf (now .region)))) (seen .live (gapOutside side (spanOf (now .region))))
-      (heavier (now .region .heaviest) (heaviest (seen .met (gapOutside side (spanOf (now .region)))))) (seen .k)
-      (grownBy side seen (spanOf (now .region)) .left) (grownBy side seen (spanOf (now .region)) .right))
-  going-tested sound e now side g turn =
+  -- whether it meets a fixed one, and the heaviest weight of the region and of the gap
+  pub going-tried : SoundGaps seen → seen .numerator ≡ 2007 → (now : Growth) (side : Side) → Going seen now → TurnOf now (Try side)
+      → Tries now side (triedWith side (gapOutside side (spanOf (now .region))) (now .region) (seen .weight (gapOutside side (spanOf (now .region))))
+      (seen .live (gapOutside side (spanOf (now .region)))) (seen .fixed (gapOutside side (spanOf (now .region))))
+      (heavier (now .region .heaviest) (heaviest (seen .met (gapOutside side (spanOf (now .region)))))) (seen .k))
+  going-tried sound e now side g turn =
       let st = growth seen (g .tries) in
       let f = g .is-after in
       let a = growth-around seen (sound .inside) (g .tries) in
       let o = turn-open st side (sym (subst (λ (x : Growth). TurnOf x (Try side)) f turn)) in
       subst
-      (λ (x : Growth). Tries x side
-      (testedOf (not (seen .fixed (gapOutside side (spanOf (x .region))))) (x .region) (seen .weight (gapOutside side (spanOf (x .region))))
-      (seen .live (gapOutside side (spanOf (x .region)))) (heavier (x .region .heaviest) (heaviest (seen .met (gapOutside side (spanOf (x .region))))))
-      (seen .k) (grownBy side seen (spanOf (x .region)) .left) (grownBy side seen (spanOf (x .region)) .right)))
-      (sym f) (tested-step e st side o a (growth-met seen sound (g .tries)) (sound .met (gapOutside side (st .region)) (outside-inside seen st side o a)))
+      (λ (x : Growth). Tries x side (triedWith side (gapOutside side (spanOf (x .region))) (x .region) (seen .weight (gapOutside side (spanOf (x .region))))
+      (seen .live (gapOutside side (spanOf (x .region)))) (seen .fixed (gapOutside side (spanOf (x .region))))
+      (heavier (x .region .heaviest) (heaviest (seen .met (gapOutside side (spanOf (x .region)))))) (seen .k)))
+      (sym f) (tried-step e st side o a (growth-met seen sound (g .tries)) (sound .met (gapOutside side (st .region)) (outside-inside seen st side o a)))
 
   pub going-count-fits : SoundGaps seen → (now : Growth) (side : Side) → Going seen now → TurnOf now (Try side)
       → CountFits (now .region) (seen .live (gapOutside side (spanOf (now .region))))
@@ -243,3 +252,17 @@ module _ (seen : GapsSeen) where
       subst (λ (x : Growth). gapOutside side (spanOf (x .region)) < seen .count) (sym f)
       (outside-inside seen st side (turn-open st side (sym (subst (λ (x : Growth). TurnOf x (Try side)) f turn)))
       (growth-around seen (sound .inside) (g .tries)))
+
+  -- and not the own one, which lies in the region
+  pub going-other : SoundGaps seen → (now : Growth) (side : Side) → Going seen now → TurnOf now (Try side)
+      → gapOutside side (spanOf (now .region)) ≡ seen .own → ⊥
+  going-other sound now side g turn =
+      let st = growth seen (g .tries) in
+      let f = g .is-after in
+      subst (λ (x : Growth). gapOutside side (spanOf (x .region)) ≡ seen .own → ⊥) (sym f)
+      (apart side (growth-around seen (sound .inside) (g .tries)) (turn-open st side (sym (subst (λ (x : Growth). TurnOf x (Try side)) f turn))))
+    where
+      apart : (side : Side) → Around seen (growth seen (g .tries) .region) → T (isOpen side seen (growth seen (g .tries)))
+          → gapOutside side (growth seen (g .tries) .region) ≡ seen .own → ⊥
+      apart Previous a o e = let l = a .left in let p = open-left seen (growth seen (g .tries)) o in omega (arith, l, p, e)
+      apart Next a o e = let r = a .own in omega (arith, r, e)

@@ -1,26 +1,23 @@
 -- The steps of the code are those of growth: the side that is tried, the test of one more gap, the proposal
 use mathlib.Core.Path.{_≡_, refl, sym, ap, _∙_}
 use mathlib.Core.Logic.{⊎-elim}
-use Prim.Native.Nat.{ℕ, _+_, _<_}
+use Prim.Native.Nat.{ℕ, _<_}
 use native.Mathlib.Nat.{le-of-lt}
 use native.Mathlib.Omega.{arith}
-use mathlib.Core.Bool.{Bool, true, false, not, _&&_, cond}
+use mathlib.Core.Bool.{Bool, true, false, not, cond}
 use lib.Dec.{leb, ltb, eqb}
 use borrow.Author.Tests.{lt-ltb, le-ltb, le-leb, lt-leb, leb-false, eqb-false}
-use lib.Ieee.{Float, binary32, add}
+use lib.Ieee.{Float}
 use Rattle.numbers.specs.declared.MaybeInst.{MaybeInst}
-use Rattle.numbers.specs.Normal.{normalised, exceeds}
 use Rattle.columns.proofs.Tests.{cond-true, cond-false}
 use Rattle.columns.proofs.Firsts.{split}
 use Rattle.links.specs.declared.lower.Side.{Side}
 use Rattle.links.specs.declared.lower.Side.the-variants.{Previous, Next}
-use Rattle.growth.specs.Growth.{GapsSeen, Span, heaviestIn, weightTest, gapOutside, grownBy, sideOpen, prefersLeft, sideTried, passes, passesOn}
+use Rattle.growth.specs.Growth.{GapsSeen, Span, heaviestIn, weightTest, gapOutside, grownBy, sideOpen, prefersLeft, sideTried, came}
 use Rattle.growth.specs.Proposal.{endOf, splitCost, proposalWith}
 use Rattle.growth.specs.declared.proposal.SplitProposal.{SplitProposal}
-use Rattle.growth.specs.Columns.{spanOf, stateOf, openWith, InsideGaps, HasNeighbours, grownOf, triedOf, testedOf}
-use Rattle.growth.specs.declared.step.Grown.{Grown}
+use Rattle.growth.specs.Columns.{spanOf, stateOf, openWith, InsideGaps, HasNeighbours, grownOf, tried, cameWith, triedWith}
 use Rattle.growth.specs.declared.step.Growth.{Growth}
-use Rattle.growth.specs.declared.step.Tried.the-variants.{Grows, Fails}
 use Rattle.growth.specs.declared.step.Turn.{Turn}
 use Rattle.growth.specs.declared.step.Turn.the-variants.{Try, End}
 
@@ -36,14 +33,14 @@ below-not a b = ⊎-elim (λ l. lt-ltb a b l ∙ ap not (sym (lt-leb b a l))) (�
 module _ (n : ℕ) (freq : ℕ → Float) (live : ℕ → ℕ) (growth : Growth) (l r : Bool)
     (left-is : l ≡ openWith (growth .«left_barred») (eqb (growth .region .left) 0))
     (right-is : r ≡ openWith (growth .«right_barred») (leb n (growth .region .right))) where
-  tried : Turn
-  tried = sideTried n freq live (stateOf growth)
+  turned : Turn
+  turned = sideTried n freq live (stateOf growth)
 
   picked : Bool → Bool → Bool → Turn
   picked l r p = cond l (cond r (cond p (Try Previous) (Try Next)) (Try Previous)) (cond r (Try Next) End)
 
-  picked-is : picked l r (prefersLeft freq live (spanOf (growth .region))) ≡ tried
-  unfolding tried picked sideTried sideOpen
+  picked-is : picked l r (prefersLeft freq live (spanOf (growth .region))) ≡ turned
+  unfolding turned picked sideTried sideOpen
   picked-is = rw (left-is, right-is)
 
   picked-none : (l r p : Bool) → not l ≡ true → r ≡ false → End ≡ picked l r p
@@ -69,20 +66,20 @@ module _ (n : ℕ) (freq : ℕ → Float) (live : ℕ → ℕ) (growth : Growth)
   picked-both true true p e f = refl
 
   pub turn-none : not l ≡ true → r ≡ false → End ≡ sideTried n freq live (stateOf growth)
-  unfolding tried
+  unfolding turned
   turn-none e f = picked-none l r (prefersLeft freq live (spanOf (growth .region))) e f ∙ picked-is
 
   pub turn-right : not l ≡ true → r ≡ true → Try Next ≡ sideTried n freq live (stateOf growth)
-  unfolding tried
+  unfolding turned
   turn-right e f = picked-right l r (prefersLeft freq live (spanOf (growth .region))) e f ∙ picked-is
 
   pub turn-left : not l ≡ false → not r ≡ true → Try Previous ≡ sideTried n freq live (stateOf growth)
-  unfolding tried
+  unfolding turned
   turn-left e f = picked-left l r (prefersLeft freq live (spanOf (growth .region))) e f ∙ picked-is
 
   pub turn-preferred : not l ≡ false → not r ≡ false → (p : Bool) → p ≡ prefersLeft freq live (spanOf (growth .region))
       → cond p (Try Previous) (Try Next) ≡ sideTried n freq live (stateOf growth)
-  unfolding tried
+  unfolding turned
   turn-preferred e f p h =
       ap (λ (b : Bool). cond b (Try Previous) (Try Next)) h ∙ picked-both l r (prefersLeft freq live (spanOf (growth .region))) e f ∙ picked-is
 
@@ -105,48 +102,13 @@ module _ (n : ℕ) (freq : ℕ → Float) (live : ℕ → ℕ) (growth : Growth)
       above : (a : ℕ) → (a ≡ 0 → ⊥) → 0 < a
       above a h = omega arith
 
--- ---- the outcomes of the test of one more gap
-module _ (free : Bool) (g : Grown) (weight : Float) (insts : ℕ) (heaviest : Float) (k left right : ℕ) where
-  -- the gap meets a fixed one
-  pub tested-fixed : not free ≡ true → Fails ≡ testedOf free g weight insts heaviest k left right
-  unfolding testedOf
-  tested-fixed e = sym (cond-false _ _ (fails free (exceeds 2007 (normalised (add binary32 (g .weight) weight) (g .insts + insts) k) heaviest) e))
-    where
-      fails : (f t : Bool) → not f ≡ true → f && t ≡ false
-      fails true t e = cc
-      fails false t e = refl
-
-  -- the weight x was tested, with outcome t
-  module _ (t : Bool) (x : Float) (tests : t ≡ exceeds 2007 x heaviest) (x-is : x ≡ normalised (add binary32 (g .weight) weight) (g .insts + insts) k) where
-    outcome : exceeds 2007 (normalised (add binary32 (g .weight) weight) (g .insts + insts) k) heaviest ≡ t
-    outcome = ap (λ (z : Float). exceeds 2007 z heaviest) (sym x-is) ∙ sym tests
-
-    pub tested-light : t ≡ false → Fails ≡ testedOf free g weight insts heaviest k left right
-    unfolding testedOf
-    tested-light e = sym (cond-false _ _ (fails free (exceeds 2007 (normalised (add binary32 (g .weight) weight) (g .insts + insts) k) heaviest) (outcome ∙ e)))
-      where
-        fails : (f t : Bool) → t ≡ false → f && t ≡ false
-        fails true t e = e
-        fails false t e = refl
-
-    pub tested-grows : not free ≡ false → t ≡ true → Grows (record
-        { left = left; right = right; weight = add binary32 (g .weight) weight; insts = g .insts + insts; heaviest = heaviest })
-        ≡ testedOf free g weight insts heaviest k left right
-    unfolding testedOf
-    tested-grows f e =
-        sym (cond-true _ _ (holds free (exceeds 2007 (normalised (add binary32 (g .weight) weight) (g .insts + insts) k) heaviest) f (outcome ∙ e)))
-      where
-        holds : (f t : Bool) → not f ≡ false → t ≡ true → f && t ≡ true
-        holds true t e h = h
-        holds false t e h = cc
-
--- ---- the region with one more gap, as the code tests it, is the one that growth tries
-pub tested-is : (side : Side) (seen : GapsSeen) (s : Span) → seen .numerator ≡ 2007
-    → testedOf (not (seen .fixed (gapOutside side s))) (grownOf seen s) (seen .weight (gapOutside side s)) (seen .live (gapOutside side s))
-    (heaviestIn seen (grownBy side seen s)) (seen .k) (grownBy side seen s .left) (grownBy side seen s .right)
-    ≡ triedOf (passesOn side seen s) (grownOf seen (grownBy side seen s))
-unfolding testedOf passes weightTest
-tested-is side seen s e = rw e
+-- ---- what the code tries is what growth tries, where the heaviest weight is that of the region with the gap
+pub tried-is : (side : Side) (seen : GapsSeen) (s : Span) → seen .numerator ≡ 2007
+    → triedWith side (gapOutside side s) (grownOf seen s) (seen .weight (gapOutside side s)) (seen .live (gapOutside side s)) (seen .fixed (gapOutside side s))
+    (heaviestIn seen (grownBy side seen s)) (seen .k) ≡ tried side seen s
+unfolding cameWith came weightTest
+tried-is Previous seen s e = rw e
+tried-is Next seen s e = rw e
 
 -- ---- a proposal is the region's if its ends and its split cost are
 pub proposal-same : (n : ℕ) (first : ℕ → ℕ) (freq : ℕ → Float) (s : Span) (h : Float) (l r : MaybeInst) (c : Float)

@@ -9,8 +9,9 @@ use lib.ListN.{getD}
 use Rattle.numbers.specs.Weight.{zeroWeight}
 use Rattle.numbers.specs.Normal.{normalised, exceeds}
 use Rattle.links.specs.Links.{onSide}
-use Rattle.growth.specs.Growth.{GapsSeen, Span, State, ownSpan, heaviestIn, normalisedOf, gapOutside, grownBy, passes, cameOn, sideTried, growth}
+use Rattle.growth.specs.Growth.{GapsSeen, Span, State, ownSpan, heaviestIn, normalisedOf, gapOutside, grownBy, passes, came, cameOn, sideTried, growth}
 use Rattle.links.specs.declared.lower.Side.{Side}
+use Rattle.links.specs.declared.lower.Side.the-variants.{Next}
 use Rattle.growth.specs.declared.step.Grown.{Grown}
 use Rattle.growth.specs.declared.step.Growth.{Growth}
 use Rattle.growth.specs.declared.step.Tried.{Tried}
@@ -86,6 +87,17 @@ tried side seen s =
       region = grownOf seen (grownBy side seen s);
       normalised = normalisedOf seen (grownBy side seen s);
       came = cameOn side seen s;
+    }
+
+-- the try of the own gap, from a region of no gap
+abbrev pub ownTried : GapsSeen → Tried
+ownTried seen =
+    record {
+      side = Next;
+      gap = seen .own;
+      region = grownOf seen (ownSpan seen);
+      normalised = normalisedOf seen (ownSpan seen);
+      came = came seen (seen .own) (ownSpan seen);
     }
 
 -- the side whose turn it is; none for a region of no gap

@@ -6,7 +6,7 @@ ghost use lib.Dec.{leb, eqb};
 ghost use Rattle.links.specs.Links.{onSide};
 ghost use Rattle.growth.specs.Growth.{gapOutside, prefersLeft, sideTried};
 ghost use Rattle.growth.specs.Columns.{numberAt, floatAt, spanOf, stateOf, openWith, InsideGaps, HasNeighbours, CountFits};
-ghost use Rattle.growth.specs.Columns.{turnOf, withGap, cameWith, triedWith, noGrowth, afterTried};
+ghost use Rattle.growth.specs.Columns.{turnOf, withGap, cameWith, triedWith, noGrowth, barredOn, afterTried};
 use links::lower::Side;
 
 // A region: the gaps from left to before right, their use weight and live instructions, and the heaviest weight met.
@@ -232,32 +232,42 @@ impl Growth {
         }
     }
 
+    // Growth with a side barred.
+    fn barred(self, side: Side) -> Self
+        ensures { λ r. ⌜ r ≡ barredOn side self ⌝ }
+    {
+        let region = self.region;
+        match side {
+            Side::Previous => Growth {
+                region,
+                left_barred: true,
+                right_barred: self.right_barred,
+            },
+            Side::Next => Growth {
+                region,
+                left_barred: self.left_barred,
+                right_barred: true,
+            },
+        }
+    }
+
     // Growth after a try: the region with the gap, or the side barred.
     pub fn after(self, t: Tried) -> Self
         ensures { λ r. ⌜ r ≡ afterTried t self ⌝ }
     {
-        let left_barred = self.left_barred;
-        let right_barred = self.right_barred;
-        if let Came::Grown = t.came {
-            let region = t.region;
-            return Growth {
-                region,
-                left_barred,
-                right_barred,
-            };
-        }
-        let region = self.region;
-        match t.side {
-            Side::Previous => Growth {
-                region,
-                left_barred: true,
-                right_barred,
-            },
-            Side::Next => Growth {
-                region,
-                left_barred,
-                right_barred: true,
-            },
+        let came = t.came;
+        let side = t.side;
+        match came {
+            Came::Grown => {
+                let region = t.region;
+                Growth {
+                    region,
+                    left_barred: self.left_barred,
+                    right_barred: self.right_barred,
+                }
+            }
+            Came::Fixed => self.barred(side),
+            Came::Weight => self.barred(side),
         }
     }
 }

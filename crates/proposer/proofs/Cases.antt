@@ -26,7 +26,7 @@ use Rattle.walks.specs.Meeting.{meets, countsAsFixed, spillWeight, ofRegister, 
 use Rattle.walks.specs.Meeting.{weightsMetAll}
 use Rattle.numbers.specs.Sum.{plus}
 use Rattle.gaps.specs.Gaps.{cutGaps, cuts, gapsBetween, gapsOf}
-use Rattle.growth.specs.Growth.{numbersFrom, weightsIn, weightTest, passes, sideOpen, leftFirst, sideTried, tryOn, try, growth, grown}
+use Rattle.growth.specs.Growth.{numbersFrom, weightsIn, weightTest, passes, sideOpen, leftFirst, sideTried, came, tryOn, try, growth, grown}
 use Rattle.growth.specs.Proposal.{splitCost, endOf, proposalWith, regionOf}
 use Rattle.filling.specs.declared.lent.Rooms.{Rooms}
 use Rattle.refusals.specs.Job.{Job, sourceOfJob}
@@ -188,5 +188,5 @@ unfolding toBits firstBroken badParameters someLong badSizes isBad badBounds bad
     useTable rowsFrom carries splitUse addedToRow partOf costOf frequencyAt firstInst lastInst valueOf ofBits spillCost scaled firstBelow blockOf add sub mul
     round eq lt table gapsOf gapsBetween cuts cutGaps plus joined follow lowerLink isLower sumBelow overlapWith overlapsOf anyOf meets countsAsFixed spillWeight
     ofRegister fixedAgainst weighsAgainst fixedMet weightsWhere weightsMet fixedMetAny weightsMetAll picked numbersFrom weightTest passes sideOpen leftFirst
-    sideTried tryOn try growth grown splitCost endOf proposalWith regionOf normalised fraction exceeds div ofInt weightsIn
+    sideTried came tryOn try growth grown splitCost endOf proposalWith regionOf normalised fraction exceeds div ofInt weightsIn
 cases-hold = refl

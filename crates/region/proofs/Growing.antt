@@ -1,16 +1,16 @@
 -- Growth and its walkers from try to try: a try can be made, the walkers stand right after it, and in the end the region's proposal is the answer
-use mathlib.Core.Path.{_≡_, refl, sym, ap, ap₂, _∙_, subst}
+use mathlib.Core.Path.{_≡_, refl, sym, ap, _∙_, subst}
 use mathlib.Core.Logic.{⊎-elim}
 use Prim.Native.Nat.{ℕ, zero, suc, _+_, _-_, _≤_, _<_, max}
-use native.Mathlib.Nat.{le-trans, le-of-eq}
+use native.Mathlib.Nat.{le-refl, le-trans, le-of-eq}
 use native.Mathlib.Omega.{arith}
 use mathlib.Core.Bool.{Bool, true, false, not, cond, true≢false}
 use mathlib.Core.List.{List}
-use lib.Dec.{T, leb}
+use lib.Dec.{T, leb, eqb}
 use lib.Ieee.{Float}
 use lib.ListN.{length, getD}
-use borrow.Author.Tests.{lt-ltb, le-ltb}
-use Rattle.numbers.specs.Weight.{Weight, finite, unitsOf, zeroWeight, heavier}
+use borrow.Author.Tests.{lt-ltb, le-ltb, eq-eqb, ne-eqb}
+use Rattle.numbers.specs.Weight.{Weight, finite, unitsOf, zeroWeight, heavier, heaviest}
 use Rattle.columns.proofs.Tests.{cond-true, cond-false}
 use Rattle.numbers.proofs.Units.{units-inj, zero-finite, zero-units}
 use Rattle.numbers.proofs.Heaviest.{heavier-weight, heavier-units, heaviest-weight}
@@ -18,163 +18,284 @@ use Rattle.columns.specs.First.{FirstIn}
 use Rattle.columns.proofs.Firsts.{split}
 use Rattle.links.specs.declared.lower.Side.{Side}
 use Rattle.links.specs.declared.lower.Side.the-variants.{Previous, Next}
-use Rattle.walks.specs.declared.meeting.Register.{Register}
-use Rattle.walks.specs.declared.right.RightWalker.{RightWalker}
-use Rattle.walks.specs.declared.left.LeftWalker.{LeftWalker}
-use Rattle.walks.specs.Meeting.{Reserved, fixedMetAny, weightsMetAll}
-use Rattle.walks.specs.Standing.{StandsRight, StandsLeft}
-use Rattle.walks.specs.Gaps.{segmentsOfGap, heaviestInGap, OrderedGaps, GapsFrom, RightAt, LeftAt}
-use Rattle.overlaps.specs.GapSegments.{SegmentColumns}
-use Rattle.walks.proofs.GapWalk.{right-begins, left-begins, gaps-found}
-use Rattle.walks.proofs.GapSegments.{all-weights}
 use Rattle.links.specs.Links.{onSide}
-use Rattle.growth.specs.Growth.{GapsSeen, Span, State, gapsIn, weightsIn, ownSpan, growth, grownBy, gapOutside, passes, passesOn, isOpen, sideTried}
+use Rattle.walks.specs.declared.meeting.Register.{Register}
+use Rattle.walks.specs.declared.walk.Walk.{Walk}
+use Rattle.walks.specs.declared.both.Walkers.{Walkers}
+use Rattle.walks.specs.Meeting.{Reserved, fixedMetAny, weightsMetAll}
+use Rattle.walks.specs.Ways.{Upto, otherSide, nearEnd, farEnd, AnyAhead, rowAhead}
+use Rattle.walks.specs.Standing.{Stands}
+use Rattle.walks.specs.Gaps.{segmentsOfGap, heaviestInGap, OrderedGaps, GapsFrom, beginAt, At, Walkable, walkOn}
+use Rattle.overlaps.specs.GapSegments.{SegmentColumns}
+use Rattle.walks.proofs.GapWalk.{begins, gaps-found}
+use Rattle.walks.proofs.GapSegments.{all-weights}
+use Rattle.growth.specs.Growth.{GapsSeen, State, gapsIn, weightsIn, ownSpan, growth, gapOutside, passes, isOpen, sideTried}
 use Rattle.growth.specs.Demand.{SoundGaps}
-use Rattle.growth.specs.Columns.{floatAt, spanOf, stateOf, grownOf, triedOf, testedOf, startAt, afterTry, Going}
+use Rattle.growth.specs.Columns.{numberAt, floatAt, spanOf, stateOf, grownOf, InsideGaps, CountFits, turnOf, tried, ownTried, withGap, triedWith, noGrowth}
+use Rattle.growth.specs.Columns.{barredOn, startAt, afterWith, afterTried, Going}
 use Rattle.growth.specs.Proposal.{regionOf}
-use Rattle.growth.specs.declared.proposal.Region.the-variants.{Nothing}
+use Rattle.growth.specs.declared.proposal.Region.the-variants.{Found, Nothing}
+use Rattle.growth.specs.declared.step.Came.{Came}
+use Rattle.growth.specs.declared.step.Came.the-variants as Came·is
 use Rattle.growth.specs.declared.step.Grown.{Grown}
 use Rattle.growth.specs.declared.step.Growth.{Growth}
 use Rattle.growth.specs.declared.step.Tried.{Tried}
-use Rattle.growth.specs.declared.step.Tried.the-variants.{Grows, Fails}
 use Rattle.growth.specs.declared.step.Turn.{Turn}
 use Rattle.growth.specs.declared.step.Turn.the-variants.{Try, End}
 use Rattle.growth.proofs.Tries.{not-is, open-free, open-left, leftToTry}
 use Rattle.growth.proofs.Proposals.{growth-met}
-use Rattle.growth.proofs.Loop.{TurnOf, Tries, tested-own, answer-nothing, going-start, going-open, going-inside, going-after, going-less, going-found}
-use Rattle.growth.proofs.Loop.{going-tested, going-count-fits, going-gap}
-use Rattle.region.specs.OneTry.{gapOn, Triable, triedOn}
-use Rattle.region.specs.Find.{seenBy, InTable, Standing, Moved, Reached, Answers, pointAt}
-use Rattle.region.specs.declared.find.Stand.{Stand}
+use Rattle.growth.proofs.Loop.{TurnOf, own-tried, own-after, answer-nothing, going-start, going-open, going-inside, going-after, going-less, going-found}
+use Rattle.growth.proofs.Loop.{going-tried, going-count-fits, going-gap, going-other}
+use Rattle.region.specs.OneTry.{gapOn, instsAt, Triable, triedOn, Relies, Right, Attempts}
+use Rattle.region.specs.Find.{seenBy, InTable, Begun, edgeOn, barredAt, Due, own-try, its-turn, Reached, Answers, pointAt}
+use Rattle.region.specs.declared.one_try.Attempt.{Attempt}
 
--- the outcome of a try, by its side
-barred-not : (g : Grown) (t : Bool) (r : Grown) (growth : Growth) → afterTry Previous (triedOf t r) growth .«left_barred» ≡ false → t ≡ true
-barred-not g true r growth e = refl
-barred-not g false r growth e = absurd (true≢false e)
+-- ---- the ends of a region, side by side
+-- the gap just outside begins at the region's end
+near-edge : (side : Side) (now : Growth) → onSide side 1 0 ≤ now .region .left → nearEnd side (gapOn side now) (gapOn side now + 1) ≡ edgeOn side (now .region)
+near-edge Previous now h = omega (arith, h)
+near-edge Next now h = refl
 
-barred-not-right : (t : Bool) (r : Grown) (growth : Growth) → afterTry Next (triedOf t r) growth .«right_barred» ≡ false → t ≡ true
-barred-not-right true r growth e = refl
-barred-not-right false r growth e = absurd (true≢false e)
+-- with it the region ends at the gap's far edge
+far-edge : (side : Side) (gap : ℕ) (g : Grown) (w : Float) (n : ℕ) (h : Float) → farEnd side gap (gap + 1) ≡ edgeOn side (withGap side gap g w n h)
+far-edge Previous gap g w n h = refl
+far-edge Next gap g w n h = refl
 
-module _ (p : Register) (t : Reserved) (g : SegmentColumns) (froms : List ℕ) (weights : List Float) (lives : List ℕ) (freqs : List Float) (own k : ℕ) where
+-- a side that is not barred by a try on it has grown
+same-side : (c : Came) (side : Side) (r : Grown) (now : Growth) → barredAt side (afterWith c side r now) ≡ false
+    → edgeOn side r ≡ edgeOn side (afterWith c side r now .region)
+same-side Came·is.Grown side r now e = refl
+same-side Came·is.Fixed Previous r now e = absurd (true≢false e)
+same-side Came·is.Fixed Next r now e = absurd (true≢false e)
+same-side Came·is.Weight Previous r now e = absurd (true≢false e)
+same-side Came·is.Weight Next r now e = absurd (true≢false e)
+
+-- and the other side is as it was
+other-barred : (c : Came) (side : Side) (r : Grown) (now : Growth) → barredAt (otherSide side) (afterWith c side r now) ≡ barredAt (otherSide side) now
+other-barred Came·is.Grown side r now = refl
+other-barred Came·is.Fixed Previous r now = refl
+other-barred Came·is.Fixed Next r now = refl
+other-barred Came·is.Weight Previous r now = refl
+other-barred Came·is.Weight Next r now = refl
+
+other-edge : (c : Came) (side : Side) (gap : ℕ) (w : Float) (n : ℕ) (h : Float) (now : Growth)
+    → edgeOn (otherSide side) (now .region) ≡ edgeOn (otherSide side) (afterWith c side (withGap side gap (now .region) w n h) now .region)
+other-edge Came·is.Grown Previous gap w n h now = refl
+other-edge Came·is.Grown Next gap w n h now = refl
+other-edge Came·is.Fixed side gap w n h now = refl
+other-edge Came·is.Weight side gap w n h now = refl
+
+-- what holds of a side and of the other holds of both
+pub both-sides : (P : Side → Type 0) (side : Side) → P side → P (otherSide side) → (s : Side) → P s
+both-sides P Previous p q Previous = p
+both-sides P Previous p q Next = q
+both-sides P Next p q Previous = q
+both-sides P Next p q Next = p
+
+module _ (p : Register) (t : Reserved) (g : SegmentColumns) (froms : List ℕ) (weights : List Float) (lives : List ℕ) (freqs : List Float) (own k : ℕ)
+    (table : InTable (seenBy p t g froms weights lives freqs own k) weights lives freqs) where
   abbrev seen : GapsSeen
   seen = seenBy p t g froms weights lives freqs own k
 
-  module _ (table : InTable seen weights lives freqs) (s : Stand) (r : Reached seen p t g s) where
-    -- the heaviest weight so far is a weight
-    heaviest-is : Weight (s .growth .region .heaviest)
-    heaviest-is =
-        subst (λ (x : Growth). Weight (x .region .heaviest)) (sym (r .going .is-after))
-        (heaviest-weight (weightsIn (seen .met) (gapsIn (growth seen (r .going .tries) .region))) (growth-met seen (table .sound) (r .going .tries)))
+  -- the heavier of zero and a weight is that weight
+  heavier-zero : {w : Float} → Weight w → heavier zeroWeight w ≡ w
+  heavier-zero {w} h =
+      units-inj (heavier-weight (finite zero-finite) h) h (heavier-units (finite zero-finite) h ∙ none (unitsOf zeroWeight) (unitsOf w) zero-units)
+    where
+      none : (a b : ℕ) → a ≡ 0 → max a b ≡ b
+      none a b e = omega (arith, e)
 
-    -- a try can be made
-    pub try-ready : (side : Side) → TurnOf seen (s .growth) (Try side) → Triable side weights lives (s .growth) × Standing side p t g s
-    try-ready side turn = (
-      record {
-        some = some side (going-open seen (s .growth) side turn);
-        weight = le-trans inside (le-of-eq (sym (table .weights-long)));
-        live = le-trans inside (le-of-eq (sym (table .lives-long)));
-        few = let a = table .few in let b = inside in omega (arith, a, b);
-        fits = going-count-fits seen (table .sound) (s .growth) side (r .going) turn;
-        heaviest = heaviest-is;
-      },
-      stands side (open-free seen side (stateOf (s .growth)) (going-open seen (s .growth) side turn)),
-    )
+  -- ---- a try that is due
+  module _ (now : Growth) (side : Side) (due : Due seen now side) where
+    -- can be made
+    due-gap : gapOn side now < seen .count
+    due-gap = by due
       where
-        inside : gapOn side (s .growth) < seen .count
-        inside = going-gap seen (table .sound) (s .growth) side (r .going) turn
+        by : Due seen now side → gapOn side now < seen .count
+        by (own-try e f) =
+            subst (λ (x : Growth). gapOn side x < seen .count) (sym e) (subst (λ (s : Side). gapOn s (noGrowth own) < seen .count) (sym f) (table .sound .inside))
+        by (its-turn going turn) = going-gap seen (table .sound) now side going turn
 
-        some : (side : Side) → T (isOpen side seen (stateOf (s .growth))) → onSide side 1 0 ≤ s .growth .region .left
-        some Previous o = open-left seen (stateOf (s .growth)) o
+    due-some : onSide side 1 0 ≤ now .region .left
+    due-some = by due
+      where
+        some : (s : Side) → T (isOpen s seen (stateOf now)) → onSide s 1 0 ≤ now .region .left
+        some Previous o = open-left seen (stateOf now) o
         some Next o = omega arith
 
-        stands : (side : Side) → T (not (onSide side (s .growth .«left_barred») (s .growth .«right_barred»))) → Standing side p t g s
-        stands Previous o = r .left (not-is (s .growth .«left_barred») o)
-        stands Next o = r .right (not-is (s .growth .«right_barred») o)
+        by : Due seen now side → onSide side 1 0 ≤ now .region .left
+        by (own-try e f) = subst (λ (s : Side). onSide s 1 0 ≤ now .region .left) (sym f) (omega arith)
+        by (its-turn going turn) = some side (going-open seen now side turn)
 
-    -- what is tried is what growth tries
-    abbrev gapTried : Side → Tried
-    gapTried side = triedOf (passesOn side seen (spanOf (s .growth .region))) (grownOf seen (grownBy side seen (spanOf (s .growth .region))))
-
-    tried-is : (side : Side) → TurnOf seen (s .growth) (Try side) → triedOn side p t g weights lives k (s .growth) ≡ afterTry side (gapTried side) (s .growth)
-    tried-is Previous turn = ap (λ (x : Tried). afterTry Previous x (s .growth)) (going-tested seen (table .sound) refl (s .growth) Previous (r .going) turn)
-    tried-is Next turn = ap (λ (x : Tried). afterTry Next x (s .growth)) (going-tested seen (table .sound) refl (s .growth) Next (r .going) turn)
-
-    -- after it the walkers stand right
-    module _ (side : Side) (turn : TurnOf seen (s .growth) (Try side)) (s' : Stand) (is : s' .growth ≡ triedOn side p t g weights lives k (s .growth))
-        (moved : Moved side p t g s s') where
-      after-is : s' .growth ≡ afterTry side (gapTried side) (s .growth)
-      after-is = is ∙ tried-is side turn
-
-      pub try-less : leftToTry seen (stateOf (s' .growth)) < leftToTry seen (stateOf (s .growth))
-      try-less =
-          subst (λ (x : Growth). leftToTry seen (stateOf x) < leftToTry seen (stateOf (s .growth))) (sym after-is)
-          (going-less seen (s .growth) side (gapTried side) (r .going) turn refl)
-
-      left-after : (side : Side) → s' .growth ≡ afterTry side (gapTried side) (s .growth) → Moved side p t g s s' → s' .growth .«left_barred» ≡ false
-          → Standing Previous p t g s'
-      left-after Previous e m b =
-          let pass = barred-not (s .growth .region) (passesOn Previous seen (spanOf (s .growth .region)))
-          (grownOf seen (grownBy Previous seen (spanOf (s .growth .region)))) (s .growth) (sym (ap (λ (x : Growth). x .«left_barred») e) ∙ b) in
-          let to : s' .growth .region .left ≡ s .growth .region .left - 1 =
-          ap (λ (x : Growth). x .region .left) e ∙ ap (λ (b : Bool). afterTry Previous
-          (triedOf b (grownOf seen (grownBy Previous seen (spanOf (s .growth .region))))) (s .growth) .region .left) pass in
-          subst (λ (n : ℕ). LeftAt p (t .rows) g n (s' .left)) (sym to) (m .0)
-      left-after Next e m b =
-          let same = next-left (passesOn Next seen (spanOf (s .growth .region))) in
-          let was = r .left (sym (ap (λ (x : Growth). x .«left_barred») e ∙ same .0) ∙ b) in
-          let to : s' .growth .region .left ≡ s .growth .region .left = ap (λ (x : Growth). x .region .left) e ∙ same .1 in
-          subst (λ (n : ℕ). LeftAt p (t .rows) g n (s' .left)) (sym to)
-          (subst (λ (w : LeftWalker). LeftAt p (t .rows) g (s .growth .region .left) w) (sym (m .1)) was)
-        where
-          next-left : (b : Bool) → (afterTry Next (triedOf b (grownOf seen (grownBy Next seen (spanOf (s .growth .region))))) (s .growth) .«left_barred»
-              ≡ s .growth .«left_barred») × (afterTry Next (triedOf b (grownOf seen (grownBy Next seen (spanOf (s .growth .region))))) (s .growth) .region .left
-              ≡ s .growth .region .left)
-          next-left true = (refl, refl)
-          next-left false = (refl, refl)
-
-      right-after : (side : Side) → s' .growth ≡ afterTry side (gapTried side) (s .growth) → Moved side p t g s s' → s' .growth .«right_barred» ≡ false
-          → Standing Next p t g s'
-      right-after Next e m b =
-          let pass = barred-not-right (passesOn Next seen (spanOf (s .growth .region))) (grownOf seen (grownBy Next seen (spanOf (s .growth .region))))
-          (s .growth) (sym (ap (λ (x : Growth). x .«right_barred») e) ∙ b) in
-          let to : s' .growth .region .right ≡ s .growth .region .right + 1 =
-          ap (λ (x : Growth). x .region .right) e ∙ ap (λ (b : Bool). afterTry Next (triedOf b (grownOf seen (grownBy Next seen (spanOf (s .growth .region)))))
-          (s .growth) .region .right) pass in
-          subst (λ (n : ℕ). RightAt p (t .rows) g n (s' .right)) (sym to) (m .0)
-      right-after Previous e m b =
-          let same = previous-right (passesOn Previous seen (spanOf (s .growth .region))) in
-          let was = r .right (sym (ap (λ (x : Growth). x .«right_barred») e ∙ same .0) ∙ b) in
-          let to : s' .growth .region .right ≡ s .growth .region .right = ap (λ (x : Growth). x .region .right) e ∙ same .1 in
-          subst (λ (n : ℕ). RightAt p (t .rows) g n (s' .right)) (sym to)
-          (subst (λ (w : RightWalker). RightAt p (t .rows) g (s .growth .region .right) w) (sym (m .1)) was)
-        where
-          previous-right : (b : Bool) → (afterTry Previous (triedOf b (grownOf seen (grownBy Previous seen (spanOf (s .growth .region)))))
-              (s .growth) .«right_barred» ≡ s .growth .«right_barred»)
-              × (afterTry Previous (triedOf b (grownOf seen (grownBy Previous seen (spanOf (s .growth .region))))) (s .growth) .region .right
-              ≡ s .growth .region .right)
-          previous-right true = (refl, refl)
-          previous-right false = (refl, refl)
-
-      pub try-reached : Reached seen p t g s'
-      try-reached =
-          record {
-            going = subst (Going seen) (sym after-is) (going-after seen (s .growth) side (gapTried side) (r .going) turn refl);
-            left = left-after side after-is moved;
-            right = right-after side after-is moved;
-          }
-
-    -- with no side open the region's proposal is the answer
-    pub end-answers : TurnOf seen (s .growth) End → Answers seen (s .growth .region)
-    end-answers turn =
+    pub due-triable : Triable side weights lives now
+    due-triable =
         record {
-          inside = going-inside seen (table .sound .inside) (s .growth) (r .going);
-          is =
-              going-found seen (table .sound .inside) (s .growth) (r .going) turn;
+          some = due-some;
+          weight = le-trans due-gap (le-of-eq (sym (table .weights-long)));
+          live = le-trans due-gap (le-of-eq (sym (table .lives-long)));
+          few = let a = table .few in let b = due-gap in omega (arith, a, b);
         }
 
+    -- the instructions that it adds
+    going-insts : Going seen now → TurnOf seen now (Try side) → instsAt lives own (gapOn side now) ≡ numberAt lives (gapOn side now)
+    going-insts going turn = cond-false _ _ (ne-eqb (gapOn side now) own (going-other seen (table .sound) now side going turn))
+
+    -- what it relies on
+    due-heaviest : Weight (now .region .heaviest)
+    due-heaviest = by due
+      where
+        by : Due seen now side → Weight (now .region .heaviest)
+        by (own-try e f) = subst (λ (x : Growth). Weight (x .region .heaviest)) (sym e) (finite zero-finite)
+        by (its-turn going turn) =
+            subst (λ (x : Growth). Weight (x .region .heaviest)) (sym (going .is-after))
+            (heaviest-weight (weightsIn (seen .met) (gapsIn (growth seen (going .tries) .region))) (growth-met seen (table .sound) (going .tries)))
+
+    due-count : CountFits (now .region) (instsAt lives own (gapOn side now))
+    due-count = by due
+      where
+        by : Due seen now side → CountFits (now .region) (instsAt lives own (gapOn side now))
+        by (own-try e f) =
+            subst (λ (x : Growth). CountFits (x .region) (instsAt lives own (gapOn side x))) (sym e)
+            (subst (λ (s : Side). CountFits (noGrowth own .region) (instsAt lives own (gapOn s (noGrowth own)))) (sym f)
+            (subst (λ (n : ℕ). CountFits (noGrowth own .region) n) (sym (cond-true _ _ (eq-eqb own own refl))) (omega arith)))
+        by (its-turn going turn) =
+            subst (CountFits (now .region)) (sym (going-insts going turn)) (going-count-fits seen (table .sound) now side going turn)
+
+    -- on its side the walk stands at the region's end
+    due-free : barredAt side now ≡ false
+    due-free = by due
+      where
+        by : Due seen now side → barredAt side now ≡ false
+        by (own-try e f) = subst (λ (x : Growth). barredAt side x ≡ false) (sym e) (subst (λ (s : Side). barredAt s (noGrowth own) ≡ false) (sym f) refl)
+        by (its-turn going turn) = not-is (barredAt side now) (open-free seen side (stateOf now) (going-open seen now side turn))
+
+    module _ (ok : Walkable t g) (ws : Walkers) (reached : Reached p t g now ws) where
+      pub due-relies : Relies side p t g lives own now ws
+      due-relies =
+          record {
+            walkable = ok;
+            heaviest = due-heaviest;
+            count = due-count;
+            at = subst (λ (e : ℕ). At side p (t .rows) g e (walkOn side ws)) (sym (near-edge side now due-some)) (reached .at side due-free);
+          }
+
+      -- after it the walkers stand right
+      pub after-reached : (r : Attempt) → Attempts side weights lives own g t p k now ws r → Reached p t g (afterTried (r .tried) now) (r .walkers)
+      after-reached r a =
+          let right = a .right due-relies in
+          let gap = gapOn side now in
+          let tr = triedOn side p t g weights lives own k now in
+          subst (λ (x : Tried). Reached p t g (afterTried x now) (r .walkers)) (sym (right .tried))
+          (record {
+            fits = a .fits;
+            at = both-sides (λ (s : Side). barredAt s (afterTried tr now) ≡ false → At s p (t .rows) g (edgeOn s (afterTried tr now .region)) (walkOn s (r .walkers))) side
+                (λ e. subst (λ (n : ℕ). At side p (t .rows) g n (walkOn side (r .walkers)))
+                (far-edge side gap (now .region) (floatAt weights gap) (instsAt lives own gap) (heaviestInGap p t g gap (now .region .heaviest))
+                ∙ same-side (tr .came) side (tr .region) now e) (right .at))
+                (λ e. subst (λ (n : ℕ). At (otherSide side) p (t .rows) g n (walkOn (otherSide side) (r .walkers)))
+                (other-edge (tr .came) side gap (floatAt weights gap) (instsAt lives own gap) (heaviestInGap p t g gap (now .region .heaviest)) now)
+                (subst (At (otherSide side) p (t .rows) g (edgeOn (otherSide side) (now .region))) (sym (a .stays))
+                (reached .at (otherSide side) (sym (other-barred (tr .came) side (tr .region) now) ∙ e))));
+          })
+
+    -- ---- what it is
+    -- that of growth
+    turn-tried : Going seen now → TurnOf seen now (Try side) → triedOn side p t g weights lives own k now ≡ tried side seen (spanOf (now .region))
+    turn-tried going turn =
+        ap (λ (n : ℕ). triedWith side (gapOn side now) (now .region) (floatAt weights (gapOn side now)) n (fixedMetAny p t (segmentsOfGap g (gapOn side now)))
+        (heaviestInGap p t g (gapOn side now) (now .region .heaviest)) k) (going-insts going turn)
+        ∙ going-tried seen (table .sound) refl now side going turn
+
+  -- or that of the own gap
+  own-is : triedOn Next p t g weights lives own k (noGrowth own) ≡ ownTried seen
+  own-is =
+      ap (λ (n : ℕ). triedWith Next own (noGrowth own .region) (floatAt weights own) n (fixedMetAny p t (segmentsOfGap g own))
+      (heaviestInGap p t g own zeroWeight) k) (cond-true _ _ (eq-eqb own own refl))
+      ∙ ap (λ (h : Float). triedWith Next own (noGrowth own .region) (floatAt weights own) 1 (fixedMetAny p t (segmentsOfGap g own)) h k)
+      (heavier-zero (heaviest-weight (weightsMetAll p t (segmentsOfGap g own)) (all-weights p t (segmentsOfGap g own))))
+      ∙ own-tried seen refl (table .sound .weights own (table .sound .inside))
+
+  -- ---- after it growth goes on, or the own gap has failed
+  pub record Gone (now : Growth) : Type 0 where
+    pub inside : now .region .left < now .region .right → InsideGaps (seen .count) (now .region)
+    pub some : now .region .left < now .region .right → Going seen now
+    pub none : now .region .right ≤ now .region .left → Nothing ≡ regionOf seen
+
+  going-gone : (now : Growth) → Going seen now → Gone now
+  going-gone now going =
+      let i = going-inside seen (table .sound .inside) now going in
+      record { inside = λ _. i; some = λ _. going; none = λ h. absurd (let s = i .some in omega (arith, s, h)) }
+
+  pub due-gone : (now : Growth) (side : Side) (due : Due seen now side) (t' : Tried) → t' ≡ triedOn side p t g weights lives own k now → Gone (afterTried t' now)
+  due-gone now side (own-try e f) t' is =
+      subst (λ (x : Growth). Gone (afterTried t' x)) (sym e)
+      (subst (λ (x : Tried). Gone (afterTried x (noGrowth own)))
+      (sym (is ∙ ap (triedOn side p t g weights lives own k) e ∙ ap (λ (s : Side). triedOn s p t g weights lives own k (noGrowth own)) f ∙ own-is))
+      (own-after seen Gone (λ pass. going-gone _ (going-start seen pass))
+      (λ fail. record {
+        inside = λ h. absurd (omega (arith, h));
+        some = λ h. absurd (omega (arith, h));
+        none = λ _. answer-nothing seen fail;
+      })))
+  due-gone now side (its-turn going turn) t' is =
+      going-gone _ (going-after seen now side t' going turn (is ∙ turn-tried now side (its-turn going turn) going turn))
+
+  -- with fewer left to try
+  pub due-less : (now : Growth) (side : Side) (due : Due seen now side) (t' : Tried) → t' ≡ triedOn side p t g weights lives own k now
+      → Gone (afterTried t' now) → afterTried t' now .region .left < afterTried t' now .region .right
+      → leftToTry seen (stateOf (afterTried t' now)) < leftToTry seen (stateOf now)
+  due-less now side (own-try e f) t' is gone h =
+      subst (λ (x : Growth). leftToTry seen (stateOf (afterTried t' x)) < leftToTry seen (stateOf x)) (sym e)
+      (subst (λ (x : Tried). leftToTry seen (stateOf (afterTried x (noGrowth own))) < leftToTry seen (stateOf (noGrowth own)))
+      (sym (is ∙ ap (triedOn side p t g weights lives own k) e ∙ ap (λ (s : Side). triedOn s p t g weights lives own k (noGrowth own)) f ∙ own-is))
+      (own-after seen (λ (x : Growth). leftToTry seen (stateOf x) < leftToTry seen (stateOf (noGrowth own)))
+      (λ _. less own (seen .count) (table .sound .inside)) (λ _. fewer own (seen .count))))
+    where
+      less : (o c : ℕ) → o < c → o + (c - (o + 1)) + (1 + 1) < o + (c - o) + (1 + 1)
+      less o c h = omega arith
+
+      fewer : (o c : ℕ) → o + (c - o) + (1 + 0) < o + (c - o) + (1 + 1)
+      fewer o c = omega arith
+  due-less now side (its-turn going turn) t' is gone h = going-less seen now side t' going turn (is ∙ turn-tried now side (its-turn going turn) going turn)
+
+  -- ---- the turn after it
+  turn-some : (now : Growth) (x : Turn) → x ≡ turnOf (seen .count) (seen .freq) (seen .live) now → now .region .left < now .region .right → TurnOf seen now x
+  unfolding turnOf
+  turn-some now x e h = e ∙ cond-true _ _ (lt-ltb (now .region .left) (now .region .right) h)
+
+  turn-none : (now : Growth) → now .region .right ≤ now .region .left → turnOf (seen .count) (seen .freq) (seen .live) now ≡ End
+  unfolding turnOf
+  turn-none now h = cond-false _ _ (le-ltb (now .region .left) (now .region .right) h)
+
+  -- with a turn there is a region
+  pub turn-region : (now : Growth) (side : Side) → Try side ≡ turnOf (seen .count) (seen .freq) (seen .live) now → now .region .left < now .region .right
+  turn-region now side e = ⊎-elim (λ h. h) (λ h. absurd (never (e ∙ turn-none now h))) (split (now .region .left) (now .region .right))
+    where
+      never : Try side ≡ End → ⊥
+      never e = let z : _≡_ {A = ℕ} 0 1 = cc in omega arith
+
+  pub turn-due : (now : Growth) (side : Side) → Gone now → Try side ≡ turnOf (seen .count) (seen .freq) (seen .live) now → Due seen now side
+  turn-due now side gone e = let h = turn-region now side e in its-turn (gone .some h) (turn-some now (Try side) e h)
+
+  -- with none the region is the answer's
+  pub end-answers : (now : Growth) → Gone now → End ≡ turnOf (seen .count) (seen .freq) (seen .live) now → Answers seen (now .region)
+  end-answers now gone e =
+      record {
+        inside = gone .inside;
+        found = λ h. going-found seen (table .sound .inside) now (gone .some h) (turn-some now End e h);
+        nothing = gone .none;
+      }
+
 -- ---- the start
--- a walker to the right stands before the own gap's rows, and one to the left behind the rows before it
+-- before the first try
+pub begun-reached : (p : Register) (t : Reserved) (g : SegmentColumns) (own : ℕ) (ws : Walkers) → Begun p t g own ws → Reached p t g (noGrowth own) ws
+begun-reached p t g own ws b = record { fits = b .fits; at = at }
+  where
+    at : (side : Side) → barredAt side (noGrowth own) ≡ false → At side p (t .rows) g (edgeOn side (noGrowth own .region)) (walkOn side ws)
+    at Previous _ = b .at Previous
+    at Next _ = b .at Next
+
+-- a walk stands at the own gap's left edge
 module _ (p : Register) (t : Reserved) (g : SegmentColumns) (ordered : OrderedGaps g) (long : g .used ≡ length (g .from)) (own next : ℕ)
     (found : FirstIn (λ (k : ℕ). leb own (getD (g .gap) k 0)) 0 (g .used) next) where
   abbrev point : ℕ
@@ -188,64 +309,17 @@ module _ (p : Register) (t : Reserved) (g : SegmentColumns) (ordered : OrderedGa
   unfolding pointAt
   point-past h = cond-false (getD (g .from) next 0) 4294967295 (le-ltb next (length (g .from)) (le-trans (le-of-eq (sym long)) h))
 
-  pub right-starts : (w : RightWalker) → w .next ≡ next → StandsRight p (t .rows) point w → RightAt p (t .rows) g own w
-  right-starts w e s =
-      right-begins g own point w (subst (GapsFrom g own) (sym e) (gaps-found g ordered own next found))
-      (λ h. le-of-eq (point-row (subst (λ (n : ℕ). n < g .used) e h) ∙ ap (λ (n : ℕ). getD (g .from) n 0) (sym e))) s
-
-  pub left-starts : ((k : ℕ) → getD (g .to) k 0 ≤ 4294967295) → (w : LeftWalker) → w .next ≡ next → StandsLeft p (t .rows) point w → LeftAt p (t .rows) g own w
-  left-starts small w e s =
-      left-begins g own point w (subst (GapsFrom g own) (sym e) (gaps-found g ordered own next found))
-      (λ h. le-trans (le-of-eq (ap (λ (n : ℕ). getD (g .to) (n - 1) 0) e))
-      (⊎-elim (λ l. le-trans (ordered .apart (next - 1) next (let q = e in omega (arith, h, q)) l) (le-of-eq (sym (point-row l))))
-      (λ l. le-trans (small (next - 1)) (le-of-eq (sym (point-past l)))) (split next (g .used))))
-      s
-
--- the heavier of zero and a weight is that weight
-heavier-zero : {w : Float} → Weight w → heavier zeroWeight w ≡ w
-heavier-zero {w} h =
-    units-inj (heavier-weight (finite zero-finite) h) h (heavier-units (finite zero-finite) h ∙ none (unitsOf zeroWeight) (unitsOf w) zero-units)
-  where
-    none : (a b : ℕ) → a ≡ 0 → max a b ≡ b
-    none a b e = omega (arith, e)
-
--- what a region that passes or fails is
-tried-fails : (b : Bool) (r : Grown) → triedOf b r ≡ Fails → T (not b)
-tried-fails true r e = absurd (true≢false (ap (λ (x : Tried). elim x [ Grows _ ↦ true | Fails ↦ false ]) e))
-tried-fails false r e = tt
-
-tried-grows : (b : Bool) (r s : Grown) → triedOf b r ≡ Grows s → T b × (s ≡ r)
-tried-grows true r s e = (tt, sym (ap (λ (x : Tried). elim x [ Grows y ↦ y | Fails ↦ r ]) e))
-tried-grows false r s e = absurd (true≢false (ap (λ (x : Tried). elim x [ Grows _ ↦ false | Fails ↦ true ]) e))
-
-module _ (p : Register) (t : Reserved) (g : SegmentColumns) (froms : List ℕ) (weights : List Float) (lives : List ℕ) (freqs : List Float) (own k : ℕ)
-    (table : InTable (seenBy p t g froms weights lives freqs own k) weights lives freqs)
-    {free : Bool} {top : Float} {tried : Tried} (fixed-is : free ≡ fixedMetAny p t (segmentsOfGap g own)) (top-is : top ≡ heaviestInGap p t g own zeroWeight)
-    (tested : tried ≡ testedOf (not free) (record { left = own; right = own; weight = zeroWeight; insts = 0; heaviest = zeroWeight }) (floatAt weights own) 1
-    top k own (own + 1)) where
-  abbrev view : GapsSeen
-  view = seenBy p t g froms weights lives freqs own k
-
-  own-tried : tried ≡ triedOf (passes view own (ownSpan view)) (grownOf view (ownSpan view))
-  own-tried =
-      tested
-      ∙ ap₂ (λ (f : Bool) (h : Float). testedOf (not f) (record { left = own; right = own; weight = zeroWeight; insts = 0; heaviest = zeroWeight })
-      (floatAt weights own) 1 h k own (own + 1)) fixed-is
-      (top-is ∙ heavier-zero (heaviest-weight (weightsMetAll p t (segmentsOfGap g own)) (all-weights p t (segmentsOfGap g own))))
-      ∙ tested-own view refl (table .sound .weights own (table .sound .inside))
-
-  -- where the own gap fails there is nothing
-  pub own-fails : tried ≡ Fails → Nothing ≡ regionOf view
-  own-fails e = answer-nothing view (tried-fails (passes view own (ownSpan view)) (grownOf view (ownSpan view)) (sym own-tried ∙ e))
-
-  -- where it passes growth starts from it
-  pub own-reached : (region : Grown) → tried ≡ Grows region → (s : Stand) → s .growth ≡ startAt region → LeftAt p (t .rows) g own (s .left)
-      → RightAt p (t .rows) g (own + 1) (s .right) → Reached view p t g s
-  own-reached region e s is l r =
-      let q = tried-grows (passes view own (ownSpan view)) (grownOf view (ownSpan view)) region (sym own-tried ∙ e) in
-      let f = is ∙ ap startAt (q .1) in
+  -- the gap segments ahead begin at the point or after it
+  begin-after : ((k : ℕ) → getD (g .to) k 0 ≤ 4294967295) → (side : Side) → AnyAhead side next (g .used) → Upto side point (beginAt side g (rowAhead side next))
+  begin-after small Previous h =
       record {
-        going = subst (Going view) (sym f) (going-start view (q .0));
-        left = λ _. subst (λ (x : Growth). LeftAt p (t .rows) g (x .region .left) (s .left)) (sym f) l;
-        right = λ _. subst (λ (x : Growth). RightAt p (t .rows) g (x .region .right) (s .right)) (sym f) r;
+        is = ⊎-elim (λ l. le-trans (ordered .apart (next - 1) next (let n = h .is in omega (arith, n)) l) (le-of-eq (sym (point-row l))))
+            (λ l. le-trans (small (next - 1)) (le-of-eq (sym (point-past l)))) (split next (g .used));
       }
+  begin-after small Next h = record { is = le-of-eq (point-row (h .is)) }
+
+  pub starts : ((k : ℕ) → getD (g .to) k 0 ≤ 4294967295) → (side : Side) (w : Walk) → w .next ≡ next → Stands side p (t .rows) point w → At side p (t .rows) g own w
+  starts small side w e s =
+      begins side g own point w (subst (GapsFrom g own) (sym e) (gaps-found g ordered own next found))
+      (λ h. subst (λ (n : ℕ). Upto side point (beginAt side g (rowAhead side n))) (sym e)
+      (begin-after small side (subst (λ (n : ℕ). AnyAhead side n (g .used)) e h))) s

@@ -1,24 +1,28 @@
 -- What growth sees of gaps, gap segments and reservations in columns; and, for contracts of private functions, where growth and its walkers stand
 use mathlib.Core.Path.{_≡_}
-use Prim.Native.Nat.{ℕ, _+_, _-_, _≤_, _<_}
-use mathlib.Core.Bool.{false, cond}
+use Prim.Native.Nat.{ℕ, _≤_, _<_}
+use mathlib.Core.Bool.{Bool, false, cond}
 use mathlib.Core.List.{List}
 use lib.Dec.{ltb}
 use lib.Ieee.{Float}
 use lib.ListN.{length, getD}
 use Rattle.links.specs.declared.lower.Side.{Side}
-use Rattle.links.specs.declared.lower.Side.the-variants.{Previous, Next}
+use Rattle.links.specs.declared.lower.Side.the-variants.{Next}
+use Rattle.links.specs.Links.{onSide}
 use Rattle.walks.specs.declared.meeting.Register.{Register}
+use Rattle.walks.specs.declared.both.Walkers.{Walkers}
 use Rattle.walks.specs.Meeting.{Reserved, fixedMetAny, weightsMetAll}
-use Rattle.walks.specs.Gaps.{segmentsOfGap, RightAt, LeftAt}
+use Rattle.walks.specs.Standing.{Known}
+use Rattle.walks.specs.Gaps.{segmentsOfGap, HasRows, Walkable, At, walkOn, FitsBoth}
 use Rattle.overlaps.specs.GapSegments.{SegmentColumns}
-use Rattle.growth.specs.Growth.{GapsSeen}
+use Rattle.growth.specs.Growth.{GapsSeen, sideTried}
 use Rattle.growth.specs.Proposal.{proposalWith, regionOf}
 use Rattle.growth.specs.Demand.{SoundGaps}
-use Rattle.growth.specs.Columns.{seenIn, spanOf, InsideGaps, Going}
+use Rattle.growth.specs.Columns.{seenIn, spanOf, stateOf, noGrowth, InsideGaps, Going}
 use Rattle.growth.specs.declared.step.Grown.{Grown}
-use Rattle.growth.specs.declared.proposal.Region.the-variants.{Found}
-use Rattle.region.specs.declared.find.Stand.{Stand}
+use Rattle.growth.specs.declared.step.Growth.{Growth}
+use Rattle.growth.specs.declared.step.Turn.the-variants.{Try}
+use Rattle.growth.specs.declared.proposal.Region.the-variants.{Found, Nothing}
 
 -- what growth sees: the gaps in columns, and of each gap what its gap segments meet among the register's reservations
 abbrev pub seenBy : Register → Reserved → SegmentColumns → List ℕ → List Float → List ℕ → List Float → ℕ → ℕ → GapsSeen
@@ -47,26 +51,41 @@ pub record RowsInside (gaps : ℕ) (froms : List ℕ) (weights : List Float) (li
   pub out-gap : segments ≤ length out-gaps
 
 -- ---- for contracts of private functions
--- the walker of a side stands at the region's end
-abbrev pub Standing : Side → Register → Reserved → SegmentColumns → Stand → Type 0
-Standing Previous p t g s = LeftAt p (t .rows) g (s .growth .region .left) (s .left)
-Standing Next p t g s = RightAt p (t .rows) g (s .growth .region .right) (s .right)
+-- what walks rely on: a known register, columns that have their rows, of 32-bit points, and all in order
+pub record Walking (p : Register) (t : Reserved) (g : SegmentColumns) : Type 0 where
+  pub known : Known p
+  pub long : HasRows g
+  pub small : (k : ℕ) → getD (g .to) k 0 ≤ 4294967295
+  pub walkable : Walkable t g
 
--- it has moved on by a gap, and the other one has not
-abbrev pub Moved : Side → Register → Reserved → SegmentColumns → Stand → Stand → Type 0
-Moved Previous p t g s r = LeftAt p (t .rows) g (s .growth .region .left - 1) (r .left) × (r .right ≡ s .right)
-Moved Next p t g s r = RightAt p (t .rows) g (s .growth .region .right + 1) (r .right) × (r .left ≡ s .left)
+-- before the first try both walkers stand at the own gap's left edge
+pub record Begun (p : Register) (t : Reserved) (g : SegmentColumns) (own : ℕ) (ws : Walkers) : Type 0 where
+  pub walkable : Walkable t g
+  pub fits : FitsBoth p t g ws
+  pub at : (side : Side) → At side p (t .rows) g own (walkOn side ws)
 
--- growth after some tries, with a walker at each end that is not barred
-pub record Reached (seen : GapsSeen) (p : Register) (t : Reserved) (g : SegmentColumns) (s : Stand) : Type 0 where
-  pub going : Going seen (s .growth)
-  pub left : s .growth .«left_barred» ≡ false → Standing Previous p t g s
-  pub right : s .growth .«right_barred» ≡ false → Standing Next p t g s
+-- growth's end and its walk on a side, and whether the side is barred
+abbrev pub edgeOn : Side → Grown → ℕ
+edgeOn side g = onSide side (g .left) (g .right)
 
--- the region with which growth ends: its proposal is the answer
+abbrev pub barredAt : Side → Growth → Bool
+barredAt side growth = onSide side (growth .«left_barred») (growth .«right_barred»)
+
+-- a try is due on a side: that of the own gap, or the one whose turn it is
+pub data Due (seen : GapsSeen) (growth : Growth) (side : Side) : Type 0 where
+  own-try : growth ≡ noGrowth (seen .own) → side ≡ Next → Due seen growth side
+  its-turn : Going seen growth → Try side ≡ sideTried (seen .count) (seen .freq) (seen .live) (stateOf growth) → Due seen growth side
+
+-- growth with walkers that fit, at each end that is not barred
+pub record Reached (p : Register) (t : Reserved) (g : SegmentColumns) (growth : Growth) (ws : Walkers) : Type 0 where
+  pub fits : FitsBoth p t g ws
+  pub at : (side : Side) → barredAt side growth ≡ false → At side p (t .rows) g (edgeOn side (growth .region)) (walkOn side ws)
+
+-- the region with which growth ends: its proposal is the answer, or there is none if it has no gap
 pub record Answers (seen : GapsSeen) (r : Grown) : Type 0 where
-  pub inside : InsideGaps (seen .count) r
-  pub is : Found (proposalWith (seen .count) (seen .first) (seen .freq) (spanOf r) (r .heaviest)) ≡ regionOf seen
+  pub inside : r .left < r .right → InsideGaps (seen .count) r
+  pub found : r .left < r .right → Found (proposalWith (seen .count) (seen .first) (seen .freq) (spanOf r) (r .heaviest)) ≡ regionOf seen
+  pub nothing : r .right ≤ r .left → Nothing ≡ regionOf seen
 
 -- where a row's gap segment begins, and past the last one the last point
 unfoldable pub pointAt : List ℕ → ℕ → ℕ

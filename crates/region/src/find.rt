@@ -16,6 +16,7 @@ ghost use mathlib.Core.List.{map};
 ghost use Prim.Native.Nat.{_≤_};
 ghost use lib.ListN.{length, take};
 ghost use Rattle.walks.specs.Meeting.{reservedIn, reservedOf};
+ghost use Rattle.walks.specs.Standing.{Known};
 ghost use Rattle.walks.specs.Gaps.{segmentsIn, Walkable};
 ghost use Rattle.overlaps.specs.GapSegments.{segmentColumns};
 ghost use Rattle.growth.specs.Proposal.{regionOf};
@@ -120,28 +121,28 @@ fn find_split_region<'a>(
 }
 
 // The same for work tables of which only the first rows count: so many gaps, so many gap segments.
-pub fn find_in_tables(
+pub fn find_in_tables<'a>(
     from: &[u32],
     weight: &[f32],
     live: &[u32],
     min_freq: &[f32],
     gaps: usize,
     initial: usize,
-    out_from: &[u32],
-    out_to: &[u32],
-    out_value: &[u32],
-    out_gap: &[u32],
+    out_from: &'a [u32],
+    out_to: &'a [u32],
+    out_value: &'a [u32],
+    out_gap: &'a [u32],
     segments: usize,
-    unit: &[u32],
-    start: &[u32],
-    end: &[u32],
-    kind: &[u32],
-    index: &[u32],
-    fixed: &[u32],
-    f_unit: &[u32],
-    f_point: &[u32],
-    f_value: &[u32],
-    spill_weight: &[u32],
+    unit: &'a [u32],
+    start: &'a [u32],
+    end: &'a [u32],
+    kind: &'a [u32],
+    index: &'a [u32],
+    fixed: &'a [u32],
+    f_unit: &'a [u32],
+    f_point: &'a [u32],
+    f_value: &'a [u32],
+    spill_weight: &'a [u32],
     register: Register,
     k: u32,
 ) -> Region
@@ -157,7 +158,7 @@ pub fn find_in_tables(
         (length (take segments (now «out_from»))) in
         let seen = seenBy register reserved gapSegments
         (take gaps (now from)) (take gaps (now weight)) (take gaps (now live)) (take gaps (now «min_freq»)) initial k in
-        Walkable register reserved gapSegments ×
+        Known register × Walkable reserved gapSegments ×
         InTable seen (take gaps (now weight)) (take gaps (now live)) (take gaps (now «min_freq»))) ⌝ }
     ensures { λ r. ⌜
         (let reserved = reservedOf
@@ -172,30 +173,32 @@ pub fn find_in_tables(
         initial k in
         r ≡ regionOf seen) ⌝ }
 {
+    let segments = [
+        &out_from[..segments],
+        &out_to[..segments],
+        &out_value[..segments],
+        &out_gap[..segments],
+    ];
+    let reserved = [
+        unit,
+        start,
+        end,
+        kind,
+        index,
+        fixed,
+        f_unit,
+        f_point,
+        f_value,
+        spill_weight,
+    ];
     find_split_region(
         &from[..gaps],
         &weight[..gaps],
         &live[..gaps],
         &min_freq[..gaps],
         initial,
-        [
-            &out_from[..segments],
-            &out_to[..segments],
-            &out_value[..segments],
-            &out_gap[..segments],
-        ],
-        [
-            unit,
-            start,
-            end,
-            kind,
-            index,
-            fixed,
-            f_unit,
-            f_point,
-            f_value,
-            spill_weight,
-        ],
+        segments,
+        reserved,
         register,
         k,
     )

@@ -1,17 +1,10 @@
--- `after` takes the region that passed, or bars the side
-use mathlib.Core.Path.{sym, ap, ap₂}
-use Rattle.links.specs.declared.lower.Side.{Side}
-use Rattle.growth.specs.Columns.{afterTry}
-use Rattle.growth.specs.declared.step.Tried.{Tried}
+-- `after` goes by what came of the try
+use mathlib.Core.Path.{sym, ap, _∙_}
 use borrow.Author.Needs.{needs}
+use Rattle.growth.specs.declared.step.Came.{Came}
+use Rattle.growth.specs.Columns.{afterWith}
 use Rattle.growth.proofs.step.Growth.after.Statement.{statement}
 use Rattle.growth.proofs.step.Growth.after.Tie as tie
-
-enum-known-tried : tie.Need-enum-known-tried
-enum-known-tried c = search needs
-
-returns : tie.Need-returns
-returns c = let a = c .before .before .before .args in ap (λ (t : Tried). afterTry (a .side) t (a .self)) (sym (c .before .tried .given .1))
 
 enum-told : tie.Need-enum-told
 enum-told c = search needs
@@ -19,22 +12,29 @@ enum-told c = search needs
 enum-told-2 : tie.Need-enum-told-2
 enum-told-2 c = search needs
 
+barred-requires : tie.Need-barred-requires
+barred-requires c κs = search needs
+
 enum-told-3 : tie.Need-enum-told-3
 enum-told-3 c = search needs
 
+barred-requires-2 : tie.Need-barred-requires-2
+barred-requires-2 c κs = search needs
+
+returns : tie.Need-returns
+returns c =
+    let a = c .before .before .before .args in
+    ap (λ (x : Came). afterWith x (a .t .side) (a .t .region) (a .self)) (sym (c .before .enum-told .given .1))
+
 returns-2 : tie.Need-returns-2
 returns-2 c =
-    let a = c .before .before .before .before .before .args in
-    ap₂ (λ (d : Side) (t : Tried). afterTry d t (a .self)) (sym (c .enum-told2 .given .1))
-    (sym (c .before .before .before .enum-told .given .1))
+    let a = c .before .before .before .args in
+    c .barred .ensures ∙ ap (λ (x : Came). afterWith x (a .t .side) (a .t .region) (a .self)) (sym (c .before .enum-told2 .given .1))
 
 returns-3 : tie.Need-returns-3
 returns-3 c =
-    let a = c .before .before .before .before .before .args in
-    ap₂ (λ (d : Side) (t : Tried). afterTry d t (a .self)) (sym (c .enum-told3 .given .1))
-    (sym (c .before .before .before .enum-told .given .1))
+    let a = c .before .before .before .args in
+    c .barred2 .ensures ∙ ap (λ (x : Came). afterWith x (a .t .side) (a .t .region) (a .self)) (sym (c .before .enum-told3 .given .1))
 
 pub after-spec : {M : Type 1} → statement M
-after-spec =
-    tie.close
-    (tie.spec enum-known-tried returns enum-told enum-told-2 enum-told-3 returns-2 returns-3)
+after-spec = tie.close (tie.spec enum-told enum-told-2 barred-requires enum-told-3 barred-requires-2 returns returns-2 returns-3)
