@@ -7,7 +7,8 @@ use Rattle.overlaps.specs.GapSegments.{SegmentColumns, segmentColumns}
 use Rattle.walks.specs.declared.meeting.Register.{Register}
 use Rattle.walks.specs.Meeting.{Reserved}
 use Rattle.growth.specs.Growth.{GapsSeen}
-use Rattle.region.specs.OneTry.{Walkable}
+use Rattle.walks.specs.Standing.{Known}
+use Rattle.walks.specs.Gaps.{Walkable}
 use Rattle.region.specs.Find.{seenBy, InTable, RowsInside}
 use Rattle.growth.specs.Proposal.{regionOf}
 use Rattle.work.specs.declared.fill.ReadyTables.{ReadyTables}
@@ -57,7 +58,8 @@ seenReady p t k g r =
 -- what growth relies on
 pub record Growable (p : Register) (t : Reserved) (k : ℕ) (g : GrowthColumns) (r : ReadyTables) : Type 0 where
   pub rows : RowsInside (r .gaps) (g .froms) (g .weights) (g .lives) (g .freqs) (r .«gap_segments») (g .out-froms) (g .out-tos) (g .out-values) (g .out-gaps)
-  pub walkable : Walkable p t (segmentsReady g r)
+  pub known : Known p
+  pub walkable : Walkable t (segmentsReady g r)
   pub in-table : InTable (seenReady p t k g r) (take (r .gaps) (g .weights)) (take (r .gaps) (g .lives)) (take (r .gaps) (g .freqs))
 
 -- the same where tables are ready

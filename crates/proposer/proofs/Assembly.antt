@@ -93,6 +93,7 @@ module _ (job : Job) (lent now : WorkColumns) where
         let roomy = job-roomy job (roomsOf lent) (said .0) in
         record {
           rows = cut-rows job accepted best inside lent now roomy filled-by (r .gaps) (r .«gap_segments») (r .own) gaps-are segments-are own-is;
+          known = accepted .register;
           walkable = cut-walkable job accepted best inside lent now roomy filled-by (r .gaps) (r .«gap_segments») (r .own) gaps-are segments-are own-is;
           in-table = cut-in-table job accepted best inside lent now roomy filled-by (r .gaps) (r .«gap_segments») (r .own) gaps-are segments-are own-is;
         }

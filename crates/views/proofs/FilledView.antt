@@ -16,7 +16,7 @@ use Rattle.filling.specs.GapTables.{fromsOf}
 use Rattle.filling.specs.SourceTables.{tablesOfBest, WorkColumns, roomsOf, Roomy, FilledBy}
 use Rattle.filling.proofs.SourceTables.{source-gap-room}
 use Rattle.growth.specs.Growth.{GapsSeen}
-use Rattle.region.specs.OneTry.{Walkable}
+use Rattle.walks.specs.Gaps.{Walkable}
 use Rattle.region.specs.Find.{seenBy, InTable, RowsInside}
 use Rattle.refusals.specs.Job.{Job, sourceOfJob, reservedOfJob, registerOf}
 use Rattle.refusals.proofs.Accepted.{Accepted}
@@ -81,9 +81,9 @@ module _ (job : Job) (accepted : Accepted job) (best : ℕ) (h : best < length (
       (take n (now .froms)) (take n (now .weights)) (take n (now .lives)) (take n (now .freqs)) own (job .k) ≡ seenOfJob job best
   seen-is = λ i. seenBy (registerOf job) (reservedOfJob job) (segments-are i) (froms-are i) (weights-are i) (lives-are i) (freqs-are i) (own-is i) (job .k)
 
-  pub cut-walkable : Walkable (registerOf job) (reservedOfJob job)
+  pub cut-walkable : Walkable (reservedOfJob job)
       (segmentColumns (take m (now .out-froms)) (take m (now .out-tos)) (take m (now .out-values)) (take m (now .out-gaps)) (length (take m (now .out-froms))))
-  cut-walkable = subst (Walkable (registerOf job) (reservedOfJob job)) (sym segments-are) (job-walkable job accepted best h)
+  cut-walkable = subst (Walkable (reservedOfJob job)) (sym segments-are) (job-walkable job accepted best h)
 
   pub cut-in-table : InTable
       (seenBy (registerOf job) (reservedOfJob job)

@@ -44,7 +44,7 @@ use Rattle.links.specs.declared.lower.Side.the-variants.{Previous, Next}
 use Rattle.filling.specs.GapTables.{fromsOf, tosOf}
 use Rattle.growth.specs.Growth.{between}
 use Rattle.growth.specs.Demand.{sumOver, SoundGaps}
-use Rattle.region.specs.OneTry.{Walkable}
+use Rattle.walks.specs.Gaps.{Walkable}
 use Rattle.region.specs.Find.{InTable}
 use Rattle.growth.proofs.Spans.{between-behind, between-none, sum-append, sum-one}
 use Rattle.refusals.specs.Job.{Job, sourceOfJob, reservedOfJob, registerOf}
@@ -409,11 +409,10 @@ module _ (job : Job) (accepted : Accepted job) where
         }
 
     -- ---- what the walkers rely on
-    pub job-walkable : Walkable (registerOf job) (reservedOfJob job) (inColumns (segmentsOfJob job best))
+    pub job-walkable : Walkable (reservedOfJob job) (inColumns (segmentsOfJob job best))
     job-walkable =
         record {
           ready = accepted .reserved;
-          known = accepted .register;
           ordered =
               segments-ordered (fromsOf (gapsOfJob job best)) (tosOf (gapsOfJob job best)) (startsOf source) (stopsOf source) (valuesOf source) job-tiles
               (source-segments source (accepted .uses) (accepted .blocks));

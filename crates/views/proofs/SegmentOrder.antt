@@ -166,10 +166,6 @@ module _ (froms tos : List ℕ) where
     rows-ordered : (p : ℕ) (rows : List Overlap) (q : ℕ) → InOrder froms tos p rows q → OrderedGaps (inColumns rows)
     rows-ordered p rows q w =
         record {
-          from-long = le-refl (length (fromColumn rows));
-          to-long = le-of-eq (long ∙ sym (length-map rows (λ (s : Overlap). s .to)));
-          value-long = le-of-eq (long ∙ sym (length-map rows (λ (s : Overlap). s .value)));
-          gap-long = le-of-eq (long ∙ sym (length-map rows (λ (s : Overlap). s .gap)));
           gaps =
               λ i k l h. ⊎-elim (λ m. lower i k m (there h))
               (λ m. let e : i ≡ k = omega (arith, l, m) in le-of-eq (ap (λ (x : ℕ). getD (gapColumn rows) x 0) e)) (split i k);
