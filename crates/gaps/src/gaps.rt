@@ -3,7 +3,7 @@ use links::blocks::block_near;
 use links::blocks::block_of;
 use links::lower::Side;
 use links::lower::link_at;
-use links::split::reaches;
+use links::lower::reaches;
 use numbers::Block;
 use numbers::Inst;
 use numbers::MaybeBlock;
@@ -93,7 +93,7 @@ fn next_cut(side: Side, links: &[u32], b: Block, last: Block) -> MaybeBlock
     let MaybeBlock::At(lower) = link_at(links, b) else {
         return MaybeBlock::Absent;
     };
-    if reaches(side, last.0, lower.0) {
+    if reaches(side, last, lower) {
         return MaybeBlock::At(lower);
     }
     MaybeBlock::Absent

@@ -110,14 +110,15 @@ pub fn block_of(end: &[u32], n: usize, inst: Inst) -> Block
 }
 
 // Whether an instruction lies before a block.
-fn lies_before(end: &[u32], b: usize, inst: Inst) -> bool
-    requires { ⌜ b ≤ length (now end) ⌝ }
-    ensures { λ r. ⌜ r ≡ cond (eqb b 0) false (ltb (inst .0) (getD (now (end .entry)) (b - 1) 0)) ⌝ }
+fn lies_before(end: &[u32], b: Block, inst: Inst) -> bool
+    requires { ⌜ b .0 ≤ length (now end) ⌝ }
+    ensures { λ r. ⌜ r ≡ cond (eqb (b .0) 0) false (ltb (inst .0) (getD (now (end .entry)) (b .0 - 1) 0)) ⌝ }
 {
-    if b == 0 {
+    let at = b.0 as usize;
+    if at == 0 {
         return false;
     }
-    inst.0 < end[b - 1]
+    inst.0 < end[at - 1]
 }
 
 // The same, walked to from a block that is likely to be near and not behind it: a sweep over instructions in order passes each block
@@ -130,7 +131,7 @@ pub fn block_near(end: &[u32], n: usize, inst: Inst, near: Block) -> Block
     if i >= n {
         return block_of(end, n, inst);
     }
-    if lies_before(end, i, inst) {
+    if lies_before(end, near, inst) {
         return block_of(end, n, inst);
     }
     while end[i] <= inst.0 {

@@ -7,6 +7,7 @@ use crate::blocks::Checked;
 use crate::blocks::Refusal;
 use crate::lower;
 use crate::lower::Side;
+use numbers::Block;
 use numbers::Inst;
 
 // The instruction before which the split stands, or the refusal of the call.
@@ -16,29 +17,32 @@ pub enum SplitPoint {
 }
 
 // A place that does not pass the limit.
-pub fn reaches(side: Side, limit: u32, place: u32) -> bool
-    ensures { λ r. ⌜ r ≡ reaches side limit place ⌝ }
+fn reaches(side: Side, limit: Inst, place: Inst) -> bool
+    ensures { λ r. ⌜ r ≡ reaches side (limit .0) (place .0) ⌝ }
 {
     match side {
-        Side::Previous => limit <= place,
-        Side::Next => place <= limit,
+        Side::Previous => limit.0 <= place.0,
+        Side::Next => place.0 <= limit.0,
     }
 }
 
 // The last place that lower links reach from block b without passing the limit, or `start`. One sweep finds the lower blocks: a
 // block is linked from the last one reached exactly if it is lower than all that were swept.
-fn sweep(freq: &[u32], edges: &[u32], b: usize, side: Side, start: u32, limit: u32) -> u32
-    requires { ⌜ Swept (now freq) (now edges) b ⌝ }
-    ensures { λ r. ⌜ r ≡ lastReached side (now (freq .entry)) (now (edges .entry)) limit start b ⌝ }
+fn sweep(freq: &[u32], edges: &[u32], b: Block, side: Side, start: Inst, limit: Inst) -> Inst
+    requires { ⌜ Swept (now freq) (now edges) (b .0) ⌝ }
+    ensures { λ r. ⌜ r .0 ≡ lastReached side (now (freq .entry)) (now (edges .entry)) (limit .0) (start .0) (b .0) ⌝ }
 {
     let n = freq.len();
     let count = lower::beside(side, n, b);
+    let at = b.0 as usize;
     let mut split = start;
-    let mut least = freq[b];
+    let mut least = freq[at];
     let mut t = 0;
     while t < count {
-        let i = lower::beyond(side, n, b, t);
-        let place = edges[i];
+        let next = lower::beyond(side, n, b, t);
+        let i = next.0 as usize;
+        let edge = edges[i];
+        let place = Inst(edge);
         if !reaches(side, limit, place) {
             return split;
         }
@@ -57,25 +61,26 @@ fn between(
     freq: &[u32],
     first: &[u32],
     end: &[u32],
-    after: u32,
-    before: u32,
+    after: Inst,
+    before: Inst,
     prefer_early: bool,
-) -> u32
-    requires { ⌜ Between (now freq) (now first) (now end) after before ⌝ }
-    ensures { λ r. ⌜ r ≡ splitPoint (sideOf «prefer_early») (blocksOf (now (freq .entry)) (now (first .entry)) (now (end .entry))) after before ⌝ }
+) -> Inst
+    requires { ⌜ Between (now freq) (now first) (now end) (after .0) (before .0) ⌝ }
+    ensures { λ r. ⌜
+        (let blocks = blocksOf (now (freq .entry)) (now (first .entry)) (now (end .entry)) in
+        r .0 ≡ splitPoint (sideOf «prefer_early») blocks (after .0) (before .0)) ⌝ }
 {
     let n = freq.len();
-    if after + 1 == before {
+    let early = Inst(after.0 + 1);
+    if early.0 == before.0 {
         return before;
     }
     if prefer_early {
-        let b = blocks::block_of(end, n, Inst(after + 1));
-        let at = b.0 as usize;
-        return sweep(freq, first, at, Side::Next, after + 1, before);
+        let b = blocks::block_of(end, n, early);
+        return sweep(freq, first, b, Side::Next, early, before);
     }
-    let b = blocks::block_of(end, n, Inst(before - 1));
-    let at = b.0 as usize;
-    sweep(freq, end, at, Side::Previous, before, after + 1)
+    let b = blocks::block_of(end, n, Inst(before.0 - 1));
+    sweep(freq, end, b, Side::Previous, before, early)
 }
 
 // The lower-cost split point between two instructions, for the blocks of the three columns: early next to `after`, or late next
@@ -112,9 +117,9 @@ pub fn find_optimal_split_point(
         &freq[..n],
         &first[..n],
         &end[..n],
-        after.0,
-        before.0,
+        after,
+        before,
         prefer_early,
     );
-    SplitPoint::At(Inst(split))
+    SplitPoint::At(split)
 }

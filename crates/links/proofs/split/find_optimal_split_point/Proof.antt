@@ -119,7 +119,7 @@ returns-4 c =
     let at-if1 = at-if2 .before .before in
     let k = at-if1 .before .before .before .before in
     let s = begin k in
-    answer-split _ _ _ _ (passed k) (c .between .result) (at-if1 .if1 .left)
+    answer-split _ _ _ _ (passed k) (c .between .result .0) (at-if1 .if1 .left)
     (subst (λ (x : ℕ). s .args .before .0 ≤ x) (last k) (at-if2 .if2 .left))
     (c .between .ensures
     ∙ ap (λ (bs : List BlockRow). splitPoint (sideOf (s .args .prefer-early)) bs (s .args .after .0) (s .args .before .0))

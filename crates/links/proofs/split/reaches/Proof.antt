@@ -1,4 +1,4 @@
--- `reaches` is its definition, side by side
+-- `reaches` of places is its definition, side by side
 use mathlib.Core.Path.{sym, ap}
 use Rattle.links.specs.Split.{reaches}
 use Rattle.links.specs.declared.lower.Side.{Side}
@@ -13,10 +13,14 @@ enum-told-2 : tie.Need-enum-told-2
 enum-told-2 c = search needs
 
 returns : tie.Need-returns
-returns c = sym (ap (λ (s : Side). reaches s (c .before .before .args .limit) (c .before .before .args .place)) (c .enum-told .given .1))
+returns c =
+    let s = c .before .before .before .before .args in
+    sym (ap (λ (x : Side). reaches x (s .limit .0) (s .place .0)) (c .before .before .enum-told .given .1))
 
 returns-2 : tie.Need-returns-2
-returns-2 c = sym (ap (λ (s : Side). reaches s (c .before .before .args .limit) (c .before .before .args .place)) (c .enum-told2 .given .1))
+returns-2 c =
+    let s = c .before .before .before .before .args in
+    sym (ap (λ (x : Side). reaches x (s .limit .0) (s .place .0)) (c .before .before .enum-told2 .given .1))
 
 pub reaches-spec : {M : Type 1} → statement M
 reaches-spec = tie.close (tie.spec enum-told enum-told-2 returns returns-2)
