@@ -18,7 +18,13 @@ use Rattle.links.specs.Split.{reaches}
 use Rattle.links.specs.declared.lower.Side.{Side}
 use Rattle.links.specs.declared.lower.Side.the-variants.{Previous, Next}
 use Rattle.links.proofs.Following.{fuel-left}
-use Rattle.gaps.specs.Cutting.{Leads, nextCut, followed, cutsIn}
+use Rattle.gaps.specs.Cutting.{Leads, followed, cutsIn}
+
+-- the block at whose edge the next cut stands: a link, as long as it does not lead beyond the last block
+unfoldable pub nextCut : Side → List ℕ → ℕ → ℕ → MaybeBlock
+nextCut side links last b =
+    let c = getD links b 0 in
+    cond (ltb c (length links) && reaches side last c) (At (record { 0 = c })) Absent
 
 -- ---- the answer to one link
 and-left : (a b : Bool) → a ≡ false → (a && b) ≡ false

@@ -14,9 +14,9 @@ use Rattle.links.specs.declared.lower.Side.the-variants.{Previous, Next}
 use Rattle.gaps.specs.Gaps.{Gap, gapWeight, spanned, inOrder, cutGaps}
 use Rattle.numbers.specs.Sum.{plus}
 use Rattle.gaps.specs.GapColumns.{GapColumns, withRow, withGap, storedGaps, Rows}
-use Rattle.gaps.specs.Cutting.{Leads, nextCut, followed, cutsIn, freqIn, spaceGaps, Alike}
+use Rattle.gaps.specs.Cutting.{Leads, followed, cutsIn, freqIn, spaceGaps, Alike}
 use Rattle.gaps.specs.declared.gaps.Space.{Space}
-use Rattle.gaps.proofs.Cuts.{one-more, followed-end, all-enough}
+use Rattle.gaps.proofs.Cuts.{nextCut, one-more, followed-end, all-enough}
 use Rattle.gaps.proofs.StoredGaps.{stored-last, rows-with}
 
 -- ---- one gap more than cuts
@@ -99,7 +99,7 @@ module _ (side : Side) (freqs edges links : List ℕ) (s : Space) (n : ℕ) (len
   all = spaceGaps side freqs edges links s
 
   abbrev rest : ℕ → ℕ → Float → ℕ → List Gap
-  rest fuel e w b = cutGaps side (freqIn freqs) edgeIn (s .end) (s .far ∷ s .main ∷ []) e w b (followed side links (s .last .0) fuel b)
+  rest fuel e w b = cutGaps side (freqIn freqs) edgeIn (s .end .0) (s .far ∷ s .main ∷ []) e w b (followed side links (s .last .0) fuel b)
 
   pub record Storing (cols : GapColumns) (b at e : ℕ) (w : Float) : Type 0 where
     pub leads : Leads side links
@@ -117,12 +117,12 @@ module _ (side : Side) (freqs edges links : List ℕ) (s : Space) (n : ℕ) (len
 
   all-length : length all ≡ suc cutsLong
   all-length =
-      cut-gaps-length side (freqIn freqs) edgeIn (s .end) (s .far ∷ s .main ∷ []) (s .edge) (s .near) (s .block .0)
+      cut-gaps-length side (freqIn freqs) edgeIn (s .end .0) (s .far ∷ s .main ∷ []) (s .edge .0) (s .near) (s .block .0)
       (cutsIn side links (s .last .0) (s .block .0))
 
   pub storing-starts : Leads side links → Alike freqs edges links → s .block .0 < length links → Rows (n + length all) lent → (at : ℕ)
       → at ≡ n + onSide side cutsLong 0
-      → Storing lent (s .block .0) at (s .edge) (s .near)
+      → Storing lent (s .block .0) at (s .edge .0) (s .near)
   storing-starts leads alike h rows at q =
       record {
         leads = leads;
@@ -164,7 +164,7 @@ module _ (side : Side) (freqs edges links : List ℕ) (s : Space) (n : ℕ) (len
         let p : Place side n at (suc (length (followed side links (s .last .0) (m .fuel-after) c))) (length all) =
         subst (λ (x : ℕ). Place side n at x (length all)) more (k .place) in
         let t = place-next n side at (length (followed side links (s .last .0) (m .fuel-after) c)) (length all) p in
-        let long = cut-gaps-length side (freqIn freqs) edgeIn (s .end) (s .far ∷ s .main ∷ []) (edgeIn c) zeroWeight c
+        let long = cut-gaps-length side (freqIn freqs) edgeIn (s .end .0) (s .far ∷ s .main ∷ []) (edgeIn c) zeroWeight c
         (followed side links (s .last .0) (m .fuel-after) c) in (
           record {
             leads = k .leads;
@@ -176,7 +176,7 @@ module _ (side : Side) (freqs edges links : List ℕ) (s : Space) (n : ℕ) (len
             same = same-with lent cols at (onSide side (edgeIn c) e) (onSide side e (edgeIn c)) w (freqIn freqs b) (k .same);
             place = t .0;
             gives = sym (place-stored n side at g left (length all) cols (subst (λ (x : ℕ). Place side n at x (length all)) (sym long) p))
-                ∙ ap (λ (cs : List ℕ). storedGaps (onSide side n at) (cutGaps side (freqIn freqs) edgeIn (s .end) (s .far ∷ s .main ∷ []) e w b cs) cols)
+                ∙ ap (λ (cs : List ℕ). storedGaps (onSide side n at) (cutGaps side (freqIn freqs) edgeIn (s .end .0) (s .far ∷ s .main ∷ []) e w b cs) cols)
                 (sym (m .more))
                 ∙ k .gives;
           },
@@ -187,16 +187,16 @@ module _ (side : Side) (freqs edges links : List ℕ) (s : Space) (n : ℕ) (len
 
     -- no cut any more: with the gap up to the farther use all are stored
     pub storing-ends : nextCut side links (s .last .0) b ≡ Absent
-        → (withRow cols at (onSide side (s .end) e) (onSide side e (s .end)) (add binary32 (add binary32 w (s .far)) (s .main)) (freqIn freqs b)
+        → (withRow cols at (onSide side (s .end .0) e) (onSide side e (s .end .0)) (add binary32 (add binary32 w (s .far)) (s .main)) (freqIn freqs b)
         ≡ storedGaps n all lent)
         × (max (n + onSide side cutsLong 0) at + 1 ≡ n + length all)
     unfolding cutGaps plus
     storing-ends q =
         let f = followed-end side links (s .last .0) b (k .fuel) q in
         let p : Place side n at 0 (length all) = subst (λ (cs : List ℕ). Place side n at (length cs) (length all)) f (k .place) in
-        let g = spanned side e (s .end) (w ∷ s .far ∷ s .main ∷ []) (freqIn freqs b) in (
+        let g = spanned side e (s .end .0) (w ∷ s .far ∷ s .main ∷ []) (freqIn freqs b) in (
           sym (place-one n side at g (length all) cols p)
-              ∙ ap (λ (cs : List ℕ). storedGaps (onSide side n at) (cutGaps side (freqIn freqs) edgeIn (s .end) (s .far ∷ s .main ∷ []) e w b cs) cols) (sym f)
+              ∙ ap (λ (cs : List ℕ). storedGaps (onSide side n at) (cutGaps side (freqIn freqs) edgeIn (s .end .0) (s .far ∷ s .main ∷ []) e w b cs) cols) (sym f)
               ∙ k .gives,
           place-used n side at cutsLong (length all) all-length p,
         )
@@ -211,9 +211,9 @@ module _ (side : Side) (freqs edges links : List ℕ) (s : Space) (n : ℕ) (len
         (sym (ec ∙ ap (withRow cols at (onSide side (edgeIn c) e) (onSide side e (edgeIn c)) w) ef)) (storing-next c q .0))
 
     pub storing-done : nextCut side links (s .last .0) b ≡ Absent → {cols' : GapColumns} {f : Float} {first r : ℕ} → f ≡ freqIn freqs b
-        → cols' ≡ withRow cols at (onSide side (s .end) e) (onSide side e (s .end)) (add binary32 (add binary32 w (s .far)) (s .main)) f
+        → cols' ≡ withRow cols at (onSide side (s .end .0) e) (onSide side e (s .end .0)) (add binary32 (add binary32 w (s .far)) (s .main)) f
         → first ≡ n + onSide side cutsLong 0 → r ≡ max first at → (r + 1 ≡ n + length all) × (cols' ≡ storedGaps n all lent)
     storing-done q ef ec e1 er = (
       ap (λ (x : ℕ). x + 1) (er ∙ ap (λ (x : ℕ). max x at) e1) ∙ storing-ends q .1,
-      ec ∙ ap (withRow cols at (onSide side (s .end) e) (onSide side e (s .end)) (add binary32 (add binary32 w (s .far)) (s .main))) ef ∙ storing-ends q .0,
+      ec ∙ ap (withRow cols at (onSide side (s .end .0) e) (onSide side e (s .end .0)) (add binary32 (add binary32 w (s .far)) (s .main))) ef ∙ storing-ends q .0,
     )

@@ -8,8 +8,6 @@ use lib.Dec.{ltb}
 use lib.Ieee.{Float}
 use lib.ListN.{length, getD}
 use Rattle.numbers.specs.Weight.{frequencyLimit, valueOf}
-use Rattle.numbers.specs.declared.MaybeBlock.{MaybeBlock}
-use Rattle.numbers.specs.declared.MaybeBlock.the-variants.{At, Absent}
 use Rattle.columns.specs.First.{firstBelow}
 use Rattle.links.specs.Blocks.{itemLimit, Ends}
 use Rattle.links.specs.Links.{absent, LiesBeyond, onSide}
@@ -29,8 +27,8 @@ blockIn ends n p = firstBelow (λ (i : ℕ). ltb p (getD ends i 0)) n
 abbrev pub spaceOf : Side → List ℕ → ℕ → SplitUse → SplitUse → Space
 spaceOf side ends n u v =
     record {
-      edge = preferred side (u .inst .0) (v .inst .0);
-      end = farEnd side (u .inst .0) (v .inst .0);
+      edge = record { 0 = preferred side (u .inst .0) (v .inst .0) };
+      end = record { 0 = farEnd side (u .inst .0) (v .inst .0) };
       near = nearWeight side (near side u v);
       far = onSide side (far side u v .«right_weight») (far side u v .«left_weight»);
       main = far side u v .weight;
@@ -42,12 +40,6 @@ spaceOf side ends n u v =
 pub record Leads (side : Side) (links : List ℕ) : Type 0 where
   pub few : length links ≤ itemLimit
   pub each : (b : ℕ) → b < length links → (getD links b 0 ≡ absent) ⊎ ((getD links b 0 < length links) × LiesBeyond side b (getD links b 0))
-
--- the block at whose edge the next cut stands
-unfoldable pub nextCut : Side → List ℕ → ℕ → ℕ → MaybeBlock
-nextCut side links last b =
-    let c = getD links b 0 in
-    cond (ltb c (length links) && reaches side last c) (At (record { 0 = c })) Absent
 
 -- the blocks at whose edges cuts stand, by stored links
 unfoldable pub followed : Side → List ℕ → ℕ → ℕ → ℕ → List ℕ
@@ -68,7 +60,7 @@ freqIn freqs b = valueOf frequencyLimit (getD freqs b 0)
 abbrev pub spaceGaps : Side → List ℕ → List ℕ → List ℕ → Space → List Gap
 spaceGaps side freqs edges links s =
     cutGaps side (freqIn freqs) (λ (c : ℕ). getD edges c 0)
-    (s .end) (s .far ∷ s .main ∷ []) (s .edge) (s .near) (s .block .0) (cutsIn side links (s .last .0) (s .block .0))
+    (s .end .0) (s .far ∷ s .main ∷ []) (s .edge .0) (s .near) (s .block .0) (cutsIn side links (s .last .0) (s .block .0))
 
 -- the gaps between n neighbouring uses from the i-th on
 abbrev pub sideGaps : Side → List ℕ → List ℕ → List ℕ → List ℕ → UseColumns → ℕ → ℕ → List Gap

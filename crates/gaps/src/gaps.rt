@@ -20,11 +20,11 @@ ghost use Rattle.columns.specs.Table.{table, filled};
 ghost use Rattle.links.specs.Links.{onSide};
 ghost use Rattle.gaps.specs.Gaps.{gapsOf, initialGap, Cuttable, usesIn};
 ghost use Rattle.gaps.specs.GapColumns.{gapColumns, withRow, withGap, storedGaps, Rows, GapsHeld};
-ghost use Rattle.gaps.specs.Cutting.{Ordered, spaceOf, Leads, nextCut, cutsIn, freqIn, Alike, spaceGaps, sideGaps, ownIn, InOrder};
+ghost use Rattle.gaps.specs.Cutting.{Ordered, spaceOf, Leads, cutsIn, freqIn, Alike, spaceGaps, sideGaps, ownIn, InOrder};
 
 // What stands left of the best use, or right of it.
-fn on_side(side: Side, left: u32, right: u32) -> u32
-    ensures { λ r. ⌜ r ≡ onSide side left right ⌝ }
+fn on_side(side: Side, left: Inst, right: Inst) -> Inst
+    ensures { λ r. ⌜ r .0 ≡ onSide side (left .0) (right .0) ⌝ }
 {
     match side {
         Side::Previous => left,
@@ -35,8 +35,8 @@ fn on_side(side: Side, left: u32, right: u32) -> u32
 // Two neighbouring uses and the space between them, from the use nearer to the best one to the farther one: where it begins and
 // ends, the weights placed in it, the block in which cutting begins, and the farther use's block.
 struct Space {
-    pub edge: u32,
-    pub end: u32,
+    pub edge: Inst,
+    pub end: Inst,
     pub near: f32,
     pub far: f32,
     pub main: f32,
@@ -49,11 +49,11 @@ fn space_between(side: Side, end: &[u32], n: usize, u: SplitUse, v: SplitUse, hi
     requires { ⌜ Ordered (now end) n u v ⌝ }
     ensures { λ r. ⌜ r ≡ spaceOf side (now (end .entry)) n u v ⌝ }
 {
-    let p = u.inst.0;
-    let q = v.inst.0;
+    let p = u.inst;
+    let q = v.inst;
     if let Side::Previous = side {
-        let last = block_near(end, n, Inst(p), hint);
-        let block = block_near(end, n, Inst(q - 1), last);
+        let last = block_near(end, n, p, hint);
+        let block = block_near(end, n, Inst(q.0 - 1), last);
         return Space {
             edge: q,
             end: p,
@@ -64,11 +64,12 @@ fn space_between(side: Side, end: &[u32], n: usize, u: SplitUse, v: SplitUse, hi
             last,
         };
     }
-    let block = block_near(end, n, Inst(p + 1), hint);
-    let last = block_near(end, n, Inst(q), block);
+    let edge = Inst(p.0 + 1);
+    let block = block_near(end, n, edge, hint);
+    let last = block_near(end, n, q, block);
     Space {
-        edge: p + 1,
-        end: q + 1,
+        edge,
+        end: Inst(q.0 + 1),
         near: u.right_weight,
         far: v.left_weight,
         main: v.weight,
@@ -85,21 +86,7 @@ fn later_block(side: Side, s: Space) -> Block {
     }
 }
 
-// The block at whose edge the next cut stands: the lower link, if it does not lead beyond the farther use's block.
-fn next_cut(side: Side, links: &[u32], b: Block, last: Block) -> MaybeBlock
-    requires { ⌜ Leads side (now links) × (b .0 < length (now links)) ⌝ }
-    ensures { λ r. ⌜ r ≡ nextCut side (now (links .entry)) (last .0) (b .0) ⌝ }
-{
-    let MaybeBlock::At(lower) = link_at(links, b) else {
-        return MaybeBlock::Absent;
-    };
-    if reaches(side, last, lower) {
-        return MaybeBlock::At(lower);
-    }
-    MaybeBlock::Absent
-}
-
-// How many cuts there are.
+// How many cuts there are: one at each lower link, as long as none leads beyond the farther use's block.
 fn count_cuts(side: Side, links: &[u32], b: Block, last: Block) -> usize
     requires { ⌜ Leads side (now links) × (b .0 < length (now links)) ⌝ }
     ensures { λ r. ⌜ r ≡ length (cutsIn side (now (links .entry)) (last .0) (b .0)) ⌝ }
@@ -107,9 +94,12 @@ fn count_cuts(side: Side, links: &[u32], b: Block, last: Block) -> usize
     let mut b = b;
     let mut n: usize = 0;
     loop {
-        let MaybeBlock::At(lower) = next_cut(side, links, b, last) else {
+        let MaybeBlock::At(lower) = link_at(links, b) else {
             break;
         };
+        if !reaches(side, last, lower) {
+            break;
+        }
         b = lower;
         n += 1;
     }
@@ -153,8 +143,8 @@ fn put_gap(
     freq: &mut [f32],
     at: usize,
     side: Side,
-    edge: u32,
-    farther: u32,
+    edge: Inst,
+    farther: Inst,
     w: f32,
     f: f32,
 )
@@ -162,10 +152,12 @@ fn put_gap(
     ensures { λ _. ⌜
         (let lent = gapColumns (now (from .entry)) (now (to .entry)) (now (weight .entry)) (now (freq .entry)) in
         let after = gapColumns (now (from .exit)) (now (to .exit)) (now (weight .exit)) (now (freq .exit)) in
-        after ≡ withRow lent at (onSide side farther edge) (onSide side edge farther) w f) ⌝ }
+        after ≡ withRow lent at (onSide side (farther .0) (edge .0)) (onSide side (edge .0) (farther .0)) w f) ⌝ }
 {
-    from[at] = on_side(side, farther, edge);
-    to[at] = on_side(side, edge, farther);
+    let a = on_side(side, farther, edge);
+    let e = on_side(side, edge, farther);
+    from[at] = a.0;
+    to[at] = e.0;
     weight[at] = w;
     freq[at] = f;
 }
@@ -210,11 +202,15 @@ fn cut_space(
     let mut edge = s.edge;
     let mut w = s.near;
     loop {
-        let MaybeBlock::At(lower) = next_cut(side, links, b, last) else {
+        let MaybeBlock::At(lower) = link_at(links, b) else {
             break;
         };
+        if !reaches(side, last, lower) {
+            break;
+        }
         let i = lower.0 as usize;
-        let e = edges[i];
+        let place = edges[i];
+        let e = Inst(place);
         let f = block_frequency(freq, b);
         put_gap(from, to, weight, min_freq, at, side, edge, e, w, f);
         at = next_row(side, at);
@@ -317,11 +313,12 @@ fn put_own(
         let after = gapColumns (now (from .exit)) (now (to .exit)) (now (weight .exit)) (now («min_freq» .exit)) in
         after ≡ withGap lent n (ownIn (now (freq .entry)) (now (end .entry)) u)) ⌝ }
 {
-    let p = u.inst.0;
-    let b = block_of(end, freq.len(), Inst(p));
+    let p = u.inst;
+    let b = block_of(end, freq.len(), p);
     let f = block_frequency(freq, b);
     let w = u.weight;
-    put_gap(from, to, weight, min_freq, n, Side::Next, p, p + 1, w, f);
+    let next = Inst(p.0 + 1);
+    put_gap(from, to, weight, min_freq, n, Side::Next, p, next, w, f);
 }
 
 // Nothing is counted yet in the first n rows.

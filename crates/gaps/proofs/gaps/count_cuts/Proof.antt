@@ -4,14 +4,14 @@ use mathlib.Core.List.{List, []}
 use Prim.Native.Nat.{ℕ, suc, _+_, _≤_, _<_}
 use native.Mathlib.Omega.{arith}
 use borrow.Author.Needs.{needs}
+use borrow.Author.Tests.{not-true, not-false}
 use lib.ListN.{length}
-use Rattle.numbers.specs.declared.MaybeBlock.{MaybeBlock}
 use Rattle.numbers.specs.declared.MaybeBlock.the-variants.{At, Absent}
 use Rattle.links.specs.Blocks.{itemLimit}
 use Rattle.links.specs.Links.{beside}
 use Rattle.links.specs.declared.lower.Side.{Side}
-use Rattle.gaps.specs.Cutting.{Leads, nextCut, followed, cutsIn}
-use Rattle.gaps.proofs.Cuts.{one-more, followed-end, followed-few, all-enough}
+use Rattle.gaps.specs.Cutting.{Leads, followed, cutsIn}
+use Rattle.gaps.proofs.Cuts.{nextCut, cut-gone, cut-at, cut-stopped, one-more, followed-end, followed-few, all-enough}
 use Rattle.gaps.proofs.gaps.count_cuts.Statement.{statement}
 use Rattle.gaps.proofs.gaps.count_cuts.Tie as tie
 
@@ -56,8 +56,8 @@ abbrev μ-loop : tie.MeasureT-loop
 loop-holds : tie.Need-loop-holds Inv-loop μ-loop
 loop-holds c = let a = c .before .args in let p = c .before .pre in starts (a .side) (a .links .now) (a .last .0) (a .b .0) (p .0) (p .1)
 
-next-cut-requires : tie.Need-next-cut-requires Inv-loop μ-loop
-next-cut-requires c κs = (c .loop .inv .leads, c .loop .inv .inside)
+link-at-requires : tie.Need-link-at-requires Inv-loop μ-loop
+link-at-requires c κs = c .loop .inv .inside
 
 enum-known-lower : tie.Need-enum-known-lower Inv-loop μ-loop
 enum-known-lower c = search needs
@@ -65,22 +65,28 @@ enum-known-lower c = search needs
 enum-told : tie.Need-enum-told Inv-loop μ-loop
 enum-told c = search needs
 
-next : (c : tie.After-known-told Inv-loop μ-loop)
-    → let a = c .before .before .before .before .before .before .args in
-    let l = c .before .before .before .before .loop in
-    let d = c .before .lower .given .0 .0 .0 in
+reaches-requires : tie.Need-reaches-requires Inv-loop μ-loop
+reaches-requires c κs = tt
+
+next : (c : tie.Else1 Inv-loop μ-loop)
+    → let a = c .before .before .before .before .before .before .before .before .args in
+    let l = c .before .before .before .before .before .before .loop in
+    let d = c .before .before .before .lower .given .0 .0 .0 in
     Counting (a .side) (a .links .now) (a .last .0) (a .b .0) d (l .n + 1)
     × (beside (a .side) (length (a .links .now)) d < beside (a .side) (length (a .links .now)) (l .b .0))
 next c =
-    let a = c .before .before .before .before .before .before .args in
-    let l = c .before .before .before .before .loop in
-    goes-on (a .side) (a .links .now) (a .last .0) (a .b .0) (l .b .0) (l .n) (l .inv) (c .before .lower .given .0 .0 .0)
-    (sym (c .before .before .before .next-cut .ensures) ∙ c .before .lower .given .1)
+    let a = c .before .before .before .before .before .before .before .before .args in
+    let l = c .before .before .before .before .before .before .loop in
+    let lower = c .before .before .before .lower .given in
+    goes-on (a .side) (a .links .now) (a .last .0) (a .b .0) (l .b .0) (l .n) (l .inv) (lower .0 .0 .0)
+    (sym
+    (cut-at (a .side) (a .links .now) (l .inv .leads) (a .last .0) (l .b .0) (l .inv .inside) (lower .0 .0 .0)
+    (sym (c .before .before .before .before .before .link-at .ensures) ∙ lower .1) (sym (c .before .reaches .ensures) ∙ not-false _ (c .if1 .left))))
 
 add-n : tie.Need-add-n Inv-loop μ-loop
 add-n c =
-    let a = c .before .before .before .before .before .before .args in
-    let l = c .before .before .before .before .loop in
+    let a = c .before .before .before .before .before .before .before .before .args in
+    let l = c .before .before .before .before .before .before .loop in
     let s = small (a .side) (a .links .now) (a .last .0) (a .b .0) (l .b .0) (l .n) (l .inv) in
     omega (arith, s)
 
@@ -94,7 +100,20 @@ returns : tie.Need-returns Inv-loop μ-loop
 returns c =
     let a = c .before .before .before .before .before .args in
     let l = c .before .before .before .loop in
-    ends (a .side) (a .links .now) (a .last .0) (a .b .0) (l .b .0) (l .n) (l .inv) (sym (c .before .before .next-cut .ensures) ∙ c .enum-told .given .1)
+    ends (a .side) (a .links .now) (a .last .0) (a .b .0) (l .b .0) (l .n) (l .inv)
+    (sym
+    (cut-gone (a .side) (a .links .now) (l .inv .leads) (a .last .0) (l .b .0) (l .inv .inside)
+    (sym (c .before .before .link-at .ensures) ∙ c .enum-told .given .1)))
+
+returns-2 : tie.Need-returns-2 Inv-loop μ-loop
+returns-2 c =
+    let a = c .before .before .before .before .before .before .before .before .args in
+    let l = c .before .before .before .before .before .before .loop in
+    let lower = c .before .before .before .lower .given in
+    ends (a .side) (a .links .now) (a .last .0) (a .b .0) (l .b .0) (l .n) (l .inv)
+    (sym
+    (cut-stopped (a .side) (a .links .now) (l .inv .leads) (a .last .0) (l .b .0) (l .inv .inside) (lower .0 .0 .0)
+    (sym (c .before .before .before .before .before .link-at .ensures) ∙ lower .1) (sym (c .before .reaches .ensures) ∙ not-true _ (c .if1 .taken))))
 
 pub count-cuts-spec : {M : Type 1} → statement M
 count-cuts-spec =
@@ -103,10 +122,12 @@ count-cuts-spec =
     Inv-loop
     μ-loop
     loop-holds
-    next-cut-requires
+    link-at-requires
     enum-known-lower
     enum-told
+    reaches-requires
     add-n
     loop-less
     loop-again
-    returns)
+    returns
+    returns-2)

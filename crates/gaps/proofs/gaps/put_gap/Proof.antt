@@ -12,14 +12,14 @@ use Rattle.gaps.proofs.gaps.on_side.Reads as on-side-reads
 on-side-requires : tie.Need-on-side-requires
 on-side-requires c κs = search needs
 
+on-side-requires-2 : tie.Need-on-side-requires-2
+on-side-requires-2 c κs = search needs
+
 mul-from : tie.Need-mul-from
 mul-from c = search needs
 
 slice-write-from : tie.Need-slice-write-from
 slice-write-from c = search needs
-
-on-side-requires-2 : tie.Need-on-side-requires-2
-on-side-requires-2 c κs = search needs
 
 mul-to : tie.Need-mul-to
 mul-to c = search needs
@@ -63,9 +63,9 @@ put-gap-spec =
     tie.close
     (tie.spec
     on-side-requires
+    on-side-requires-2
     mul-from
     slice-write-from
-    on-side-requires-2
     mul-to
     slice-write-to
     mul-weight

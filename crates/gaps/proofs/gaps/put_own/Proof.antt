@@ -17,13 +17,13 @@ block-of-requires c κs = search needs
 
 block-frequency-requires : tie.Need-block-frequency-requires
 block-frequency-requires c κs =
-    let a = c .before .before .before .before .before .before .before .args in
-    let h = ends-inside (a .end .now) (length (a .freq .now)) (a .u .inst .0) (c .before .before .before .before .before .before .before .pre .0) in
+    let a = c .before .before .before .before .before .before .before .before .args in
+    let h = ends-inside (a .end .now) (length (a .freq .now)) (a .u .inst .0) (c .before .before .before .before .before .before .before .before .pre .0) in
     let e = c .block-of .ensures in
     omega (arith, h, e)
 
-add-put-gap : tie.Need-add-put-gap
-add-put-gap c = search needs
+add-t15 : tie.Need-add-t15
+add-t15 c = search needs
 
 put-gap-requires : tie.Need-put-gap-requires
 put-gap-requires c κs = search needs
@@ -44,9 +44,9 @@ returns : tie.Need-returns
 unfolding plus
 returns c =
     let at-put-gap = c .before .before .before .before .before .before .before .before in
-    let at-block-frequency = at-put-gap .before .before .before .before .before in
+    let at-block-frequency = at-put-gap .before .before .before .before .before .before in
     let at-block-of = at-block-frequency .before in
-    let at-args = at-block-of .before .before .before .before .before .before .before in
+    let at-args = at-block-of .before .before .before .before .before .before .before .before in
     let a = at-args .args in
     let cols = gapColumns (a .from .now) (a .to .now) (a .weight .now) (a .min-freq .now) in
     at-put-gap .put-gap .ensures
@@ -59,7 +59,7 @@ put-own-spec =
     (tie.spec
     block-of-requires
     block-frequency-requires
-    add-put-gap
+    add-t15
     put-gap-requires
     same-length
     same-length-2

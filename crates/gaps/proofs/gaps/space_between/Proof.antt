@@ -13,8 +13,8 @@ use Rattle.gaps.proofs.gaps.space_between.Tie as tie
 
 space-left : (ends : List ℕ) (n : ℕ) (u v : SplitUse) {x y : ℕ} → x ≡ blockIn ends n (v .inst .0 - 1) → y ≡ blockIn ends n (u .inst .0)
     → _≡_ {A = Space} (record {
-      edge = v .inst .0;
-      end = u .inst .0;
+      edge = record { 0 = v .inst .0 };
+      end = record { 0 = u .inst .0 };
       near = v .«left_weight»;
       far = u .«right_weight»;
       main = u .weight;
@@ -26,8 +26,8 @@ space-left ends n u v p q =
     ap₂
     (λ (x y : ℕ).
     record {
-      edge = v .inst .0;
-      end = u .inst .0;
+      edge = record { 0 = v .inst .0 };
+      end = record { 0 = u .inst .0 };
       near = v .«left_weight»;
       far = u .«right_weight»;
       main = u .weight;
@@ -37,8 +37,8 @@ space-left ends n u v p q =
 
 space-right : (ends : List ℕ) (n : ℕ) (u v : SplitUse) {x y : ℕ} → x ≡ blockIn ends n (u .inst .0 + 1) → y ≡ blockIn ends n (v .inst .0)
     → _≡_ {A = Space} (record {
-      edge = u .inst .0 + 1;
-      end = v .inst .0 + 1;
+      edge = record { 0 = u .inst .0 + 1 };
+      end = record { 0 = v .inst .0 + 1 };
       near = u .«right_weight»;
       far = v .«left_weight»;
       main = v .weight;
@@ -50,8 +50,8 @@ space-right ends n u v p q =
     ap₂
     (λ (x y : ℕ).
     record {
-      edge = u .inst .0 + 1;
-      end = v .inst .0 + 1;
+      edge = record { 0 = u .inst .0 + 1 };
+      end = record { 0 = v .inst .0 + 1 };
       near = u .«right_weight»;
       far = v .«left_weight»;
       main = v .weight;
@@ -73,15 +73,15 @@ block-near-requires-2 c κs = search needs
 
 returns : tie.Need-returns
 returns c =
-    let a = c .before .before .before .before .before .args in
-    space-left (a .end .now) (a .n) (a .u) (a .v) (c .block-near2 .ensures) (c .before .block-near .ensures)
-    ∙ ap (λ (s : Side). spaceOf s (a .end .now) (a .n) (a .u) (a .v)) (sym (c .before .before .enum-told .given .1))
+    let a = c .before .before .before .before .before .before .before .before .args in
+    space-left (a .end .now) (a .n) (a .u) (a .v) (c .block-near2 .ensures) (c .before .before .block-near .ensures)
+    ∙ ap (λ (s : Side). spaceOf s (a .end .now) (a .n) (a .u) (a .v)) (sym (c .before .before .before .enum-told .given .1))
 
 enum-told-2 : tie.Need-enum-told-2
 enum-told-2 c = search needs
 
-add-t15 : tie.Need-add-t15
-add-t15 c = search needs
+add-t16 : tie.Need-add-t16
+add-t16 c = search needs
 
 block-near-requires-3 : tie.Need-block-near-requires-3
 block-near-requires-3 c κs = search needs
@@ -89,17 +89,14 @@ block-near-requires-3 c κs = search needs
 block-near-requires-4 : tie.Need-block-near-requires-4
 block-near-requires-4 c κs = search needs
 
-add-t15-2 : tie.Need-add-t15-2
-add-t15-2 c = search needs
-
-add-t17 : tie.Need-add-t17
-add-t17 c = search needs
+add-t16-2 : tie.Need-add-t16-2
+add-t16-2 c = search needs
 
 returns-2 : tie.Need-returns-2
 returns-2 c =
-    let a = c .before .before .before .before .before .args in
-    space-right (a .end .now) (a .n) (a .u) (a .v) (c .before .block-near3 .ensures) (c .block-near4 .ensures)
-    ∙ ap (λ (s : Side). spaceOf s (a .end .now) (a .n) (a .u) (a .v)) (sym (c .before .before .enum-told2 .given .1))
+    let a = c .before .before .before .before .before .before .before .before .before .args in
+    space-right (a .end .now) (a .n) (a .u) (a .v) (c .before .before .block-near3 .ensures) (c .before .block-near4 .ensures)
+    ∙ ap (λ (s : Side). spaceOf s (a .end .now) (a .n) (a .u) (a .v)) (sym (c .before .before .before .before .enum-told2 .given .1))
 
 pub space-between-spec : {M : Type 1} → statement M
 space-between-spec =
@@ -111,9 +108,8 @@ space-between-spec =
     block-near-requires-2
     returns
     enum-told-2
-    add-t15
+    add-t16
     block-near-requires-3
     block-near-requires-4
-    add-t15-2
-    add-t17
+    add-t16-2
     returns-2)
