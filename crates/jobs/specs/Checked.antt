@@ -1,8 +1,4 @@
 -- A job's rows after the checks, with their indices as types, and the plain rows back, of which the definitions speak
-use Rattle.numbers.specs.declared.Inst.{Inst}
-use Rattle.numbers.specs.declared.Point.{Point}
-use Rattle.numbers.specs.declared.Unit.{Unit}
-use Rattle.numbers.specs.declared.Value.{Value}
 use Rattle.jobs.specs.declared.rows.Segment.{Segment}
 use Rattle.jobs.specs.declared.rows.Use.{Use}
 use Rattle.jobs.specs.declared.rows.Reservation.{Reservation}

@@ -83,15 +83,15 @@ countedLists uses freqs ends segments codes scales (suc n) c =
     countedList uses freqs ends s (getD codes (s .value) 0) scales (s .«end_use» - s .«first_use») (countedLists uses freqs ends segments codes scales n c)
 
 -- the columns, and the number of rows stored
-pub record Held : Type 0 where
+pub record StoredUses : Type 0 where
   pub cols : UseColumns
   pub rows : ℕ
 
-abbrev pub heldIn : UseColumns → ℕ → Held
+abbrev pub heldIn : UseColumns → ℕ → StoredUses
 heldIn cols rows = record { cols = cols; rows = rows }
 
 -- the latest row stored, and behind it that of the last instruction where that is another
-unfoldable pub withLast : Collecting → ℕ → Held
+unfoldable pub withLast : Collecting → ℕ → StoredUses
 withLast c last =
     cond (eqb (c .latest .inst .0) last) (heldIn (withUse (c .cols) (c .rows) (c .latest)) (c .rows + 1))
     (heldIn (withUse (withUse (c .cols) (c .rows) (c .latest)) (c .rows + 1) (noWeights last)) (c .rows + 2))

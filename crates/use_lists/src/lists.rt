@@ -1,9 +1,9 @@
 // The uses of the segments' lists, collected in use order.
-use jobs::rows::Segment;
+use jobs::checked::LiveSegment;
+use jobs::checked::live_segment_at;
+use jobs::checked::placed_use_at;
 use jobs::rows::cell;
-use jobs::rows::segment_at;
 use jobs::rows::segment_count;
-use jobs::rows::use_at as job_use;
 use links::blocks::block_near;
 use numbers::Block;
 use numbers::Inst;
@@ -23,6 +23,7 @@ ghost use Rattle.use_rows.specs.UseColumns.{useColumns, Inside};
 ghost use Rattle.use_lists.specs.Collecting.{collecting, isStored, addedBefore, added, counted, countedList, countedLists};
 ghost use Rattle.use_lists.specs.Collecting.{heldIn, withLast, Listing, Listings, RowsLeft};
 ghost use Rattle.jobs.specs.Rows.{usesOf, segmentsOf};
+ghost use Rattle.jobs.specs.Checked.{plainSegment};
 ghost use Rattle.links.specs.Blocks.{Ends};
 ghost use Rattle.numbers.specs.Weight.{frequencyLimit, valueOf};
 ghost use lib.Ieee.{binary32, mul};
@@ -138,7 +139,7 @@ fn weight_in(freq: &[u32], cost: f32, b: Block) -> f32
 fn count_use(
     freq: &[u32],
     end: &[u32],
-    s: Segment,
+    s: LiveSegment,
     p: Inst,
     cost: f32,
     inst: &mut [u32],
@@ -152,7 +153,7 @@ fn count_use(
     ensures { λ r. ⌜
         (let lent = useColumns (now (inst .entry)) (now (weight .entry)) (now («left_weight» .entry)) (now («right_weight» .entry)) in
         let after = useColumns (now (inst .exit)) (now (weight .exit)) (now («left_weight» .exit)) (now («right_weight» .exit)) in
-        collecting after r ≡ counted (now (freq .entry)) (now (end .entry)) s (p .0) cost (collecting lent done)) ⌝ }
+        collecting after r ≡ counted (now (freq .entry)) (now (end .entry)) (plainSegment s) (p .0) cost (collecting lent done)) ⌝ }
 {
     if cost == 0.0 {
         return done;
@@ -174,7 +175,7 @@ fn collect_list(
     cost: &[u32],
     freq: &[u32],
     end: &[u32],
-    s: Segment,
+    s: LiveSegment,
     code: u32,
     scales: RematScales,
     inst: &mut [u32],
@@ -183,7 +184,7 @@ fn collect_list(
     right_weight: &mut [f32],
     done: Collected,
 ) -> Collected
-    requires { ⌜ Listing (usesOf (now position) (now kind) (now cost)) (now end) (length (now freq)) s ⌝ }
+    requires { ⌜ Listing (usesOf (now position) (now kind) (now cost)) (now end) (length (now freq)) (plainSegment s) ⌝ }
     requires { ⌜
         (let lent = useColumns (now inst) (now weight) (now «left_weight») (now «right_weight») in
         RowsLeft (s .«end_use» - s .«first_use») (collecting lent done)) ⌝ }
@@ -192,19 +193,19 @@ fn collect_list(
         let lent = useColumns (now (inst .entry)) (now (weight .entry)) (now («left_weight» .entry)) (now («right_weight» .entry)) in
         let after = useColumns (now (inst .exit)) (now (weight .exit)) (now («left_weight» .exit)) (now («right_weight» .exit)) in
         collecting after r ≡
-        countedList uses (now (freq .entry)) (now (end .entry)) s code scales (s .«end_use» - s .«first_use») (collecting lent done)) ⌝ }
+        countedList uses (now (freq .entry)) (now (end .entry)) (plainSegment s) code scales (s .«end_use» - s .«first_use») (collecting lent done)) ⌝ }
 {
     let mut done = done;
     let mut i = s.first_use as usize;
     let n = s.end_use as usize;
     while i < n {
-        let u = job_use(position, kind, cost, i);
+        let u = placed_use_at(position, kind, cost, i);
         let c = use_spill_cost(u.kind, u.cost, code, scales);
         done = count_use(
             freq,
             end,
             s,
-            Inst(u.position),
+            u.position,
             c,
             inst,
             weight,
@@ -259,8 +260,8 @@ pub fn collect_lists(
     let mut done = done;
     let mut i: usize = 0;
     while i < n {
-        let s = segment_at(start, end, value, first_use, end_use, flags, i);
-        let c = cell(code, s.value as usize);
+        let s = live_segment_at(start, end, value, first_use, end_use, flags, i);
+        let c = cell(code, s.value.0 as usize);
         done = collect_list(
             position,
             kind,

@@ -1,7 +1,8 @@
 // The rows of the use table, and the best use.
-use jobs::rows::Segment;
+use jobs::checked::LiveSegment;
 use numbers::Inst;
 ghost use mathlib.Core.Path.{_≡_};
+ghost use Rattle.jobs.specs.Checked.{plainSegment};
 ghost use Rattle.use_rows.specs.Uses.{AllWeights, bestUse, partOf, noWeights, addedToRow};
 ghost use Rattle.use_rows.specs.UseColumns.{useColumns, Inside, withUse, useIn};
 
@@ -27,14 +28,14 @@ pub enum BestUse {
 }
 
 // The weight to which a use at an instruction adds. A use outside its segment's live range counts only on the side where that lies.
-pub fn part_of(s: Segment, inst: Inst) -> Part
-    ensures { λ r. ⌜ r ≡ partOf s (inst .0) ⌝ }
+pub fn part_of(s: LiveSegment, inst: Inst) -> Part
+    ensures { λ r. ⌜ r ≡ partOf (plainSegment s) (inst .0) ⌝ }
 {
     let p = inst.0 as u64;
-    if 4 * (p + 1) == (s.start as u64) {
+    if 4 * (p + 1) == (s.start.0 as u64) {
         return Part::Right;
     }
-    if 4 * p == (s.end as u64) {
+    if 4 * p == (s.end.0 as u64) {
         return Part::Left;
     }
     Part::Main

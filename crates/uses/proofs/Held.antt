@@ -12,7 +12,7 @@ use Rattle.links.specs.Blocks.{blocksOf, SoundColumns}
 use Rattle.use_rows.specs.Uses.{Source, seenOf, noWeights, firstInst, lastInst, useTableOf}
 use Rattle.use_rows.specs.UseColumns.{UseColumns, Inside, Holds}
 use Rattle.uses.specs.CheckedUses.{CheckedUses}
-use Rattle.use_lists.specs.Collecting.{Collecting, countedLists, RowsLeft, Held, withLast}
+use Rattle.use_lists.specs.Collecting.{Collecting, countedLists, RowsLeft, StoredUses, withLast}
 use Rattle.uses.proofs.Fills.{fill-inside}
 use Rattle.uses.proofs.Adding.{Stored, stored-first}
 use Rattle.use_rows.proofs.Rows.{inside-less}
@@ -60,7 +60,7 @@ module _ (job : Source) (checked : CheckedUses job) (fs ss es : List ℕ) (w : S
       by : (b : Bool) → eqb (collected .latest .inst .0) last ≡ b → Holds (useTableOf job) lent (withLast collected last .cols) (withLast collected last .rows)
       by true e =
           let f = eqb-true (collected .latest .inst .0) last e in
-          subst (λ (x : Held). Holds (useTableOf job) lent (x .cols) (x .rows)) (sym (cond-true _ _ e))
+          subst (λ (x : StoredUses). Holds (useTableOf job) lent (x .cols) (x .rows)) (sym (cond-true _ _ e))
           (record {
             cols = whole-same (seenOf job) (firstInst (job .segments)) last (length (job .uses)) lent collected stored room within f;
             count =
@@ -68,7 +68,7 @@ module _ (job : Source) (checked : CheckedUses job) (fs ss es : List ℕ) (w : S
           })
       by false e =
           let f = eqb-false (collected .latest .inst .0) last e in
-          subst (λ (x : Held). Holds (useTableOf job) lent (x .cols) (x .rows)) (sym (cond-false _ _ e))
+          subst (λ (x : StoredUses). Holds (useTableOf job) lent (x .cols) (x .rows)) (sym (cond-false _ _ e))
           (record {
             cols = whole-later (seenOf job) (firstInst (job .segments)) last (length (job .uses)) lent collected stored room within f;
             count =

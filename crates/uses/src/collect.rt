@@ -1,8 +1,8 @@
 // The use table of a checked job.
-use jobs::rows::Segment;
-use jobs::rows::segment_at;
+use jobs::checked::LiveSegment;
+use jobs::checked::live_segment_at;
+use jobs::checked::placed_use_at;
 use jobs::rows::segment_count;
-use jobs::rows::use_at as job_use;
 use numbers::Block;
 use numbers::Inst;
 use numbers::costs::RematScales;
@@ -17,31 +17,33 @@ ghost use Rattle.use_rows.specs.UseColumns.{useColumns, Inside, Holds};
 ghost use Rattle.uses.specs.CheckedUses.{CheckedUses};
 ghost use Rattle.uses.specs.FirstLast.{Starting, Ending};
 ghost use Rattle.jobs.specs.Rows.{usesOf, segmentsOf};
+ghost use Rattle.jobs.specs.Checked.{plainSegment};
 ghost use Rattle.links.specs.Blocks.{blocksOf, SoundColumns};
 ghost use lib.ListN.{length};
 
 // The first instruction of the first segment: that of its start, or the one before it with a fixed def.
-fn first_inst(s: Segment) -> Inst
-    requires { ⌜ Starting s ⌝ }
-    ensures { λ r. ⌜ r .0 ≡ startInst s ⌝ }
+fn first_inst(s: LiveSegment) -> Inst
+    requires { ⌜ Starting (plainSegment s) ⌝ }
+    ensures { λ r. ⌜ r .0 ≡ startInst (plainSegment s) ⌝ }
 {
-    let p = s.start / 4;
+    let p = s.start.inst();
     if s.has_fixeddef() {
-        return Inst(p - 1);
+        return Inst(p.0 - 1);
     }
-    Inst(p)
+    p
 }
 
 // The last instruction of the last segment: the one before its end if it is live-out, else that of its last use.
-fn last_inst(position: &[u32], kind: &[u32], cost: &[u32], s: Segment) -> Inst
-    requires { ⌜ Ending (usesOf (now position) (now kind) (now cost)) s ⌝ }
-    ensures { λ r. ⌜ r .0 ≡ endInst (usesOf (now (position .entry)) (now (kind .entry)) (now (cost .entry))) s ⌝ }
+fn last_inst(position: &[u32], kind: &[u32], cost: &[u32], s: LiveSegment) -> Inst
+    requires { ⌜ Ending (usesOf (now position) (now kind) (now cost)) (plainSegment s) ⌝ }
+    ensures { λ r. ⌜ r .0 ≡ endInst (usesOf (now (position .entry)) (now (kind .entry)) (now (cost .entry))) (plainSegment s) ⌝ }
 {
     if s.has_liveout() {
-        return Inst(s.end / 4 - 1);
+        let end = s.end.inst();
+        return Inst(end.0 - 1);
     }
-    let u = job_use(position, kind, cost, (s.end_use - 1) as usize);
-    Inst(u.position)
+    let u = placed_use_at(position, kind, cost, (s.end_use - 1) as usize);
+    u.position
 }
 
 // Fills the columns with the use table of a checked job, and answers how many rows that has. The rows past them stay. The column
@@ -86,8 +88,8 @@ pub fn collect_uses(
         Holds (useTableOf (sourceOf uses segments (now (code .entry)) scales blocks)) lent after r) ⌝ }
 {
     let n = segment_count(start, end, value, first_use, end_use, flags);
-    let first_segment = segment_at(start, end, value, first_use, end_use, flags, 0);
-    let last_segment = segment_at(start, end, value, first_use, end_use, flags, n - 1);
+    let first_segment = live_segment_at(start, end, value, first_use, end_use, flags, 0);
+    let last_segment = live_segment_at(start, end, value, first_use, end_use, flags, n - 1);
     let last = last_inst(position, kind, cost, last_segment);
     // The first instruction has a row, and so has the last, even if nothing counts there.
     let latest = no_weights(first_inst(first_segment));

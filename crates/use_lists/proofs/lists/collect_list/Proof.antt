@@ -11,6 +11,7 @@ use Rattle.numbers.specs.Cost.{reloadCost, moveCost, spillCost, scaled}
 use Rattle.columns.specs.Table.{shortest}
 use Rattle.links.specs.Blocks.{Ends}
 use Rattle.jobs.specs.Rows.{useRow, usesOf, noUse}
+use Rattle.jobs.specs.Checked.{plainSegment, plainUse}
 use Rattle.jobs.specs.declared.rows.Use.{Use}
 use Rattle.jobs.proofs.Walk.{own-row}
 use Rattle.use_rows.specs.UseColumns.{useColumns}
@@ -22,7 +23,7 @@ use Rattle.use_lists.proofs.lists.collect_list.Tie as tie
 
 abbrev Inv-loop : tie.InvT-loop
 Inv-loop position kind cost freq end s code scales inst₀ weight₀ left-weight₀ right-weight₀ done₀ i₀ n inst weight left-weight right-weight done i =
-    Along (usesOf position kind cost) freq end s code scales
+    Along (usesOf position kind cost) freq end (plainSegment s) code scales
     (collecting (useColumns inst₀ weight₀ left-weight₀ right-weight₀) done₀) i
     (collecting (useColumns inst weight left-weight right-weight) done)
 
@@ -39,13 +40,13 @@ in-list : (c : tie.In-loop Inv-loop μ-loop) → c .before .loop .i < length (us
 in-list c = lt-of-lt-of-le (c .loop-test .taken) (begin c .pre .0 .inside)
 
 -- the row that was read is the table's
-row : (c : tie.After-use-at Inv-loop μ-loop) → c .use-at .result ≡ getD (uses (c .before)) (c .before .before .loop .i) noUse
+row : (c : tie.After-placed-use-at Inv-loop μ-loop) → plainUse (c .placed-use-at .result) ≡ getD (uses (c .before)) (c .before .before .loop .i) noUse
 row d =
     let c = d .before in
     own-row (useRow (begin c .args .position .now) (begin c .args .kind .now) (begin c .args .cost .now))
     (shortest
     (length (begin c .args .position .now) ∷ length (begin c .args .kind .now) ∷ length (begin c .args .cost .now) ∷ []))
-    (c .before .loop .i) noUse (d .use-at .result) (d .use-at .ensures) (in-list c)
+    (c .before .loop .i) noUse (plainUse (d .placed-use-at .result)) (ap plainUse (d .placed-use-at .ensures)) (in-list c)
 
 cast-i : tie.Need-cast-i Inv-loop μ-loop
 cast-i c = search needs
@@ -57,12 +58,12 @@ loop-holds : tie.Need-loop-holds Inv-loop μ-loop
 loop-holds c =
     let at-pre = c .before .before .before .before .before .before .before .before .before .before .before in
     let a = at-pre .args in
-    along-first (usesOf (a .position .now) (a .kind .now) (a .cost .now)) (a .freq .now) (a .end .now) (a .s) (a .code)
+    along-first (usesOf (a .position .now) (a .kind .now) (a .cost .now)) (a .freq .now) (a .end .now) (plainSegment (a .s)) (a .code)
     (a .scales) (collecting (useColumns (a .inst .now) (a .weight .now) (a .left-weight .now) (a .right-weight .now)) (a .done))
     (at-pre .pre .0 .forward) (at-pre .pre .1)
 
-use-at-requires : tie.Need-use-at-requires Inv-loop μ-loop
-use-at-requires c κs = in-list (c)
+placed-use-at-requires : tie.Need-placed-use-at-requires Inv-loop μ-loop
+placed-use-at-requires c κs = in-list (c)
 
 use-spill-cost-requires : tie.Need-use-spill-cost-requires Inv-loop μ-loop
 use-spill-cost-requires c κs = search needs
@@ -99,12 +100,12 @@ loop-again c =
     let a = begin l .args in
     let k = l .before .loop in
     let now = collecting (useColumns (k .inst) (k .weight) (k .left-weight) (k .right-weight)) (k .done) in
-    along-next (uses l) (a .freq .now) (a .end .now) (a .s) (a .code) (a .scales) _ (k .i) now _ (l .loop-test .taken) (k .inv)
+    along-next (uses l) (a .freq .now) (a .end .now) (plainSegment (a .s)) (a .code) (a .scales) _ (k .i) now _ (l .loop-test .taken) (k .inv)
     (at-count-use .count-use .ensures
-    ∙ ap (λ (x : Float). counted (a .freq .now) (a .end .now) (a .s) (u .use-at .result .position) x now)
+    ∙ ap (λ (x : Float). counted (a .freq .now) (a .end .now) (plainSegment (a .s)) (u .placed-use-at .result .position .0) x now)
     (at-use-spill-cost .use-spill-cost .ensures)
     ∙ ap
-    (λ (x : Use). counted (a .freq .now) (a .end .now) (a .s) (x .position)
+    (λ (x : Use). counted (a .freq .now) (a .end .now) (plainSegment (a .s)) (x .position)
     (scaled (a .code) (a .scales) (spillCost reloadCost moveCost (x .kind) (x .cost))) now) (row u))
 
 same-length : tie.Need-same-length Inv-loop μ-loop
@@ -125,7 +126,7 @@ returns c =
     let a = at-args .args in
     c .before .loop .inv .sofar
     ∙ ap
-    (λ (i : ℕ). countedList (usesOf (a .position .now) (a .kind .now) (a .cost .now)) (a .freq .now) (a .end .now) (a .s)
+    (λ (i : ℕ). countedList (usesOf (a .position .now) (a .kind .now) (a .cost .now)) (a .freq .now) (a .end .now) (plainSegment (a .s))
     (a .code) (a .scales) (i - a .s .«first_use»)
     (collecting (useColumns (a .inst .now) (a .weight .now) (a .left-weight .now) (a .right-weight .now)) (a .done)))
     (le-antisymm (c .before .loop .inv .to) (c .loop-test .left))
@@ -139,7 +140,7 @@ collect-list-spec =
     cast-i
     cast-n
     loop-holds
-    use-at-requires
+    placed-use-at-requires
     use-spill-cost-requires
     count-use-requires
     add-i

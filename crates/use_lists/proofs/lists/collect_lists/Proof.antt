@@ -8,6 +8,7 @@ use borrow.Author.Needs.{needs}
 use lib.ListN.{length, getD}
 use Rattle.columns.specs.Table.{shortest}
 use Rattle.jobs.specs.Rows.{segmentRow, segmentsOf, usesOf, noSegment}
+use Rattle.jobs.specs.Checked.{plainSegment}
 use Rattle.jobs.specs.declared.rows.Segment.{Segment}
 use Rattle.jobs.specs.declared.rows.Use.{Use}
 use Rattle.jobs.proofs.Walk.{own-row}
@@ -49,7 +50,8 @@ in-list : (c : tie.In-loop Inv-loop μ-loop) → c .before .loop .i < length (se
 in-list c = lt-of-lt-of-le (c .loop-test .taken) (le-of-eq (c .before .loop .inv .0))
 
 -- the row that was read is the table's
-row : (c : tie.After-segment-at Inv-loop μ-loop) → c .segment-at .result ≡ getD (segments (c .before)) (c .before .before .loop .i) noSegment
+row : (c : tie.After-live-segment-at Inv-loop μ-loop)
+    → plainSegment (c .live-segment-at .result) ≡ getD (segments (c .before)) (c .before .before .loop .i) noSegment
 row d =
     let c = d .before in
     own-row
@@ -58,7 +60,7 @@ row d =
     (shortest
     (length (begin c .args .start .now) ∷ length (begin c .args .end .now) ∷ length (begin c .args .value .now) ∷ length
     (begin c .args .first-use .now) ∷ length (begin c .args .end-use .now) ∷ length (begin c .args .flags .now) ∷ []))
-    (c .before .loop .i) noSegment (d .segment-at .result) (d .segment-at .ensures) (in-list c)
+    (c .before .loop .i) noSegment (plainSegment (d .live-segment-at .result)) (ap plainSegment (d .live-segment-at .ensures)) (in-list c)
 
 segment-count-requires : tie.Need-segment-count-requires Inv-loop μ-loop
 segment-count-requires c κs = search needs
@@ -78,8 +80,8 @@ loop-holds c =
           (at-args .pre .1),
     )
 
-segment-at-requires : tie.Need-segment-at-requires Inv-loop μ-loop
-segment-at-requires c κs = in-list (c)
+live-segment-at-requires : tie.Need-live-segment-at-requires Inv-loop μ-loop
+live-segment-at-requires c κs = in-list (c)
 
 cast-cell : tie.Need-cast-cell Inv-loop μ-loop
 cast-cell c = search needs
@@ -140,8 +142,8 @@ loop-again c =
           (in-list l) (k .inv .1)
           (at-collect-list .collect-list .ensures
           ∙ ap
-          (λ (x : ℕ). countedList (uses l) (a .freq .now) (a .block-end .now) (r .segment-at .result) x (a .scales)
-          (r .segment-at .result .«end_use» - r .segment-at .result .«first_use») now) (at-cell .cell .ensures)
+          (λ (x : ℕ). countedList (uses l) (a .freq .now) (a .block-end .now) (plainSegment (r .live-segment-at .result)) x (a .scales)
+          (r .live-segment-at .result .«end_use» - r .live-segment-at .result .«first_use») now) (at-cell .cell .ensures)
           ∙ ap (λ (s : Segment). countedList (uses l) (a .freq .now) (a .block-end .now) s (getD (a .code .now) (s .value) 0) (a .scales)
           (s .«end_use» - s .«first_use») now) (row r)),
     )
@@ -180,7 +182,7 @@ collect-lists-spec =
     μ-loop
     segment-count-requires
     loop-holds
-    segment-at-requires
+    live-segment-at-requires
     cast-cell
     cell-requires
     collect-list-requires

@@ -8,13 +8,14 @@ use lib.ListN.{length, getD}
 use Rattle.links.specs.Blocks.{blocksOf}
 use Rattle.columns.specs.Table.{shortest}
 use Rattle.jobs.specs.Rows.{segmentRow, segmentsOf, usesOf, noSegment}
+use Rattle.jobs.specs.Checked.{plainSegment}
 use Rattle.jobs.specs.declared.rows.Segment.{Segment}
 use Rattle.jobs.proofs.Walk.{own-row}
 use Rattle.use_rows.specs.declared.row.SplitUse.{SplitUse}
 use Rattle.use_rows.specs.Uses.{Source, sourceOf, noWeights, startInst, endInst, firstInst, lastInst, useTableOf}
 use Rattle.use_rows.specs.UseColumns.{UseColumns, useColumns, Inside, Holds}
 use Rattle.uses.specs.CheckedUses.{CheckedUses}
-use Rattle.use_lists.specs.Collecting.{Collecting, countedLists, RowsLeft, Held, withLast}
+use Rattle.use_lists.specs.Collecting.{Collecting, countedLists, RowsLeft, StoredUses, withLast}
 use Rattle.uses.specs.FirstLast.{Starting, Ending}
 use Rattle.use_rows.proofs.Rows.{inside-less}
 use Rattle.uses.proofs.CheckedJob.{job-starting, job-ending, job-listings}
@@ -50,8 +51,8 @@ row s i x e h =
 less : (n m : ℕ) → n ≡ m → 0 < m → n - 1 < m
 less n m e h = omega (arith, e, h)
 
-head : (c : tie.After-segment-at) →
-    c .segment-at .result ≡ getD
+head : (c : tie.After-live-segment-at) →
+    plainSegment (c .live-segment-at .result) ≡ getD
     (segments
     (c .before .before .before .before .before .before .before .before .before .before .before .before .before .before .before
     .before .before .before .before)) 0 noSegment
@@ -59,9 +60,9 @@ head c =
     let at-stage =
     c .before .before .before .before .before .before .before .before .before .before .before .before .before .before .before
     .before .before .before .before in
-    row (at-stage) 0 (c .segment-at .result) (c .segment-at .ensures) (at-stage .pre .1 .0 .some)
+    row (at-stage) 0 (plainSegment (c .live-segment-at .result)) (ap plainSegment (c .live-segment-at .ensures)) (at-stage .pre .1 .0 .some)
 
-tail-inside : (c : tie.After-segment-at) →
+tail-inside : (c : tie.After-live-segment-at) →
     c .before .segment-count .result - 1 < length
     (segments
     (c .before .before .before .before .before .before .before .before .before .before .before .before .before .before .before
@@ -72,8 +73,8 @@ tail-inside c =
     .before .before .before .before in
     less (c .before .segment-count .result) (length (segments (at-stage))) (c .before .segment-count .ensures) (at-stage .pre .1 .0 .some)
 
-tail : (c : tie.After-segment-at2) →
-    c .segment-at2 .result ≡ getD
+tail : (c : tie.After-live-segment-at2) →
+    plainSegment (c .live-segment-at2 .result) ≡ getD
     (segments
     (c .before .before .before .before .before .before .before .before .before .before .before .before .before .before .before
     .before .before .before .before .before))
@@ -85,7 +86,7 @@ tail c =
     let at-stage =
     c .before .before .before .before .before .before .before .before .before .before .before .before .before .before .before
     .before .before .before .before .before in
-    row (at-stage) (c .before .before .segment-count .result - 1) (c .segment-at2 .result) (c .segment-at2 .ensures)
+    row (at-stage) (c .before .before .segment-count .result - 1) (plainSegment (c .live-segment-at2 .result)) (ap plainSegment (c .live-segment-at2 .ensures))
     (tail-inside (c .before))
     ∙ ap (λ (n : ℕ). getD (segments (at-stage)) (n - 1) noSegment) (c .before .before .segment-count .ensures)
 
@@ -122,11 +123,11 @@ last c =
 segment-count-requires : tie.Need-segment-count-requires
 segment-count-requires c κs = search needs
 
-segment-at-requires : tie.Need-segment-at-requires
-segment-at-requires c κs = search needs
+live-segment-at-requires : tie.Need-live-segment-at-requires
+live-segment-at-requires c κs = search needs
 
-sub-segment-at : tie.Need-sub-segment-at
-sub-segment-at c =
+sub-live-segment-at : tie.Need-sub-live-segment-at
+sub-live-segment-at c =
     let e = c .before .segment-count .ensures in let h = c .before .before .before .before .before .before .before .before .before .before .before .before
     .before .before .before .before .before .before .before .pre .1 .0 .some in
     one (c .before .segment-count .result)
@@ -136,8 +137,8 @@ sub-segment-at c =
     one : (n m : ℕ) → n ≡ m → 0 < m → 1 ≤ n
     one n m e h = omega (arith, e, h)
 
-segment-at-requires-2 : tie.Need-segment-at-requires-2
-segment-at-requires-2 c κs = tail-inside c
+live-segment-at-requires-2 : tie.Need-live-segment-at-requires-2
+live-segment-at-requires-2 c κs = tail-inside c
 
 last-inst-requires : tie.Need-last-inst-requires
 last-inst-requires c κs =
@@ -198,7 +199,7 @@ returns c =
     let s =
     at-stage-2 .before .before .before .before .before .before .before .before .before .before .before .before .before .before
     .before .before .before .before .before .before .before in
-    subst (λ (x : Held). Holds (useTableOf (job s)) (lent s) (x .cols) (x .rows))
+    subst (λ (x : StoredUses). Holds (useTableOf (job s)) (lent s) (x .cols) (x .rows))
     (sym
     (at-put-last .put-last .ensures
     ∙ ap₂ withLast (at-collect-lists .collect-lists .ensures ∙ ap (collected s) (latest (at-stage))) (last (at-stage-2))))
@@ -210,9 +211,9 @@ collect-uses-spec =
     tie.close
     (tie.spec
     segment-count-requires
-    segment-at-requires
-    sub-segment-at
-    segment-at-requires-2
+    live-segment-at-requires
+    sub-live-segment-at
+    live-segment-at-requires-2
     last-inst-requires
     first-inst-requires
     no-weights-requires

@@ -7,25 +7,35 @@ use borrow.Author.Needs.{needs}
 use Rattle.uses.proofs.collect.first_inst.Statement.{statement}
 use Rattle.uses.proofs.collect.first_inst.Tie as tie
 
+inst-requires : tie.Need-inst-requires
+inst-requires c κs = search needs
+
 has-fixeddef-requires : tie.Need-has-fixeddef-requires
 has-fixeddef-requires c κs = search needs
 
 sub-t4 : tie.Need-sub-t4
-sub-t4 c = quarter (c .before .before .before .args .s .start) (c .before .before .before .pre (sym (c .before .has-fixeddef .ensures) ∙ c .if1 .taken))
+sub-t4 c =
+    let s = c .before .before .before .before in
+    quarter (s .args .s .start .0) _ (c .before .before .before .inst .ensures)
+    (s .pre (sym (c .before .before .has-fixeddef .ensures) ∙ c .before .if1 .taken))
   where
-    quarter : (x : ℕ) → 4 ≤ x → 1 ≤ x / 4
-    quarter x h = omega (arith, h)
+    quarter : (x p : ℕ) → p ≡ x / 4 → 4 ≤ x → 1 ≤ p
+    quarter x p e h = omega (arith, e, h)
 
 returns : tie.Need-returns
-returns c = ap (λ (t : Bool). c .before .before .before .args .s .start / 4 - cond t 1 0) (sym (sym (c .before .has-fixeddef .ensures) ∙ c .if1 .taken))
+returns c =
+    ap (λ (p : ℕ). p - 1) (c .before .before .before .inst .ensures)
+    ∙ ap (λ (t : Bool). c .before .before .before .before .args .s .start .0 / 4 - cond t 1 0)
+    (sym (sym (c .before .before .has-fixeddef .ensures) ∙ c .before .if1 .taken))
 
 returns-2 : tie.Need-returns-2
 returns-2 c =
-    whole (c .before .before .before .args .s .start / 4) ∙ ap (λ (t : Bool). c .before .before .before .args .s .start / 4 - cond t 1 0)
-    (sym (sym (c .before .has-fixeddef .ensures) ∙ c .if1 .left))
+    let s = c .before .before .before .args .s in
+    c .before .before .inst .ensures
+    ∙ whole (s .start .0 / 4) ∙ ap (λ (t : Bool). s .start .0 / 4 - cond t 1 0) (sym (sym (c .before .has-fixeddef .ensures) ∙ c .if1 .left))
   where
     whole : (x : ℕ) → x ≡ x - cond false 1 0
     whole x = omega arith
 
 pub first-inst-spec : {M : Type 1} → statement M
-first-inst-spec = tie.close (tie.spec has-fixeddef-requires sub-t4 returns returns-2)
+first-inst-spec = tie.close (tie.spec inst-requires has-fixeddef-requires sub-t4 returns returns-2)
