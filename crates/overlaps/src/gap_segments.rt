@@ -1,6 +1,8 @@
 // Gap segments: all nonempty overlaps of gap and segment, in order.
 use crate::live::least;
 use crate::live::most;
+use numbers::Point;
+use numbers::Value;
 ghost use mathlib.Core.Path.{_≡_};
 ghost use Prim.Native.Nat.{_+_, _*_, _<_};
 ghost use lib.ListN.{length};
@@ -14,25 +16,25 @@ fn put_overlap(
     out_value: &mut [u32],
     out_gap: &mut [u32],
     used: usize,
-    from: u32,
-    to: u32,
-    value: u32,
+    from: Point,
+    to: Point,
+    value: Value,
     gap: u32,
 ) -> usize
     requires { ⌜
         (let lent = segmentColumns (now «out_from») (now «out_to») (now «out_value») (now «out_gap») used in
-        SegmentRoom (length (nonempty from to value gap)) lent) ⌝ }
+        SegmentRoom (length (nonempty (from .0) (to .0) (value .0) gap)) lent) ⌝ }
     ensures { λ r. ⌜
         (let lent = segmentColumns (now («out_from» .entry)) (now («out_to» .entry)) (now («out_value» .entry)) (now («out_gap» .entry)) used in
         let after = segmentColumns (now («out_from» .exit)) (now («out_to» .exit)) (now («out_value» .exit)) (now («out_gap» .exit)) r in
-        after ≡ put (nonempty from to value gap) lent) ⌝ }
+        after ≡ put (nonempty (from .0) (to .0) (value .0) gap) lent) ⌝ }
 {
-    if from >= to {
+    if from.0 >= to.0 {
         return used;
     }
-    out_from[used] = from;
-    out_to[used] = to;
-    out_value[used] = value;
+    out_from[used] = from.0;
+    out_to[used] = to.0;
+    out_value[used] = value.0;
     out_gap[used] = gap;
     used + 1
 }
@@ -47,9 +49,9 @@ struct Cut {
 fn cut_segment(
     from: &[u32],
     to: &[u32],
-    start: u32,
-    end: u32,
-    value: u32,
+    start: Point,
+    end: Point,
+    value: Value,
     out_from: &mut [u32],
     out_to: &mut [u32],
     out_value: &mut [u32],
@@ -58,23 +60,23 @@ fn cut_segment(
     used: usize,
 ) -> Cut
     requires { ⌜ Gaps (now from) (now to) ⌝ }
-    requires { ⌜ (start < end) × EndedBy (now from) (now to) start gap ⌝ }
+    requires { ⌜ (start .0 < end .0) × EndedBy (now from) (now to) (start .0) gap ⌝ }
     requires { ⌜
-        (let overlaps = overlapsOf (now from) (now to) start end value in
+        (let overlaps = overlapsOf (now from) (now to) (start .0) (end .0) (value .0) in
         let lent = segmentColumns (now «out_from») (now «out_to») (now «out_value») (now «out_gap») used in
         SegmentRoom (length overlaps) lent) ⌝ }
     ensures { λ r. ⌜
-        (let overlaps = overlapsOf (now (from .entry)) (now (to .entry)) start end value in
+        (let overlaps = overlapsOf (now (from .entry)) (now (to .entry)) (start .0) (end .0) (value .0) in
         let lent = segmentColumns (now («out_from» .entry)) (now («out_to» .entry)) (now («out_value» .entry)) (now («out_gap» .entry)) used in
         let after = segmentColumns (now («out_from» .exit)) (now («out_to» .exit)) (now («out_value» .exit)) (now («out_gap» .exit)) (r .used) in
-        EndedBy (now (from .entry)) (now (to .entry)) end (r .gap) × (after ≡ put overlaps lent)) ⌝ }
+        EndedBy (now (from .entry)) (now (to .entry)) (end .0) (r .gap) × (after ≡ put overlaps lent)) ⌝ }
 {
     let mut g = gap;
     let mut n = used;
     while g < from.len() {
         let t = 4 * to[g];
-        let a = most(start, 4 * from[g]);
-        let e = least(end, t);
+        let a = Point(most(start.0, 4 * from[g]));
+        let e = Point(least(end.0, t));
         n = put_overlap(
             out_from,
             out_to,
@@ -86,7 +88,7 @@ fn cut_segment(
             value,
             g as u32,
         );
-        if t >= end {
+        if t >= end.0 {
             return Cut { gap: g, used: n };
         }
         g += 1;
@@ -125,9 +127,9 @@ pub fn build_gap_segments(
         let cut = cut_segment(
             from,
             to,
-            start[i],
-            end[i],
-            value[i],
+            Point(start[i]),
+            Point(end[i]),
+            Value(value[i]),
             out_from,
             out_to,
             out_value,

@@ -1,4 +1,5 @@
 // Live instructions of segments and of gaps.
+use numbers::Inst;
 use numbers::Point;
 ghost use mathlib.Core.Path.{_≡_};
 ghost use Prim.Native.Nat.{_+_, _-_, _<_, _≤_, min, max};
@@ -22,18 +23,18 @@ pub(crate) fn least(a: u32, b: u32) -> u32
 }
 
 // Where the live instructions of a segment begin. An instruction that it shares with the segment before counts there alone.
-fn live_from(last: u32, start: u32) -> u32
-    ensures { λ r. ⌜ r ≡ max last (instOf start) ⌝ }
+fn live_from(last: Inst, start: Point) -> Inst
+    ensures { λ r. ⌜ r .0 ≡ max (last .0) (instOf (start .0)) ⌝ }
 {
-    most(last, start / 4)
+    let first = start.inst();
+    Inst(most(last.0, first.0))
 }
 
 // Where they end.
-fn live_to(end: u32) -> u32
-    ensures { λ r. ⌜ r ≡ roundUp end ⌝ }
+fn live_to(end: Point) -> Inst
+    ensures { λ r. ⌜ r .0 ≡ roundUp (end .0) ⌝ }
 {
-    let inst = Point(end).round_to_next_inst();
-    inst.0
+    end.round_to_next_inst()
 }
 
 // The live instructions of the segments alone.
@@ -42,12 +43,12 @@ pub fn live_insts(start: &[u32], end: &[u32]) -> u32
     ensures { λ r. ⌜ r ≡ liveInsts (now (start .entry)) (now (end .entry)) ⌝ }
 {
     let mut sum: u32 = 0;
-    let mut last: u32 = 0;
+    let mut last = Inst(0);
     let mut i: usize = 0;
     while i < start.len() {
-        let a = live_from(last, start[i]);
-        let e = live_to(end[i]);
-        sum += e - a;
+        let a = live_from(last, Point(start[i]));
+        let e = live_to(Point(end[i]));
+        sum += e.0 - a.0;
         last = e;
         i += 1;
     }
@@ -55,11 +56,11 @@ pub fn live_insts(start: &[u32], end: &[u32]) -> u32
 }
 
 // How many of the instructions from a to before e lie from `from` to before `to`.
-fn overlap(a: u32, e: u32, from: u32, to: u32) -> u32
-    ensures { λ r. ⌜ r ≡ overlap a e from to ⌝ }
+fn overlap(a: Inst, e: Inst, from: Inst, to: Inst) -> u32
+    ensures { λ r. ⌜ r ≡ overlap (a .0) (e .0) (from .0) (to .0) ⌝ }
 {
-    let first = most(a, from);
-    let end = least(e, to);
+    let first = most(a.0, from.0);
+    let end = least(e.0, to.0);
     if first < end {
         return end - first;
     }
@@ -68,17 +69,17 @@ fn overlap(a: u32, e: u32, from: u32, to: u32) -> u32
 
 // Counts one segment's live instructions, from a to before e, in the gaps that hold them. Answers the first gap that reaches e: no
 // gap before it holds a later segment's.
-fn count_segment(from: &[u32], to: &[u32], live: &mut [u32], a: u32, e: u32) -> usize
+fn count_segment(from: &[u32], to: &[u32], live: &mut [u32], a: Inst, e: Inst) -> usize
     requires { ⌜ Gaps (now from) (now to) ⌝ }
-    requires { ⌜ CountedBefore (length (now from)) a (now live) ⌝ }
-    requires { ⌜ (a ≤ e) × (e ≤ endLimit) ⌝ }
-    ensures { λ r. ⌜ CountedIn (now (from .entry)) (now (to .entry)) a e (now (live .entry)) (now (live .exit)) r ⌝ }
+    requires { ⌜ CountedBefore (length (now from)) (a .0) (now live) ⌝ }
+    requires { ⌜ (a .0 ≤ e .0) × (e .0 ≤ endLimit) ⌝ }
+    ensures { λ r. ⌜ CountedIn (now (from .entry)) (now (to .entry)) (a .0) (e .0) (now (live .entry)) (now (live .exit)) r ⌝ }
 {
     let mut i: usize = 0;
     while i < from.len() {
         let t = to[i];
-        live[i] = live[i] + overlap(a, e, from[i], t);
-        if t >= e {
+        live[i] = live[i] + overlap(a, e, Inst(from[i]), Inst(t));
+        if t >= e.0 {
             return i;
         }
         i += 1;
@@ -95,11 +96,11 @@ pub fn count_live_insts(start: &[u32], end: &[u32], from: &[u32], to: &[u32], li
         (liveColumn (now (start .entry)) (now (end .entry)) (now (from .entry)) (now (to .entry))) (now (live .entry)) ⌝ }
 {
     let mut at: usize = 0;
-    let mut last: u32 = 0;
+    let mut last = Inst(0);
     let mut i: usize = 0;
     while i < start.len() {
-        let a = live_from(last, start[i]);
-        let e = live_to(end[i]);
+        let a = live_from(last, Point(start[i]));
+        let e = live_to(Point(end[i]));
         at += count_segment(&from[at..], &to[at..], &mut live[at..], a, e);
         last = e;
         i += 1;

@@ -53,23 +53,23 @@ loop-holds c =
           (left-all (all s) (lent s) (s .pre .1 .1)),
     )
 
-mul-cut-segment : tie.Need-mul-cut-segment Inv-loop μ-loop
-mul-cut-segment c = omega arith
+mul-t14 : tie.Need-mul-t14 Inv-loop μ-loop
+mul-t14 c = omega arith
 
-shared-slice-read-cut-segment : tie.Need-shared-slice-read-cut-segment Inv-loop μ-loop
-shared-slice-read-cut-segment c = omega arith
+shared-slice-read-t17 : tie.Need-shared-slice-read-t17 Inv-loop μ-loop
+shared-slice-read-t17 c = omega arith
 
-mul-cut-segment-2 : tie.Need-mul-cut-segment-2 Inv-loop μ-loop
-mul-cut-segment-2 c = omega arith
+mul-t19 : tie.Need-mul-t19 Inv-loop μ-loop
+mul-t19 c = omega arith
 
-shared-slice-read-cut-segment-2 : tie.Need-shared-slice-read-cut-segment-2 Inv-loop μ-loop
-shared-slice-read-cut-segment-2 c = let l = c .before .before in let e = begin l .pre .0 .bounds .long in omega (arith, l .loop-test .taken, e)
+shared-slice-read-t21 : tie.Need-shared-slice-read-t21 Inv-loop μ-loop
+shared-slice-read-t21 c = let l = c .before .before in let e = begin l .pre .0 .bounds .long in omega (arith, l .loop-test .taken, e)
 
-mul-cut-segment-3 : tie.Need-mul-cut-segment-3 Inv-loop μ-loop
-mul-cut-segment-3 c = omega arith
+mul-t23 : tie.Need-mul-t23 Inv-loop μ-loop
+mul-t23 c = omega arith
 
-shared-slice-read-cut-segment-3 : tie.Need-shared-slice-read-cut-segment-3 Inv-loop μ-loop
-shared-slice-read-cut-segment-3 c = let l = c .before .before .before in let e = begin l .pre .0 .long in omega (arith, l .loop-test .taken, e)
+shared-slice-read-t25 : tie.Need-shared-slice-read-t25 Inv-loop μ-loop
+shared-slice-read-t25 c = let l = c .before .before .before in let e = begin l .pre .0 .long in omega (arith, l .loop-test .taken, e)
 
 cut-segment-requires : tie.Need-cut-segment-requires Inv-loop μ-loop
 cut-segment-requires c κs =
@@ -142,12 +142,12 @@ build-gap-segments-spec =
     Inv-loop
     μ-loop
     loop-holds
-    mul-cut-segment
-    shared-slice-read-cut-segment
-    mul-cut-segment-2
-    shared-slice-read-cut-segment-2
-    mul-cut-segment-3
-    shared-slice-read-cut-segment-3
+    mul-t14
+    shared-slice-read-t17
+    mul-t19
+    shared-slice-read-t21
+    mul-t23
+    shared-slice-read-t25
     cut-segment-requires
     add-i
     loop-less

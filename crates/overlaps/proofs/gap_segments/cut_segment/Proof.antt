@@ -14,8 +14,8 @@ use Rattle.overlaps.proofs.gap_segments.cut_segment.Tie as tie
 
 abbrev Inv-loop : tie.InvT-loop
 Inv-loop from to start end value out-from₀ out-to₀ out-value₀ out-gap₀ gap used g₀ n₀ out-from out-to out-value out-gap g n =
-    EndedBy from to end g ×
-    Left (fromOn (overlapWith from to start end value) (length from) g) (overlapsOf from to start end value)
+    EndedBy from to (end .0) g ×
+    Left (fromOn (overlapWith from to (start .0) (end .0) (value .0)) (length from) g) (overlapsOf from to (start .0) (end .0) (value .0))
     (segmentColumns out-from₀ out-to₀ out-value₀ out-gap₀ used) (segmentColumns out-from out-to out-value out-gap n)
 
 abbrev μ-loop : tie.MeasureT-loop
@@ -35,18 +35,18 @@ abbrev found : tie.In-loop Inv-loop μ-loop → SegmentColumns
 found l = let p = l .before .loop in segmentColumns (p .out-from) (p .out-to) (p .out-value) (p .out-gap) (p .n)
 
 abbrev lists : tie.Start Inv-loop μ-loop → ℕ → List Overlap
-lists s = overlapWith (s .args .from .now) (s .args .to .now) (s .args .start) (s .args .end) (s .args .value)
+lists s = overlapWith (s .args .from .now) (s .args .to .now) (s .args .start .0) (s .args .end .0) (s .args .value .0)
 
 abbrev all : tie.Start Inv-loop μ-loop → List Overlap
-all s = overlapsOf (s .args .from .now) (s .args .to .now) (s .args .start) (s .args .end) (s .args .value)
+all s = overlapsOf (s .args .from .now) (s .args .to .now) (s .args .start .0) (s .args .end .0) (s .args .value .0)
 
 -- the calls give the overlap's ends
 overlap-is : (c : tie.After-least Inv-loop μ-loop) →
     let l = head c in
-    nonempty (c .before .most .result) (c .least .result) (begin l .args .value) (l .before .loop .g) ≡ lists (begin l)
+    nonempty (c .before .most .result) (c .least .result) (begin l .args .value .0) (l .before .loop .g) ≡ lists (begin l)
     (l .before .loop .g)
 unfolding overlapWith
-overlap-is c = let l = head c in ap₂ (λ (a e : ℕ). nonempty a e (begin l .args .value) (l .before .loop .g)) (c .before .most .ensures) (c .least .ensures)
+overlap-is c = let l = head c in ap₂ (λ (a e : ℕ). nonempty a e (begin l .args .value .0) (l .before .loop .g)) (c .before .most .ensures) (c .least .ensures)
 
 -- after the turn the gaps from the next on are left
 left : (c : tie.After-put-overlap Inv-loop μ-loop) →
@@ -67,9 +67,9 @@ loop-holds c =
     let s = c .before .before .before .before .before .before in
     let b = s .pre .1 .0 .1 in
     let h = s .pre .1 .0 .0 in (
-      behind-later (s .args .from .now) (s .args .to .now) (s .args .start) (s .args .end) (s .args .gap) (omega (arith, h)) b,
+      behind-later (s .args .from .now) (s .args .to .now) (s .args .start .0) (s .args .end .0) (s .args .gap) (omega (arith, h)) b,
       subst (λ (rows : List Overlap). Left rows (all s) (lent s) (lent s))
-          (overlaps-from (s .args .from .now) (s .args .to .now) (s .pre .0) (s .args .start) (s .args .end) (s .args .value)
+          (overlaps-from (s .args .from .now) (s .args .to .now) (s .pre .0) (s .args .start .0) (s .args .end .0) (s .args .value .0)
           (s .args .gap) b) (left-all (all s) (lent s) (s .pre .1 .1)),
     )
 
@@ -116,26 +116,26 @@ put-overlap-requires c κs =
     (lent (begin l)) (found l) (l .before .loop .inv .1))
 
 same-length : tie.Need-same-length Inv-loop μ-loop
-same-length c = left (c .before .before .before .before .before .before .before .before .before) .same .from
+same-length c = left (c .before .before .before .before .before .before .before .before .before .before) .same .from
 
 same-length-2 : tie.Need-same-length-2 Inv-loop μ-loop
-same-length-2 c = left (c .before .before .before .before .before .before .before .before .before) .same .to
+same-length-2 c = left (c .before .before .before .before .before .before .before .before .before .before) .same .to
 
 same-length-3 : tie.Need-same-length-3 Inv-loop μ-loop
-same-length-3 c = left (c .before .before .before .before .before .before .before .before .before) .same .value
+same-length-3 c = left (c .before .before .before .before .before .before .before .before .before .before) .same .value
 
 same-length-4 : tie.Need-same-length-4 Inv-loop μ-loop
-same-length-4 c = left (c .before .before .before .before .before .before .before .before .before) .same .gap
+same-length-4 c = left (c .before .before .before .before .before .before .before .before .before .before) .same .gap
 
 returns : tie.Need-returns Inv-loop μ-loop
 returns c =
-    let d = c .before .before .before .before .before .before .before .before .before in
+    let d = c .before .before .before .before .before .before .before .before .before .before in
     let l = head (d .before .before .before .before .before) in
     let s = begin l in (
       record { inside = l .before .loop .inv .0 .inside; ended = l .before .loop .inv .0 .ended },
       left-none
           (fromOn (lists s) (length (s .args .from .now)) (l .before .loop .g + 1)) (all s) (lent s) _
-          (overlaps-end (s .args .from .now) (s .args .to .now) (s .pre .0) (s .args .start) (s .args .end) (s .args .value)
+          (overlaps-end (s .args .from .now) (s .args .to .now) (s .pre .0) (s .args .start .0) (s .args .end .0) (s .args .value .0)
           (l .before .loop .g) (c .if1 .taken)) (left d),
     )
 
@@ -147,7 +147,7 @@ loop-less c = omega arith
 
 loop-again : tie.Need-loop-again Inv-loop μ-loop
 loop-again c =
-    let d = c .before .before .before .before .before .before .before .before .before in
+    let d = c .before .before .before .before .before .before .before .before .before .before in
     let l = head (d .before .before .before .before .before) in (
       record {
         inside = let h = l .loop-test .taken in omega (arith, h);

@@ -7,17 +7,17 @@ use Rattle.overlaps.proofs.gap_segments.put_overlap.Statement.{statemen
 use Rattle.overlaps.proofs.gap_segments.put_overlap.Tie as tie
 
 room : (c : tie.Else1) → let a =
-    c .before .args in SegmentRoom 1 (segmentColumns (a .out-from .now) (a .out-to .now) (a .out-value .now) (a .out-gap .now) (a .used))
+    c .before .before .before .args in SegmentRoom 1 (segmentColumns (a .out-from .now) (a .out-to .now) (a .out-value .now) (a .out-gap .now) (a .used))
 room c =
-    let a = c .before .args in
-    room-one (a .from) (a .to) (a .value) (a .gap)
+    let a = c .before .before .before .args in
+    room-one (a .from .0) (a .to .0) (a .value .0) (a .gap)
     (segmentColumns (a .out-from .now) (a .out-to .now) (a .out-value .now) (a .out-gap .now) (a .used)) (c .if1 .left)
-    (c .before .pre)
+    (c .before .before .before .pre)
 
 returns : tie.Need-returns
 returns c =
-    let a = c .before .args in
-    put-none (a .from) (a .to) (a .value) (a .gap)
+    let a = c .before .before .before .args in
+    put-none (a .from .0) (a .to .0) (a .value .0) (a .gap)
     (segmentColumns (a .out-from .now) (a .out-to .now) (a .out-value .now) (a .out-gap .now) (a .used)) (c .if1 .taken)
 
 mul-out-from : tie.Need-mul-out-from
@@ -61,8 +61,8 @@ same-length-4 c = search needs
 
 returns-2 : tie.Need-returns-2
 returns-2 c =
-    let a = c .before .args in
-    put-some (a .from) (a .to) (a .value) (a .gap)
+    let a = c .before .before .before .args in
+    put-some (a .from .0) (a .to .0) (a .value .0) (a .gap)
     (segmentColumns (a .out-from .now) (a .out-to .now) (a .out-value .now) (a .out-gap .now) (a .used)) (c .if1 .left)
 
 pub put-overlap-spec : {M : Type 1} → statement M

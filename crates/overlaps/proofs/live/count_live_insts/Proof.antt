@@ -13,7 +13,7 @@ use Rattle.overlaps.proofs.live.count_live_insts.Statement.{statement}
 use Rattle.overlaps.proofs.live.count_live_insts.Tie as tie
 
 abbrev Inv-loop : tie.InvT-loop
-Inv-loop start end from to live₀ at₀ last₀ i₀ live at last i = (i ≤ length start) × (last ≡ lastOf end i) × Sofar start end from to live₀ live at i
+Inv-loop start end from to live₀ at₀ last₀ i₀ live at last i = (i ≤ length start) × (last .0 ≡ lastOf end i) × Sofar start end from to live₀ live at i
 
 abbrev μ-loop : tie.MeasureT-loop
 μ-loop start end from to live₀ at₀ last₀ i₀ live at last i = length start - i
@@ -27,13 +27,13 @@ head c = c .before .before .before .before
 -- the calls give where the segment's live instructions begin and end
 from-is : (c : tie.After-live-from Inv-loop μ-loop) →
     let l = c .before .before in
-    c .live-from .result ≡ liveFrom (begin l .args .start .now) (begin l .args .end .now) (l .before .loop .i)
+    c .live-from .result .0 ≡ liveFrom (begin l .args .start .now) (begin l .args .end .now) (l .before .loop .i)
 from-is c =
     let l = c .before .before in
     c .live-from .ensures
     ∙ ap (λ (last : ℕ). max last (instOf (getD (begin l .args .start .now) (l .before .loop .i) 0))) (l .before .loop .inv .1)
 
-to-is : (c : tie.After-live-to Inv-loop μ-loop) → let l = head c in c .live-to .result ≡ liveTo (begin l .args .end .now) (l .before .loop .i)
+to-is : (c : tie.After-live-to Inv-loop μ-loop) → let l = head c in c .live-to .result .0 ≡ liveTo (begin l .args .end .now) (l .before .loop .i)
 to-is c = c .live-to .ensures
 
 -- what is counted so far
@@ -57,27 +57,27 @@ counted c =
     let s = begin l in
     let p = l .before .loop in
     sofar-next (s .args .start .now) (s .args .end .now) (s .args .from .now) (s .args .to .now) (s .args .live .now) (p .live)
-    (p .at) (p .i) (s .pre .0) (s .pre .1 .0) (s .pre .1 .1) (sofar l) (d .before .before .live-from .result)
-    (d .live-to .result) (c .count-segment .result) (c .count-segment .last .1 .1 .0) (l .loop-test .taken)
+    (p .at) (p .i) (s .pre .0) (s .pre .1 .0) (s .pre .1 .1) (sofar l) (d .before .before .live-from .result .0)
+    (d .live-to .result .0) (c .count-segment .result) (c .count-segment .last .1 .1 .0) (l .loop-test .taken)
     (from-is (d .before .before)) (to-is d) (c .count-segment .ensures)
 
 loop-holds : tie.Need-loop-holds Inv-loop μ-loop
 loop-holds c = (zero-le, refl, sofar-none _ _ _ _ _)
 
-mul-live-from : tie.Need-mul-live-from Inv-loop μ-loop
-mul-live-from c = search needs
+mul-t11 : tie.Need-mul-t11 Inv-loop μ-loop
+mul-t11 c = search needs
 
-shared-slice-read-live-from : tie.Need-shared-slice-read-live-from Inv-loop μ-loop
-shared-slice-read-live-from c = search needs
+shared-slice-read-t14 : tie.Need-shared-slice-read-t14 Inv-loop μ-loop
+shared-slice-read-t14 c = search needs
 
 live-from-requires : tie.Need-live-from-requires Inv-loop μ-loop
 live-from-requires c κs = search needs
 
-mul-live-to : tie.Need-mul-live-to Inv-loop μ-loop
-mul-live-to c = search needs
+mul-t11-2 : tie.Need-mul-t11-2 Inv-loop μ-loop
+mul-t11-2 c = search needs
 
-shared-slice-read-live-to : tie.Need-shared-slice-read-live-to Inv-loop μ-loop
-shared-slice-read-live-to c = let l = c .before .before .before in let e = begin l .pre .0 .long in omega (arith, l .loop-test .taken, e)
+shared-slice-read-t14-2 : tie.Need-shared-slice-read-t14-2 Inv-loop μ-loop
+shared-slice-read-t14-2 c = let l = c .before .before .before in let e = begin l .pre .0 .long in omega (arith, l .loop-test .taken, e)
 
 live-to-requires : tie.Need-live-to-requires Inv-loop μ-loop
 live-to-requires c κs = search needs
@@ -135,7 +135,7 @@ count-segment-requires c κs =
       rest-gaps (s .args .from .now) (s .args .to .now) (s .pre .1 .0) (p .at),
       (
         rest-counted (s .args .start .now) (s .args .end .now) (s .args .from .now) (s .args .to .now) (s .args .live .now)
-            (p .live) (p .at) (p .i) (s .pre .0) (s .pre .1 .0) (s .pre .1 .1) (sofar l) (d .before .before .live-from .result) a
+            (p .live) (p .at) (p .i) (s .pre .0) (s .pre .1 .0) (s .pre .1 .1) (sofar l) (d .before .before .live-from .result .0) a
             (p .inv .0),
         (le-trans (le-of-eq a) (le-trans order (le-of-eq (sym e))), le-trans (le-of-eq e) inside),
       ),
@@ -173,11 +173,11 @@ count-live-insts-spec =
     Inv-loop
     μ-loop
     loop-holds
-    mul-live-from
-    shared-slice-read-live-from
+    mul-t11
+    shared-slice-read-t14
     live-from-requires
-    mul-live-to
-    shared-slice-read-live-to
+    mul-t11-2
+    shared-slice-read-t14-2
     live-to-requires
     mul-count-segment
     sub-count-segment

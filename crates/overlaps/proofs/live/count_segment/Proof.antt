@@ -12,7 +12,7 @@ use Rattle.overlaps.proofs.live.count_segment.Tie as tie
 
 abbrev Inv-loop : tie.InvT-loop
 Inv-loop from to live₀ a e i₀ live i =
-    (i ≤ length from) × Added (λ (g : ℕ). overlap a e (getD from g 0) (getD to g 0)) live₀ live i × ((g : ℕ) → g < i → getD to g 0 ≤ e)
+    (i ≤ length from) × Added (λ (g : ℕ). overlap (a .0) (e .0) (getD from g 0) (getD to g 0)) live₀ live i × ((g : ℕ) → g < i → getD to g 0 ≤ e .0)
 
 abbrev μ-loop : tie.MeasureT-loop
 μ-loop from to live₀ a e i₀ live i = length from - i
@@ -25,7 +25,7 @@ head c = c .before .before .before .before
 
 -- what is added to a gap's row
 abbrev adds : tie.Start Inv-loop μ-loop → ℕ → ℕ
-adds s g = overlap (s .args .a) (s .args .e) (getD (s .args .from .now) g 0) (getD (s .args .to .now) g 0)
+adds s g = overlap (s .args .a .0) (s .args .e .0) (getD (s .args .from .now) g 0) (getD (s .args .to .now) g 0)
 
 -- the column after a turn
 added : (c : tie.After-overlap Inv-loop μ-loop) →
@@ -54,11 +54,11 @@ mul-live c = search needs
 slice-read-live : tie.Need-slice-read-live Inv-loop μ-loop
 slice-read-live c = search needs
 
-mul-overlap : tie.Need-mul-overlap Inv-loop μ-loop
-mul-overlap c = search needs
+mul-t14 : tie.Need-mul-t14 Inv-loop μ-loop
+mul-t14 c = search needs
 
-shared-slice-read-overlap : tie.Need-shared-slice-read-overlap Inv-loop μ-loop
-shared-slice-read-overlap c = search needs
+shared-slice-read-t16 : tie.Need-shared-slice-read-t16 Inv-loop μ-loop
+shared-slice-read-t16 c = search needs
 
 overlap-requires : tie.Need-overlap-requires Inv-loop μ-loop
 overlap-requires c κs = search needs
@@ -69,7 +69,7 @@ add-live c =
     let i = l .before .loop .i in
     let few = begin l .pre .1 .0 .few i (l .loop-test .taken) in
     let same = l .before .loop .inv .1 .rest i (le-refl i) in
-    let more = overlap-few (begin l .args .a) (begin l .args .e) (getD (begin l .args .from .now) i 0) (getD (begin l .args .to .now) i 0) in
+    let more = overlap-few (begin l .args .a .0) (begin l .args .e .0) (getD (begin l .args .from .now) i 0) (getD (begin l .args .to .now) i 0) in
     let is = c .overlap .ensures in
     let order = begin l .pre .1 .1 .0 in
     let limit = begin l .pre .1 .1 .1 in
@@ -82,18 +82,18 @@ slice-write-live : tie.Need-slice-write-live Inv-loop μ-loop
 slice-write-live c = search needs
 
 same-length : tie.Need-same-length Inv-loop μ-loop
-same-length c = added (c .before) .long
+same-length c = added (c .before .before) .long
 
 returns : tie.Need-returns Inv-loop μ-loop
 returns c =
-    let l = head (c .before) in
+    let l = head (c .before .before) in
     let s = begin l in
     let i = l .before .loop .i in
-    let w = added (c .before) in
+    let w = added (c .before .before) in
     record {
       long = w .long;
       rows = added-all (adds s) (s .args .live .now) _ (i + 1) w
-          (none-later (s .args .from .now) (s .args .to .now) (s .pre .0) (s .args .a) (s .args .e) i (c .if1 .taken));
+          (none-later (s .args .from .now) (s .args .to .now) (s .pre .0) (s .args .a .0) (s .args .e .0) i (c .if1 .taken));
       some = l .before .loop .inv .0;
       ended = l .before .loop .inv .2;
     }
@@ -106,8 +106,8 @@ loop-less c = omega arith
 
 loop-again : tie.Need-loop-again Inv-loop μ-loop
 loop-again c =
-    let l = head (c .before) in
-    (omega (arith, l .loop-test .taken), added (c .before), below-more _ _ (l .before .loop .inv .2) (let t = c .if1 .left in omega (arith, t)))
+    let l = head (c .before .before) in
+    (omega (arith, l .loop-test .taken), added (c .before .before), below-more _ _ (l .before .loop .inv .2) (let t = c .if1 .left in omega (arith, t)))
 
 same-length-2 : tie.Need-same-length-2 Inv-loop μ-loop
 same-length-2 c = c .before .loop .inv .1 .long
@@ -120,7 +120,7 @@ returns-2 c =
     record {
       long = w .long;
       rows = added-all (adds s) (s .args .live .now) _ i w
-          (λ g h. none-there (s .args .from .now) (s .args .to .now) (s .pre .0) (s .args .a) (s .args .e) g
+          (λ g h. none-there (s .args .from .now) (s .args .to .now) (s .pre .0) (s .args .a .0) (s .args .e .0) g
           (le-trans (c .loop-test .left) h));
       some = c .before .loop .inv .0;
       ended = c .before .loop .inv .2;
@@ -137,8 +137,8 @@ count-segment-spec =
     shared-slice-read-t
     mul-live
     slice-read-live
-    mul-overlap
-    shared-slice-read-overlap
+    mul-t14
+    shared-slice-read-t16
     overlap-requires
     add-live
     mul-live-2
