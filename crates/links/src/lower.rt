@@ -1,9 +1,9 @@
-// Lower links, previous and next.
+// Lower links, previous and next. Where links are made, a block is its row's number, a `usize` as sweeps over rows count: as a `Block` each
+// would be narrowed and widened again. Links are read as blocks (`link_at`).
 ghost use mathlib.Core.Path.{_≡_};
-ghost use Prim.Native.Nat.{_≤_, _<_};
+ghost use Prim.Native.Nat.{_<_};
 ghost use lib.ListN.{length, getD};
 ghost use Rattle.columns.specs.Table.{filled};
-ghost use Rattle.links.specs.Blocks.{itemLimit};
 ghost use Rattle.links.specs.Links.{beside, beyond, nth, lowerLink, linkColumn, linkAnswer, Frequencies, LinkedBeyond};
 ghost use Rattle.links.specs.Split.{reaches};
 use numbers::Block;
@@ -19,43 +19,39 @@ pub enum Side {
 const ABSENT: u32 = 4294967295;
 
 // How many of n blocks lie on a side of block b.
-pub(crate) fn beside(side: Side, n: usize, b: Block) -> usize
-    requires { ⌜ b .0 < n ⌝ }
-    ensures { λ r. ⌜ r ≡ beside side n (b .0) ⌝ }
+pub(crate) fn beside(side: Side, n: usize, b: usize) -> usize
+    requires { ⌜ b < n ⌝ }
+    ensures { λ r. ⌜ r ≡ beside side n b ⌝ }
 {
-    let at = b.0 as usize;
     match side {
-        Side::Previous => at,
-        Side::Next => n - (at + 1),
+        Side::Previous => b,
+        Side::Next => n - (b + 1),
     }
 }
 
 // The block on a side of block b with t blocks between.
-pub(crate) fn beyond(side: Side, n: usize, b: Block, t: usize) -> Block
-    requires { ⌜ (n ≤ itemLimit) × (b .0 < n) × (t < beside side n (b .0)) ⌝ }
-    ensures { λ r. ⌜ r .0 ≡ beyond side (b .0) t ⌝ }
+pub(crate) fn beyond(side: Side, n: usize, b: usize, t: usize) -> usize
+    requires { ⌜ (b < n) × (t < beside side n b) ⌝ }
+    ensures { λ r. ⌜ r ≡ beyond side b t ⌝ }
 {
-    let between = t as u32;
     match side {
-        Side::Previous => Block(b.0 - (between + 1)),
-        Side::Next => Block(b.0 + 1 + between),
+        Side::Previous => b - (t + 1),
+        Side::Next => b + 1 + t,
     }
 }
 
-// The link of block b as its column holds it, from the links of the blocks beyond it: a block that is not lower is passed together with
-// all that its own link passes. So the column that is filled does the work of a stack.
-fn lower_link(freq: &[u32], links: &[u32], b: Block, side: Side) -> u32
-    requires { ⌜ LinkedBeyond side (now freq) (now links) (b .0) ⌝ }
-    ensures { λ r. ⌜ r ≡ lowerLink side (now (freq .entry)) (b .0) ⌝ }
+// The link of block b, from the links of the blocks beyond it: a block that is not lower is passed together with all that its own
+// link passes. So the column that is filled does the work of a stack.
+fn lower_link(freq: &[u32], links: &[u32], b: usize, side: Side) -> u32
+    requires { ⌜ LinkedBeyond side (now freq) (now links) b ⌝ }
+    ensures { λ r. ⌜ r ≡ lowerLink side (now (freq .entry)) b ⌝ }
 {
     let n = freq.len();
-    let at = b.0 as usize;
-    let x = freq[at];
+    let x = freq[b];
     if beside(side, n, b) == 0 {
         return ABSENT;
     }
-    let nearest = beyond(side, n, b, 0);
-    let mut j = nearest.0 as usize;
+    let mut j = beyond(side, n, b, 0);
     while j < n {
         if freq[j] < x {
             return j as u32;
@@ -66,13 +62,13 @@ fn lower_link(freq: &[u32], links: &[u32], b: Block, side: Side) -> u32
 }
 
 // The block that is linked after t others.
-fn nth(side: Side, n: usize, t: usize) -> Block
-    requires { ⌜ (n ≤ itemLimit) × (t < n) ⌝ }
-    ensures { λ r. ⌜ r .0 ≡ nth side n t ⌝ }
+fn nth(side: Side, n: usize, t: usize) -> usize
+    requires { ⌜ t < n ⌝ }
+    ensures { λ r. ⌜ r ≡ nth side n t ⌝ }
 {
     match side {
-        Side::Previous => Block(t as u32),
-        Side::Next => Block((n - (t + 1)) as u32),
+        Side::Previous => t,
+        Side::Next => n - (t + 1),
     }
 }
 
@@ -86,8 +82,7 @@ fn lower_links(freq: &[u32], links: &mut [u32], side: Side)
     while t < n {
         let b = nth(side, n, t);
         let link = lower_link(freq, &links[..], b, side);
-        let at = b.0 as usize;
-        links[at] = link;
+        links[b] = link;
         t += 1;
     }
 }

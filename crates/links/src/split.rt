@@ -33,14 +33,13 @@ fn sweep(freq: &[u32], edges: &[u32], b: Block, side: Side, start: Inst, limit: 
     ensures { λ r. ⌜ r .0 ≡ lastReached side (now (freq .entry)) (now (edges .entry)) (limit .0) (start .0) (b .0) ⌝ }
 {
     let n = freq.len();
-    let count = lower::beside(side, n, b);
     let at = b.0 as usize;
+    let count = lower::beside(side, n, at);
     let mut split = start;
     let mut least = freq[at];
     let mut t = 0;
     while t < count {
-        let next = lower::beyond(side, n, b, t);
-        let i = next.0 as usize;
+        let i = lower::beyond(side, n, at, t);
         let edge = edges[i];
         let place = Inst(edge);
         if !reaches(side, limit, place) {

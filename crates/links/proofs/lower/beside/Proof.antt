@@ -6,9 +6,6 @@ use borrow.Author.Needs.{needs}
 use Rattle.links.proofs.lower.beside.Statement.{statement}
 use Rattle.links.proofs.lower.beside.Tie as tie
 
-cast-at : tie.Need-cast-at
-cast-at c = search needs
-
 enum-told : tie.Need-enum-told
 enum-told c = search needs
 
@@ -25,7 +22,7 @@ returns : tie.Need-returns
 returns c = search needs
 
 returns-2 : tie.Need-returns-2
-returns-2 c = sym (ap (λ (s : Side). beside s (c .before .before .before .args .n) (c .before .before .before .args .b .0)) (c .enum-told2 .given .1))
+returns-2 c = sym (ap (λ (s : Side). beside s (c .before .before .args .n) (c .before .before .args .b)) (c .enum-told2 .given .1))
 
 pub beside-spec : {M : Type 1} → statement M
-beside-spec = tie.close (tie.spec cast-at enum-told enum-told-2 add-result sub-result returns returns-2)
+beside-spec = tie.close (tie.spec enum-told enum-told-2 add-result sub-result returns returns-2)

@@ -95,57 +95,52 @@ module _ (side : Side) (f links : List ℕ) (b : ℕ) (pre : LinkedBeyond side f
   walk-nears j w h = fewer side (length f) j (getD links j 0) h (λ v. stored j h (w .onward h) .found v .0)
 
 abbrev Inv-loop : tie.InvT-loop
-Inv-loop freq links n b x j₀ j = Walk (sideFrom b j₀) freq b j
+Inv-loop freq links b n x j₀ j = Walk (sideFrom b j₀) freq b j
 
 abbrev μ-loop : tie.MeasureT-loop
-μ-loop freq links n b x j₀ j = remaining (sideFrom b j₀) n j
+μ-loop freq links b n x j₀ j = remaining (sideFrom b j₀) n j
 
 abbrev begin : tie.At-loop Inv-loop μ-loop → tie.Start Inv-loop μ-loop
-begin c = c .before .before .before .before .before .before .before .before .before
+begin c = c .before .before .before .before .before .before .before
 
 some : (n : ℕ) → (n ≡ 0 → ⊥) → 0 < n
 some n h = omega arith
 
-turned : (c : tie.At-loop Inv-loop μ-loop) → sideFrom (begin c .args .b .0) (c .before .before .beyond .result .0) ≡ begin c .args .side
+turned : (c : tie.At-loop Inv-loop μ-loop) → sideFrom (begin c .args .b) (c .before .beyond .result) ≡ begin c .args .side
 turned c =
     let s = begin c .args in
-    ap (sideFrom (s .b .0)) (c .before .before .beyond .ensures)
-    ∙ side-from (s .side) (length (s .freq .now)) (s .b .0)
-    (subst (λ (x : ℕ). 0 < x) (c .before .before .before .before .beside .ensures) (some _ (c .before .before .before .if1 .left)))
+    ap (sideFrom (s .b)) (c .before .beyond .ensures)
+    ∙ side-from (s .side) (length (s .freq .now)) (s .b)
+    (subst (λ (x : ℕ). 0 < x) (c .before .before .before .beside .ensures) (some _ (c .before .before .if1 .left)))
 
-walk : (c : tie.At-loop Inv-loop μ-loop) → Walk (begin c .args .side) (begin c .args .freq .now) (begin c .args .b .0) (c .loop .j)
-walk c = subst (λ (s : Side). Walk s (begin c .args .freq .now) (begin c .args .b .0) (c .loop .j)) (turned c) (c .loop .inv)
-
-cast-at : tie.Need-cast-at Inv-loop μ-loop
-cast-at c = search needs
+walk : (c : tie.At-loop Inv-loop μ-loop) → Walk (begin c .args .side) (begin c .args .freq .now) (begin c .args .b) (c .loop .j)
+walk c = subst (λ (s : Side). Walk s (begin c .args .freq .now) (begin c .args .b) (c .loop .j)) (turned c) (c .loop .inv)
 
 mul-x : tie.Need-mul-x Inv-loop μ-loop
-mul-x c = scaled-fits _ _ 4 (c .before .before .before .pre .inside) (c .before .before .before .good .0 .1)
+mul-x c = scaled-fits _ _ 4 (c .before .before .pre .inside) (c .before .before .good .0 .1)
 
 shared-slice-read-x : tie.Need-shared-slice-read-x Inv-loop μ-loop
-shared-slice-read-x c = c .before .before .before .before .pre .inside
+shared-slice-read-x c = c .before .before .before .pre .inside
 
 beside-requires : tie.Need-beside-requires Inv-loop μ-loop
-beside-requires c κs = c .before .before .before .before .pre .inside
+beside-requires c κs = c .before .before .before .pre .inside
 
 returns : tie.Need-returns Inv-loop μ-loop
 returns c =
-    let s = c .before .before .before .before .before .before in
-    none-beside (s .args .side) (s .args .freq .now) (s .args .links .now) (s .args .b .0) (s .pre) (sym (c .before .beside .ensures) ∙ c .if1 .taken)
+    let s = c .before .before .before .before .before in
+    none-beside (s .args .side) (s .args .freq .now) (s .args .links .now) (s .args .b) (s .pre) (sym (c .before .beside .ensures) ∙ c .if1 .taken)
 
 beyond-requires : tie.Need-beyond-requires Inv-loop μ-loop
-beyond-requires c κs =
-    let s = c .before .before .before .before .before .before in
-    (s .pre .given .few, s .pre .inside, subst (λ (x : ℕ). 0 < x) (c .before .beside .ensures) (some _ (c .if1 .left)))
+beyond-requires c κs = (c .before .before .before .before .before .pre .inside, subst (λ (x : ℕ). 0 < x) (c .before .beside .ensures) (some _ (c .if1 .left)))
 
 loop-holds : tie.Need-loop-holds Inv-loop μ-loop
 loop-holds c =
-    let s = c .before .before .before .before .before .before .before .before in
-    let z = subst (λ (x : ℕ). 0 < x) (c .before .before .before .beside .ensures) (some _ (c .before .before .if1 .left)) in
-    subst (λ (j : ℕ). Walk (sideFrom (s .args .b .0) j) (s .args .freq .now) (s .args .b .0) j) (sym (c .before .beyond .ensures))
-    (subst (λ (x : Side). Walk x (s .args .freq .now) (s .args .b .0) (beyond (s .args .side) (s .args .b .0) 0))
-    (sym (side-from (s .args .side) (length (s .args .freq .now)) (s .args .b .0) z))
-    (walk-starts (s .args .side) (s .args .freq .now) (s .args .b .0) (s .pre .inside) z))
+    let s = c .before .before .before .before .before .before in
+    let z = subst (λ (x : ℕ). 0 < x) (c .before .before .beside .ensures) (some _ (c .before .if1 .left)) in
+    subst (λ (j : ℕ). Walk (sideFrom (s .args .b) j) (s .args .freq .now) (s .args .b) j) (sym (c .beyond .ensures))
+    (subst (λ (x : Side). Walk x (s .args .freq .now) (s .args .b) (beyond (s .args .side) (s .args .b) 0))
+    (sym (side-from (s .args .side) (length (s .args .freq .now)) (s .args .b) z))
+    (walk-starts (s .args .side) (s .args .freq .now) (s .args .b) (s .pre .inside) z))
 
 mul-if2 : tie.Need-mul-if2 Inv-loop μ-loop
 mul-if2 c = scaled-fits _ (length (begin (c .before) .args .freq .now)) 4 (c .loop-test .taken) (begin (c .before) .good .0 .1)
@@ -160,7 +155,7 @@ returns-2 : tie.Need-returns-2 Inv-loop μ-loop
 returns-2 c =
     let l = c .before .before .before in
     let s = begin l in
-    walk-finds (s .args .side) (s .args .freq .now) (s .args .links .now) (s .args .b .0) (s .pre) (l .loop .j) (walk l)
+    walk-finds (s .args .side) (s .args .freq .now) (s .args .links .now) (s .args .b) (s .pre) (l .loop .j) (walk l)
     (c .before .before .loop-test .taken) (c .if2 .taken)
 
 mul-j : tie.Need-mul-j Inv-loop μ-loop
@@ -173,10 +168,7 @@ shared-slice-read-j : tie.Need-shared-slice-read-j Inv-loop μ-loop
 shared-slice-read-j c = lt-of-lt-of-le (c .before .before .before .loop-test .taken) (begin (c .before .before .before .before) .pre .given .long)
 
 cast-j : tie.Need-cast-j Inv-loop μ-loop
-cast-j c = search needs
-
-cast-j-2 : tie.Need-cast-j-2 Inv-loop μ-loop
-cast-j-2 c = omega (arith, c .shared-slice-known5 .given (c .before .before .before .before .loop .j))
+cast-j c = omega (arith, c .shared-slice-known5 .given (c .before .before .before .before .loop .j))
 
 loop-less : tie.Need-loop-less Inv-loop μ-loop
 loop-less c =
@@ -185,22 +177,22 @@ loop-less c =
     subst
     (λ (x : Side). remaining x (length (s .args .freq .now)) (getD (s .args .links .now) (l .loop .j) 0) < remaining x
     (length (s .args .freq .now)) (l .loop .j)) (sym (turned l))
-    (walk-nears (s .args .side) (s .args .freq .now) (s .args .links .now) (s .args .b .0) (s .pre) (l .loop .j) (walk l)
+    (walk-nears (s .args .side) (s .args .freq .now) (s .args .links .now) (s .args .b) (s .pre) (l .loop .j) (walk l)
     (c .before .before .before .loop-test .taken))
 
 loop-again : tie.Need-loop-again Inv-loop μ-loop
 loop-again c =
     let l = c .before .before .before .before in
     let s = begin l in
-    subst (λ (x : Side). Walk x (s .args .freq .now) (s .args .b .0) (getD (s .args .links .now) (l .loop .j) 0)) (sym (turned l))
-    (walk-goes-on (s .args .side) (s .args .freq .now) (s .args .links .now) (s .args .b .0) (s .pre) (l .loop .j) (walk l)
+    subst (λ (x : Side). Walk x (s .args .freq .now) (s .args .b) (getD (s .args .links .now) (l .loop .j) 0)) (sym (turned l))
+    (walk-goes-on (s .args .side) (s .args .freq .now) (s .args .links .now) (s .args .b) (s .pre) (l .loop .j) (walk l)
     (c .before .before .before .loop-test .taken) (c .before .if2 .left))
 
 returns-3 : tie.Need-returns-3 Inv-loop μ-loop
 returns-3 c =
     let l = c .before in
     let s = begin l in
-    walk-leaves (s .args .side) (s .args .freq .now) (s .args .links .now) (s .args .b .0) (s .pre) (l .loop .j) (walk l) (c .loop-test .left)
+    walk-leaves (s .args .side) (s .args .freq .now) (s .args .links .now) (s .args .b) (s .pre) (l .loop .j) (walk l) (c .loop-test .left)
 
 pub lower-link-spec : {M : Type 1} → statement M
 lower-link-spec =
@@ -208,13 +200,11 @@ lower-link-spec =
     (tie.spec
     Inv-loop
     μ-loop
-    cast-at
     mul-x
     shared-slice-read-x
     beside-requires
     returns
     beyond-requires
-    cast-j
     loop-holds
     mul-if2
     shared-slice-read-if2
@@ -222,7 +212,7 @@ lower-link-spec =
     returns-2
     mul-j
     shared-slice-read-j
-    cast-j-2
+    cast-j
     loop-less
     loop-again
     returns-3)

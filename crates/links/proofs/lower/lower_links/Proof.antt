@@ -64,7 +64,7 @@ loop-holds : tie.Need-loop-holds Inv-loop μ-loop
 loop-holds c = record { counted = zero-le; long = refl; done = λ k kn p. absurd (done-none _ _ k kn p); rest = λ k _. refl }
 
 nth-requires : tie.Need-nth-requires Inv-loop μ-loop
-nth-requires c κs = (begin c .pre .few, c .loop-test .taken)
+nth-requires c κs = c .loop-test .taken
 
 lower-link-requires : tie.Need-lower-link-requires Inv-loop μ-loop
 lower-link-requires c κs =
@@ -74,7 +74,7 @@ lower-link-requires c κs =
     (ready (s .args .side) (s .args .freq .now) (s .args .links .now) (l .before .loop .links) (l .before .loop .t) (s .pre)
     (l .before .loop .inv) (l .loop-test .taken))
 
-in-links : (c : tie.After-nth Inv-loop μ-loop) → c .nth .result .0 < length (c .before .before .loop .links)
+in-links : (c : tie.After-nth Inv-loop μ-loop) → c .nth .result < length (c .before .before .loop .links)
 in-links c =
     let l = c .before in
     let s = begin l in
@@ -82,36 +82,32 @@ in-links c =
     (room (s .args .side) (s .args .freq .now) (s .args .links .now) (l .before .loop .links) (l .before .loop .t) (s .pre)
     (l .before .loop .inv) (l .loop-test .taken))
 
-cast-at : tie.Need-cast-at Inv-loop μ-loop
-cast-at c = search needs
-
 mul-links : tie.Need-mul-links Inv-loop μ-loop
 mul-links c =
-    let l = c .before .before .before .before in
+    let l = c .before .before .before in
     let s = begin l in
-    scaled-fits _ (length (s .args .links .now)) 4
-    (lt-of-lt-of-le (in-links (c .before .before .before)) (le-of-eq (l .before .loop .inv .long))) (s .good .1 .0 .1)
+    scaled-fits _ (length (s .args .links .now)) 4 (lt-of-lt-of-le (in-links (c .before .before)) (le-of-eq (l .before .loop .inv .long))) (s .good .1 .0 .1)
 
 slice-write-links : tie.Need-slice-write-links Inv-loop μ-loop
-slice-write-links c = in-links (c .before .before .before)
+slice-write-links c = in-links (c .before .before)
 
 add-t : tie.Need-add-t Inv-loop μ-loop
-add-t c = omega (arith, c .before .before .before .before .loop-test .taken)
+add-t c = omega (arith, c .before .before .before .loop-test .taken)
 
 loop-less : tie.Need-loop-less Inv-loop μ-loop
-loop-less c = omega (arith, c .before .before .before .before .loop-test .taken)
+loop-less c = omega (arith, c .before .before .before .loop-test .taken)
 
 loop-again : tie.Need-loop-again Inv-loop μ-loop
 loop-again c =
-    let l = c .before .before .before .before in
+    let l = c .before .before .before in
     let s = begin l in
-    let b = c .before .before .before .nth in
+    let b = c .before .before .nth in
     subst
     (λ (x : ℕ). Linked (s .args .side) (s .args .freq .now) (s .args .links .now)
-    (set (l .before .loop .links) x (c .before .lower-link .result)) (l .before .loop .t + 1)) (sym (b .ensures))
+    (set (l .before .loop .links) x (c .lower-link .result)) (l .before .loop .t + 1)) (sym (b .ensures))
     (linked-next (s .args .side) (s .args .freq .now) (s .args .links .now) (l .before .loop .links) (l .before .loop .t)
     (s .pre) (l .before .loop .inv) (l .loop-test .taken)
-    (c .before .lower-link .result) (c .before .lower-link .ensures ∙ ap (lowerLink (s .args .side) (s .args .freq .now)) (b .ensures)))
+    (c .lower-link .result) (c .lower-link .ensures ∙ ap (lowerLink (s .args .side) (s .args .freq .now)) (b .ensures)))
 
 same-length : tie.Need-same-length Inv-loop μ-loop
 same-length c = c .before .loop .inv .long
@@ -132,7 +128,6 @@ lower-links-spec =
     loop-holds
     nth-requires
     lower-link-requires
-    cast-at
     mul-links
     slice-write-links
     add-t

@@ -55,34 +55,34 @@ module _ (side : Side) (f edges : List ℕ) (limit start b : ℕ) (pre : Swept f
   ends-swept h = sweep-ends side f edges limit start b few (pre .inside) t p l s (λ d m n. absurd (not-le-of-lt n (le-trans h m)))
 
 abbrev Inv-loop : tie.InvT-loop
-Inv-loop freq edges b side limit n count at split₀ least₀ t₀ split least t = Sweep side freq edges (limit .0) (split₀ .0) (b .0) t (split .0) least
+Inv-loop freq edges side limit n b count split₀ least₀ t₀ split least t = Sweep side freq edges (limit .0) (split₀ .0) b t (split .0) least
 
 abbrev μ-loop : tie.MeasureT-loop
-μ-loop freq edges b side limit n count at split₀ least₀ t₀ split least t = count - t
+μ-loop freq edges side limit n b count split₀ least₀ t₀ split least t = count - t
 
 abbrev begin : tie.In-loop Inv-loop μ-loop → tie.Start Inv-loop μ-loop
 begin c = c .before .before .before .before .before .before .before
 
 -- a turn's block lies on the side
 beside-b : (c : tie.In-loop Inv-loop μ-loop) → c .before .loop .t < beside (begin c .args .side) (length (begin c .args .freq .now)) (begin c .args .b .0)
-beside-b c = subst (λ (x : ℕ). c .before .loop .t < x) (c .before .before .before .before .beside .ensures) (c .loop-test .taken)
+beside-b c = subst (λ (x : ℕ). c .before .loop .t < x) (c .before .before .before .beside .ensures) (c .loop-test .taken)
 
 -- and inside the columns
-in-freq : (c : tie.After-beyond Inv-loop μ-loop) → c .beyond .result .0 < length (begin (c .before) .args .freq .now)
+in-freq : (c : tie.After-beyond Inv-loop μ-loop) → c .beyond .result < length (begin (c .before) .args .freq .now)
 in-freq c =
     let s = begin (c .before) in
     subst (λ (x : ℕ). x < length (s .args .freq .now)) (sym (c .beyond .ensures))
     (beyond-inside (s .args .side) (length (s .args .freq .now)) (s .args .b .0) (c .before .before .loop .t) (s .pre .inside)
     (beside-b (c .before)))
 
-in-edges : (c : tie.After-beyond Inv-loop μ-loop) → c .beyond .result .0 < length (begin (c .before) .args .edges .now)
+in-edges : (c : tie.After-beyond Inv-loop μ-loop) → c .beyond .result < length (begin (c .before) .args .edges .now)
 in-edges c = lt-of-lt-of-le (in-freq c) (begin (c .before) .pre .given .long)
-
-beside-requires : tie.Need-beside-requires Inv-loop μ-loop
-beside-requires c κs = c .before .before .pre .inside
 
 cast-at : tie.Need-cast-at Inv-loop μ-loop
 cast-at c = search needs
+
+beside-requires : tie.Need-beside-requires Inv-loop μ-loop
+beside-requires c κs = c .before .before .before .pre .inside
 
 mul-least : tie.Need-mul-least Inv-loop μ-loop
 mul-least c =
@@ -99,38 +99,35 @@ loop-holds c =
     (s .pre .inside)
 
 beyond-requires : tie.Need-beyond-requires Inv-loop μ-loop
-beyond-requires c κs = (begin c .pre .given .few, begin c .pre .inside, beside-b c)
-
-cast-i : tie.Need-cast-i Inv-loop μ-loop
-cast-i c = search needs
+beyond-requires c κs = (begin c .pre .inside, beside-b c)
 
 mul-edge : tie.Need-mul-edge Inv-loop μ-loop
-mul-edge c = let b = c .before in scaled-fits _ (length (begin (b .before) .args .edges .now)) 4 (in-edges b) (begin (b .before) .good .1 .0 .1)
+mul-edge c = scaled-fits _ (length (begin (c .before) .args .edges .now)) 4 (in-edges c) (begin (c .before) .good .1 .0 .1)
 
 shared-slice-read-edge : tie.Need-shared-slice-read-edge Inv-loop μ-loop
-shared-slice-read-edge c = in-edges (c .before .before)
+shared-slice-read-edge c = in-edges (c .before)
 
 reaches-requires : tie.Need-reaches-requires Inv-loop μ-loop
 reaches-requires c κs = search needs
 
 returns : tie.Need-returns Inv-loop μ-loop
 returns c =
-    let l = c .before .before .before .before .before in
+    let l = c .before .before .before .before in
     let s = begin l in
-    let i = c .before .before .before .before .beyond in
+    let i = c .before .before .before .beyond in
     ends-stopped (s .args .side) (s .args .freq .now) (s .args .edges .now) (s .args .limit .0) (s .args .start .0) (s .args .b .0)
     (s .pre) (l .before .loop .t) (l .before .loop .split .0) (l .before .loop .least) (l .before .loop .inv)
-    (i .result .0) (i .ensures) (beside-b l) (sym (c .before .reaches .ensures) ∙ not-true _ (c .if1 .taken))
+    (i .result) (i .ensures) (beside-b l) (sym (c .before .reaches .ensures) ∙ not-true _ (c .if1 .taken))
 
 mul-f : tie.Need-mul-f Inv-loop μ-loop
-mul-f c = let b = c .before .before .before .before in scaled-fits _ (length (begin (b .before) .args .freq .now)) 4 (in-freq b) (begin (b .before) .good .0 .1)
+mul-f c = let b = c .before .before .before in scaled-fits _ (length (begin (b .before) .args .freq .now)) 4 (in-freq b) (begin (b .before) .good .0 .1)
 
 shared-slice-read-f : tie.Need-shared-slice-read-f Inv-loop μ-loop
-shared-slice-read-f c = in-freq (c .before .before .before .before .before)
+shared-slice-read-f c = in-freq (c .before .before .before .before)
 
 add-t : tie.Need-add-t Inv-loop μ-loop
 add-t c =
-    let l = c .before .before .before .before .before .before .before in
+    let l = c .before .before .before .before .before .before in
     let s = begin l in
     omega (arith, beside-b l, short (s .args .side) (length (s .args .freq .now)) (s .args .b .0) (s .pre .inside), s .pre .given .few)
   where
@@ -139,27 +136,27 @@ add-t c =
     short Next n b h = omega arith
 
 loop-less : tie.Need-loop-less Inv-loop μ-loop
-loop-less c = omega (arith, c .before .before .before .before .before .before .before .loop-test .taken)
+loop-less c = omega (arith, c .before .before .before .before .before .before .loop-test .taken)
 
 loop-again : tie.Need-loop-again Inv-loop μ-loop
 loop-again c =
-    let l = c .before .before .before .before .before .before .before in
+    let l = c .before .before .before .before .before .before in
     let s = begin l in
     let r = c .before .before in
-    let i = r .before .before .before .before .beyond in
+    let i = r .before .before .before .beyond in
     ⊎-elim
     (λ w. subst₂
     (λ (p : Inst) (q : ℕ). Sweep (s .args .side) (s .args .freq .now) (s .args .edges .now) (s .args .limit .0) (s .args .start .0)
     (s .args .b .0) (l .before .loop .t + 1) (p .0) q) (sym (w .1)) (sym (w .2))
     (turn-lower (s .args .side) (s .args .freq .now) (s .args .edges .now) (s .args .limit .0) (s .args .start .0) (s .args .b .0)
     (s .pre) (l .before .loop .t) (l .before .loop .split .0) (l .before .loop .least) (l .before .loop .inv)
-    (i .result .0) (i .ensures) (beside-b l) (w .0 .taken) (sym (r .before .reaches .ensures) ∙ not-false _ (r .if1 .left))))
+    (i .result) (i .ensures) (beside-b l) (w .0 .taken) (sym (r .before .reaches .ensures) ∙ not-false _ (r .if1 .left))))
     (λ w. subst₂
     (λ (p : Inst) (q : ℕ). Sweep (s .args .side) (s .args .freq .now) (s .args .edges .now) (s .args .limit .0) (s .args .start .0)
     (s .args .b .0) (l .before .loop .t + 1) (p .0) q) (sym (w .1)) (sym (w .2))
     (turn-passes (s .args .side) (s .args .freq .now) (s .args .edges .now) (s .args .limit .0) (s .args .start .0) (s .args .b .0)
     (s .pre) (l .before .loop .t) (l .before .loop .split .0) (l .before .loop .least) (l .before .loop .inv)
-    (i .result .0) (i .ensures) (beside-b l) (w .0 .left)))
+    (i .result) (i .ensures) (beside-b l) (w .0 .left)))
     (c .if2 .came)
 
 returns-2 : tie.Need-returns-2 Inv-loop μ-loop
@@ -168,7 +165,7 @@ returns-2 c =
     let s = l .before .before .before .before .before .before in
     ends-swept (s .args .side) (s .args .freq .now) (s .args .edges .now) (s .args .limit .0) (s .args .start .0) (s .args .b .0)
     (s .pre) (l .loop .t) (l .loop .split .0) (l .loop .least) (l .loop .inv)
-    (subst (λ (x : ℕ). x ≤ l .loop .t) (l .before .before .before .beside .ensures) (c .loop-test .left))
+    (subst (λ (x : ℕ). x ≤ l .loop .t) (l .before .before .beside .ensures) (c .loop-test .left))
 
 pub sweep-spec : {M : Type 1} → statement M
 sweep-spec =
@@ -176,13 +173,12 @@ sweep-spec =
     (tie.spec
     Inv-loop
     μ-loop
-    beside-requires
     cast-at
+    beside-requires
     mul-least
     shared-slice-read-least
     loop-holds
     beyond-requires
-    cast-i
     mul-edge
     shared-slice-read-edge
     reaches-requires
