@@ -79,5 +79,6 @@ unfolding letter fields limit width position kindOf digitOrBlank digits field va
     badKind badFixedUse countBelow bestUse useTable rowsFrom carries splitUse addedToRow partOf costOf frequencyAt firstInst lastInst valueOf ofBits spillCost
     scaled firstBelow blockOf add sub mul round eq lt table gapsOf gapsBetween cuts cutGaps plus joined follow lowerLink isLower sumBelow overlapWith overlapsOf
     anyOf meets countsAsFixed spillWeight ofRegister fixedAgainst weighsAgainst fixedMet weightsWhere weightsMet fixedMetAny weightsMetAll picked numbersFrom
-    weightTest passes sideOpen leftFirst sideTried came tryOn try growth grown splitCost endOf proposalWith regionOf normalised fraction exceeds div ofInt weightsIn
+    weightTest passes sideOpen leftFirst sideTried came tryOn try growth grown splitCost endOf proposalWith regionOf normalised fraction exceeds
+    div ofInt weightsIn
 cases-answered = refl

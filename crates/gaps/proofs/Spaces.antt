@@ -164,7 +164,8 @@ module _ (side : Side) (freqs edges links : List ℕ) (s : Space) (n : ℕ) (len
         let p : Place side n at (suc (length (followed side links (s .last .0) (m .fuel-after) c))) (length all) =
         subst (λ (x : ℕ). Place side n at x (length all)) more (k .place) in
         let t = place-next n side at (length (followed side links (s .last .0) (m .fuel-after) c)) (length all) p in
-        let long = cut-gaps-length side (freqIn freqs) edgeIn (s .end .0) (s .far ∷ s .main ∷ []) (edgeIn c) zeroWeight c
+        let long =
+        cut-gaps-length side (freqIn freqs) edgeIn (s .end .0) (s .far ∷ s .main ∷ []) (edgeIn c) zeroWeight c
         (followed side links (s .last .0) (m .fuel-after) c) in (
           record {
             leads = k .leads;
@@ -196,7 +197,8 @@ module _ (side : Side) (freqs edges links : List ℕ) (s : Space) (n : ℕ) (len
         let p : Place side n at 0 (length all) = subst (λ (cs : List ℕ). Place side n at (length cs) (length all)) f (k .place) in
         let g = spanned side e (s .end .0) (w ∷ s .far ∷ s .main ∷ []) (freqIn freqs b) in (
           sym (place-one n side at g (length all) cols p)
-              ∙ ap (λ (cs : List ℕ). storedGaps (onSide side n at) (cutGaps side (freqIn freqs) edgeIn (s .end .0) (s .far ∷ s .main ∷ []) e w b cs) cols) (sym f)
+              ∙ ap (λ (cs : List ℕ). storedGaps (onSide side n at)
+              (cutGaps side (freqIn freqs) edgeIn (s .end .0) (s .far ∷ s .main ∷ []) e w b cs) cols) (sym f)
               ∙ k .gives,
           place-used n side at cutsLong (length all) all-length p,
         )
@@ -215,5 +217,6 @@ module _ (side : Side) (freqs edges links : List ℕ) (s : Space) (n : ℕ) (len
         → first ≡ n + onSide side cutsLong 0 → r ≡ max first at → (r + 1 ≡ n + length all) × (cols' ≡ storedGaps n all lent)
     storing-done q ef ec e1 er = (
       ap (λ (x : ℕ). x + 1) (er ∙ ap (λ (x : ℕ). max x at) e1) ∙ storing-ends q .1,
-      ec ∙ ap (withRow cols at (onSide side (s .end .0) e) (onSide side e (s .end .0)) (add binary32 (add binary32 w (s .far)) (s .main))) ef ∙ storing-ends q .0,
+      ec ∙ ap (withRow cols at (onSide side (s .end .0) e) (onSide side e (s .end .0)) (add binary32 (add binary32 w (s .far)) (s .main))) ef
+          ∙ storing-ends q .0,
     )

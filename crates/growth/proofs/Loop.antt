@@ -18,7 +18,8 @@ use Rattle.growth.specs.Growth.{GapsSeen, Span, State, ownSpan, gapsIn, 
 use Rattle.growth.specs.Growth.{sideTried, barred, grows, came, cameOn, afterCame, tryOn, tryAt, try, growth, grown}
 use Rattle.growth.specs.Proposal.{proposalWith, proposalOf, regionOf}
 use Rattle.growth.specs.Demand.{Around, Ended, SoundGaps}
-use Rattle.growth.specs.Columns.{grownOf, growthOf, spanOf, stateOf, InsideGaps, CountFits, tried, ownTried, cameWith, triedWith, noGrowth, barredOn, afterWith, afterTried}
+use Rattle.growth.specs.Columns.{grownOf, growthOf, spanOf, stateOf, InsideGaps, CountFits, tried, ownTried, cameWith, triedWith, noGrowth, barredOn}
+use Rattle.growth.specs.Columns.{afterWith, afterTried}
 use Rattle.growth.specs.Columns.{startAt, Going}
 use Rattle.growth.specs.declared.step.Growth.{Growth}
 use Rattle.growth.specs.declared.step.Tried.{Tried}
@@ -27,7 +28,8 @@ use Rattle.growth.specs.declared.step.Came.the-variants as Came·is
 use Rattle.growth.specs.declared.step.Turn.{Turn}
 use Rattle.growth.specs.declared.step.Turn.the-variants.{Try, End}
 use Rattle.growth.specs.declared.proposal.Region.the-variants.{Found, Nothing}
-use Rattle.growth.proofs.Tries.{not-is, is-true, open-left, turn-cases, try-on, leftToTry, fewer-grown, fewer-barred, growth-around, ended-stays, growth-same}
+use Rattle.growth.proofs.Tries.{not-is, is-true, open-left, turn-cases, try-on, leftToTry, fewer-grown, fewer-barred, growth-around, ended-stays}
+use Rattle.growth.proofs.Tries.{growth-same}
 use Rattle.growth.proofs.Spans.{between-one, outside-inside, tried-insts-few}
 use Rattle.growth.proofs.Meetings.{heaviest-with-gap}
 use Rattle.growth.proofs.Proposals.{growth-met}

@@ -11,7 +11,8 @@ use Rattle.columns.proofs.Tests.{cond-both, cond-false}
 use Rattle.links.specs.declared.lower.Side.{Side}
 use Rattle.links.specs.declared.lower.Side.the-variants.{Previous, Next}
 use Rattle.links.specs.Links.{onSide}
-use Rattle.growth.specs.Growth.{GapsSeen, State, gapOutside, weightTest, usedUp, grownBy, passes, passesOn, start, sideOpen, isOpen, prefersLeft, sideTried}
+use Rattle.growth.specs.Growth.{GapsSeen, State, gapOutside, weightTest, usedUp, grownBy, passes, passesOn, start, sideOpen, isOpen, prefersLeft}
+use Rattle.growth.specs.Growth.{sideTried}
 use Rattle.growth.specs.Growth.{barred, grows, came, afterCame, tryOn, tryAt, try, growth}
 use Rattle.growth.specs.Demand.{Around, Ended}
 use Rattle.growth.specs.declared.step.Came.the-variants.{Grown, Fixed, Weight}

@@ -1,10 +1,10 @@
 -- Growth and its walkers from try to try: a try can be made, the walkers stand right after it, and in the end the region's proposal is the answer
 use mathlib.Core.Path.{_≡_, refl, sym, ap, _∙_, subst}
 use mathlib.Core.Logic.{⊎-elim}
-use Prim.Native.Nat.{ℕ, zero, suc, _+_, _-_, _≤_, _<_, max}
-use native.Mathlib.Nat.{le-refl, le-trans, le-of-eq}
+use Prim.Native.Nat.{ℕ, _+_, _-_, _≤_, _<_, max}
+use native.Mathlib.Nat.{le-trans, le-of-eq}
 use native.Mathlib.Omega.{arith}
-use mathlib.Core.Bool.{Bool, true, false, not, cond, true≢false}
+use mathlib.Core.Bool.{true, false, not, cond, true≢false}
 use mathlib.Core.List.{List}
 use lib.Dec.{T, leb, eqb}
 use lib.Ieee.{Float}
@@ -29,12 +29,11 @@ use Rattle.walks.specs.Gaps.{segmentsOfGap, heaviestInGap, OrderedGaps, GapsFro
 use Rattle.overlaps.specs.GapSegments.{SegmentColumns}
 use Rattle.walks.proofs.GapWalk.{begins, gaps-found}
 use Rattle.walks.proofs.GapSegments.{all-weights}
-use Rattle.growth.specs.Growth.{GapsSeen, State, gapsIn, weightsIn, ownSpan, growth, gapOutside, passes, isOpen, sideTried}
-use Rattle.growth.specs.Demand.{SoundGaps}
-use Rattle.growth.specs.Columns.{numberAt, floatAt, spanOf, stateOf, grownOf, InsideGaps, CountFits, turnOf, tried, ownTried, withGap, triedWith, noGrowth}
-use Rattle.growth.specs.Columns.{barredOn, startAt, afterWith, afterTried, Going}
+use Rattle.growth.specs.Growth.{GapsSeen, gapsIn, weightsIn, growth, isOpen}
+use Rattle.growth.specs.Columns.{numberAt, floatAt, spanOf, stateOf, InsideGaps, CountFits, turnOf, tried, ownTried, withGap, triedWith, noGrowth}
+use Rattle.growth.specs.Columns.{afterWith, afterTried, Going}
 use Rattle.growth.specs.Proposal.{regionOf}
-use Rattle.growth.specs.declared.proposal.Region.the-variants.{Found, Nothing}
+use Rattle.growth.specs.declared.proposal.Region.the-variants.{Nothing}
 use Rattle.growth.specs.declared.step.Came.{Came}
 use Rattle.growth.specs.declared.step.Came.the-variants as Came·is
 use Rattle.growth.specs.declared.step.Grown.{Grown}
@@ -46,7 +45,7 @@ use Rattle.growth.proofs.Tries.{not-is, open-free, open-left, leftToTry}
 use Rattle.growth.proofs.Proposals.{growth-met}
 use Rattle.growth.proofs.Loop.{TurnOf, own-tried, own-after, answer-nothing, going-start, going-open, going-inside, going-after, going-less, going-found}
 use Rattle.growth.proofs.Loop.{going-tried, going-count-fits, going-gap, going-other}
-use Rattle.region.specs.OneTry.{gapOn, instsAt, Triable, triedOn, Relies, Right, Attempts}
+use Rattle.region.specs.OneTry.{gapOn, instsAt, Triable, triedOn, Relies, Attempts}
 use Rattle.region.specs.Find.{seenBy, InTable, Begun, edgeOn, barredAt, Due, own-try, its-turn, Reached, Answers, pointAt}
 use Rattle.region.specs.declared.one_try.Attempt.{Attempt}
 
@@ -113,7 +112,8 @@ module _ (p : Register) (t : Reserved) (g : SegmentColumns) (froms : List ℕ) (
       where
         by : Due seen now side → gapOn side now < seen .count
         by (own-try e f) =
-            subst (λ (x : Growth). gapOn side x < seen .count) (sym e) (subst (λ (s : Side). gapOn s (noGrowth own) < seen .count) (sym f) (table .sound .inside))
+            subst (λ (x : Growth). gapOn side x < seen .count) (sym e)
+            (subst (λ (s : Side). gapOn s (noGrowth own) < seen .count) (sym f) (table .sound .inside))
         by (its-turn going turn) = going-gap seen (table .sound) now side going turn
 
     due-some : onSide side 1 0 ≤ now .region .left
@@ -188,7 +188,8 @@ module _ (p : Register) (t : Reserved) (g : SegmentColumns) (froms : List ℕ) (
           subst (λ (x : Tried). Reached p t g (afterTried x now) (r .walkers)) (sym (right .tried))
           (record {
             fits = a .fits;
-            at = both-sides (λ (s : Side). barredAt s (afterTried tr now) ≡ false → At s p (t .rows) g (edgeOn s (afterTried tr now .region)) (walkOn s (r .walkers))) side
+            at = both-sides (λ (s : Side). barredAt s (afterTried tr now) ≡ false
+                → At s p (t .rows) g (edgeOn s (afterTried tr now .region)) (walkOn s (r .walkers))) side
                 (λ e. subst (λ (n : ℕ). At side p (t .rows) g n (walkOn side (r .walkers)))
                 (far-edge side gap (now .region) (floatAt weights gap) (instsAt lives own gap) (heaviestInGap p t g gap (now .region .heaviest))
                 ∙ same-side (tr .came) side (tr .region) now e) (right .at))
@@ -226,7 +227,8 @@ module _ (p : Register) (t : Reserved) (g : SegmentColumns) (froms : List ℕ) (
       let i = going-inside seen (table .sound .inside) now going in
       record { inside = λ _. i; some = λ _. going; none = λ h. absurd (let s = i .some in omega (arith, s, h)) }
 
-  pub due-gone : (now : Growth) (side : Side) (due : Due seen now side) (t' : Tried) → t' ≡ triedOn side p t g weights lives own k now → Gone (afterTried t' now)
+  pub due-gone : (now : Growth) (side : Side) (due : Due seen now side) (t' : Tried) → t' ≡ triedOn side p t g weights lives own k now
+      → Gone (afterTried t' now)
   due-gone now side (own-try e f) t' is =
       subst (λ (x : Growth). Gone (afterTried t' x)) (sym e)
       (subst (λ (x : Tried). Gone (afterTried x (noGrowth own)))
@@ -318,7 +320,8 @@ module _ (p : Register) (t : Reserved) (g : SegmentColumns) (ordered : OrderedGa
       }
   begin-after small Next h = record { is = le-of-eq (point-row (h .is)) }
 
-  pub starts : ((k : ℕ) → getD (g .to) k 0 ≤ 4294967295) → (side : Side) (w : Walk) → w .next ≡ next → Stands side p (t .rows) point w → At side p (t .rows) g own w
+  pub starts : ((k : ℕ) → getD (g .to) k 0 ≤ 4294967295) → (side : Side) (w : Walk) → w .next ≡ next → Stands side p (t .rows) point w
+      → At side p (t .rows) g own w
   starts small side w e s =
       begins side g own point w (subst (GapsFrom g own) (sym e) (gaps-found g ordered own next found))
       (λ h. subst (λ (n : ℕ). Upto side point (beginAt side g (rowAhead side n))) (sym e)

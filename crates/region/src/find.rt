@@ -13,7 +13,6 @@ use walks::both::Walkers;
 use walks::meeting::Register;
 ghost use mathlib.Core.Path.{_≡_};
 ghost use mathlib.Core.List.{map};
-ghost use Prim.Native.Nat.{_≤_};
 ghost use lib.ListN.{length, take};
 ghost use Rattle.walks.specs.Meeting.{reservedIn, reservedOf};
 ghost use Rattle.walks.specs.Standing.{Known};
@@ -24,14 +23,14 @@ ghost use Rattle.region.specs.Find.{seenBy, InTable, Walking, RowsInside
 
 // Grows from a region of no gap, with the own gap as the first that is tried, until no side is open: the region with which growth ends, and
 // the heaviest weight that it meets. It has no gap if the own gap fails.
-fn grow<'a>(
+fn grow<'a, 'b>(
     from: &[u32],
     weight: &[f32],
     live: &[u32],
     min_freq: &[f32],
     initial: usize,
     segments: [&'a [u32]; 4],
-    reserved: [&'a [u32]; 10],
+    reserved: [&'b [u32]; 10],
     register: Register,
     k: u32,
     walkers: Walkers,
@@ -52,7 +51,16 @@ fn grow<'a>(
     let mut side = Side::Next;
     let region = 'grow: loop {
         let t = try_side(
-            side, weight, live, initial, segments, reserved, register, k, growth, walkers,
+            side,
+            weight,
+            live,
+            initial,
+            segments,
+            reserved,
+            register,
+            k,
+            growth,
+            walkers,
         );
         walkers = t.walkers;
         growth = growth.after(t.tried);
@@ -75,14 +83,14 @@ fn point_at(out_from: &[u32], next: usize) -> Point
 }
 
 // The proposal of the region with which growth from the best use's gap ends, or nothing where that gap fails.
-fn find_split_region<'a>(
+fn find_split_region<'a, 'b>(
     from: &[u32],
     weight: &[f32],
     live: &[u32],
     min_freq: &[f32],
     initial: usize,
     segments: [&'a [u32]; 4],
-    reserved: [&'a [u32]; 10],
+    reserved: [&'b [u32]; 10],
     register: Register,
     k: u32,
 ) -> Region
@@ -112,7 +120,16 @@ fn find_split_region<'a>(
         point,
     );
     let g = grow(
-        from, weight, live, min_freq, initial, segments, reserved, register, k, walkers,
+        from,
+        weight,
+        live,
+        min_freq,
+        initial,
+        segments,
+        reserved,
+        register,
+        k,
+        walkers,
     );
     if g.left < g.right {
         return Region::Found(proposal_of(from, min_freq, from.len(), g));
@@ -121,7 +138,7 @@ fn find_split_region<'a>(
 }
 
 // The same for work tables of which only the first rows count: so many gaps, so many gap segments.
-pub fn find_in_tables<'a>(
+pub fn find_in_tables<'a, 'b>(
     from: &[u32],
     weight: &[f32],
     live: &[u32],
@@ -133,16 +150,16 @@ pub fn find_in_tables<'a>(
     out_value: &'a [u32],
     out_gap: &'a [u32],
     segments: usize,
-    unit: &'a [u32],
-    start: &'a [u32],
-    end: &'a [u32],
-    kind: &'a [u32],
-    index: &'a [u32],
-    fixed: &'a [u32],
-    f_unit: &'a [u32],
-    f_point: &'a [u32],
-    f_value: &'a [u32],
-    spill_weight: &'a [u32],
+    unit: &'b [u32],
+    start: &'b [u32],
+    end: &'b [u32],
+    kind: &'b [u32],
+    index: &'b [u32],
+    fixed: &'b [u32],
+    f_unit: &'b [u32],
+    f_point: &'b [u32],
+    f_value: &'b [u32],
+    spill_weight: &'b [u32],
     register: Register,
     k: u32,
 ) -> Region

@@ -7,11 +7,9 @@ use links::lower::Side;
 use walks::both::Walkers;
 use walks::meeting::Register;
 ghost use mathlib.Core.Path.{_≡_};
-ghost use mathlib.Core.Bool.{cond};
 ghost use mathlib.Core.List.{map};
 ghost use Prim.Native.Nat.{_<_};
-ghost use lib.Dec.{eqb};
-ghost use lib.ListN.{length, getD};
+ghost use lib.ListN.{length};
 ghost use Rattle.walks.specs.Meeting.{reservedIn};
 ghost use Rattle.walks.specs.Gaps.{segmentsIn, FitsBoth};
 ghost use Rattle.region.specs.OneTry.{instsAt, Triable, Attempts};
@@ -34,13 +32,13 @@ fn insts_of(live: &[u32], own: usize, gap: usize) -> u32
 }
 
 // A try on a side: the walker there takes the gap's segments, and the region with the gap is tried.
-pub(crate) fn try_side<'a>(
+pub(crate) fn try_side<'a, 'b>(
     side: Side,
     weight: &[f32],
     live: &[u32],
     own: usize,
     segments: [&'a [u32]; 4],
-    reserved: [&'a [u32]; 10],
+    reserved: [&'b [u32]; 10],
     register: Register,
     k: u32,
     growth: Growth,
@@ -56,16 +54,7 @@ pub(crate) fn try_side<'a>(
     let took = walkers.take_gap(side, segments, reserved, register, gap as u32, g.heaviest);
     let met = took.met;
     let insts = insts_of(live, own, gap);
-    let tried = try_gap(
-        side,
-        gap,
-        g,
-        weight[gap],
-        insts,
-        met.fixed,
-        met.heaviest,
-        k,
-    );
+    let tried = try_gap(side, gap, g, weight[gap], insts, met.fixed, met.heaviest, k);
     let walkers = took.walkers;
     Attempt { tried, walkers }
 }

@@ -94,7 +94,9 @@ module _ (rows : List Reservation) (ordered : OrderedRows rows) (u : ℕ) where
 
   module _ (unit : List ℕ) (h : Holds unit rows noReservation (λ (r : Reservation). r .unit)) where
     pub units-rise : (lo : ℕ) → Rising unit lo (length rows)
-    units-rise lo = rises unit rows noReservation (λ (r : Reservation). r .unit) h lo (length rows) (le-refl (length rows)) (λ i k _ q r. ordered .units i k q r)
+    units-rise lo =
+        rises unit rows noReservation (λ (r : Reservation). r .unit) h lo (length rows) (le-refl (length rows))
+        (λ i k _ q r. ordered .units i k q r)
 
     pub rows-found : (from to : ℕ) → FirstIn (λ (k : ℕ). leb u (getD unit k 0)) 0 (length rows) from
         → FirstIn (λ (k : ℕ). leb (u + 1) (getD unit k 0)) from (length rows) to → RowsOfUnit rows u from to
@@ -148,8 +150,10 @@ module _ (rows : List Reservation) (ordered : OrderedRows rows) (u : ℕ) where
         record {
           ahead =
               λ k m l. record { is = ⊎-elim (λ x. le-of-eq (sym (own .own k (le-trans (f .from) (l .is)) x))) (λ x. le-of-lt (own .later k x m)) (split k to) };
-          passed = λ k m l e. record { is = le-of-lt
-              (passed end rows noReservation (λ (x : Reservation). x .end) h point from to r (own .inside) f k (not-before k e) (below k r (l .is))) };
+          passed = λ k m l e. record {
+            is = le-of-lt
+                (passed end rows noReservation (λ (x : Reservation). x .end) h point from to r (own .inside) f k (not-before k e) (below k r (l .is)));
+          };
         }
       where
         below : (k r : ℕ) → k + 1 ≤ r → k < r

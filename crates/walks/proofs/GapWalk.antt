@@ -71,7 +71,8 @@ one-false false b e = inl refl
 pub of-gap-true : (side : Side) (gaps : List ℕ) (used gap i : ℕ) → isOfGap side gaps used gap i ≡ true
     → AnyAhead side i used × (getD gaps (rowAhead side i) 0 ≡ gap)
 of-gap-true side gaps used gap i e =
-    let p = both-true (anyAhead side i used) (eqb (getD gaps (rowAhead side i) 0) gap) e in
+    let p =
+    both-true (anyAhead side i used) (eqb (getD gaps (rowAhead side i) 0) gap) e in
     (ahead-true side i used (p .0), eqb-true (getD gaps (rowAhead side i) 0) gap (p .1))
 
 pub of-gap-false : (side : Side) (gaps : List ℕ) (used gap i : ℕ) → isOfGap side gaps used gap i ≡ false → AnyAhead side i used
@@ -153,7 +154,8 @@ module _ (side : Side) (g : SegmentColumns) (gap : ℕ) where
     gap-first i m w f =
         gap-none p t g gap (PassedGaps side g i) m w (λ k q. ne-eqb (gapAt k) gap (near-other side gap (from-passed g near i side f k (q .1) (q .0))))
 
-    pub gap-step : (i : ℕ) (m₀ m : Met) → AnyAhead side i (g .used) → i ≤ g .used → ofGap g gap (rowAhead side i) ≡ true → SeenGap p t g gap (PassedGaps side g i) m₀ m
+    pub gap-step : (i : ℕ) (m₀ m : Met) → AnyAhead side i (g .used) → i ≤ g .used → ofGap g gap (rowAhead side i) ≡ true
+        → SeenGap p t g gap (PassedGaps side g i) m₀ m
         → SeenGap p t g gap (PassedGaps side g (placeBehind side i)) m₀ (alsoMet p t (segmentIn g (rowAhead side i)) m)
     gap-step i m₀ m any inside e k =
         gap-more p t g gap (PassedGaps side g i) (PassedGaps side g (placeBehind side i)) (rowAhead side i)
@@ -172,5 +174,6 @@ module _ (side : Side) (g : SegmentColumns) (gap : ℕ) where
       → AnyAhead side (placeBehind side i) (g .used) → Stands side p rows (beginAt side g (rowAhead side (placeBehind side i))) w
   stands-on ordered i any inside s next =
       later side
-      (segments-on g ordered side (rowAhead side i) (rowAhead side (placeBehind side i)) (row-before side i (row-is-ahead side next)) (row-inside side any inside)
+      (segments-on g ordered side (rowAhead side i) (rowAhead side (placeBehind side i)) (row-before side i (row-is-ahead side next))
+      (row-inside side any inside)
       (row-inside side next (behind-inside side any inside))) s

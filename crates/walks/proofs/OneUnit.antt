@@ -84,7 +84,8 @@ PassedRows side t i k = Passed side i k × (k < length (t .rows))
 module _ (side : Side) (t : Reserved) (ordered : OrderedRows (t .rows)) (s : GapSegment) (u : ℕ) where
   pub unit-begin : (at : ℕ) (m : Met) → Weight (m .heaviest) → StandsIn side (t .rows) u (beginOf side s) at → Seen (oneUnit u) t s (PassedRows side t at) m m
   unit-begin at m w b =
-      seen-none (oneUnit u) t s (PassedRows side t at) m w (λ k l. apart-by s u (rowOf t k) (λ e. comes-before side s (rowOf t k) (b .passed k (l .1) (l .0) e)))
+      seen-none (oneUnit u) t s (PassedRows side t at) m w
+      (λ k l. apart-by s u (rowOf t k) (λ e. comes-before side s (rowOf t k) (b .passed k (l .1) (l .0) e)))
 
   -- at a row ahead
   module _ (i : ℕ) (any : AnyAhead side i (length (t .rows))) (inside : i ≤ length (t .rows)) (m₀ m : Met) where
@@ -111,7 +112,8 @@ module _ (side : Side) (t : Reserved) (ordered : OrderedRows (t .rows)) (s : Gap
         (λ e. ne (upto-between side (b .ahead row there (row-is-ahead side any)) (units-on t ordered side row j (row-first side l) there n) e)))))
         (passed-or-ahead side i j)) m₀ m k
 
-    pub unit-past : rowOf t row .unit ≡ u → Upto side (endOf side s) (rowEnd side (rowOf t row)) → Seen (oneUnit u) t s (PassedRows side t (placeBehind side i)) m₀ m
+    pub unit-past : rowOf t row .unit ≡ u → Upto side (endOf side s) (rowEnd side (rowOf t row))
+        → Seen (oneUnit u) t s (PassedRows side t (placeBehind side i)) m₀ m
         → Seen (oneUnit u) t s (All t) m₀ m
     unit-past e l k =
         seen-all (oneUnit u) t s (PassedRows side t (placeBehind side i)) (λ j q. q .1)
@@ -127,9 +129,11 @@ module _ (side : Side) (t : Reserved) (ordered : OrderedRows (t .rows)) (s : Gap
       record {
         ahead = λ k n a. b .ahead k n (ahead-before side i a);
         passed =
-            λ k n q e. ⊎-elim (λ x. b .passed k n x e) (λ x. subst (λ (j : ℕ). Upto side (rowEnd side (rowOf t j)) (endOf side s)) (sym x) l) (passed-only side q);
+            λ k n q e. ⊎-elim (λ x. b .passed k n x e) (λ x. subst (λ (j : ℕ). Upto side (rowEnd side (rowOf t j)) (endOf side s)) (sym x) l)
+            (passed-only side q);
       }
 
   -- out where no row is ahead
-  pub unit-end : (i : ℕ) (m₀ m : Met) → (AnyAhead side i (length (t .rows)) → ⊥) → Seen (oneUnit u) t s (PassedRows side t i) m₀ m → Seen (oneUnit u) t s (All t) m₀ m
+  pub unit-end : (i : ℕ) (m₀ m : Met) → (AnyAhead side i (length (t .rows)) → ⊥) → Seen (oneUnit u) t s (PassedRows side t i) m₀ m
+      → Seen (oneUnit u) t s (All t) m₀ m
   unit-end i m₀ m none k = seen-all (oneUnit u) t s (PassedRows side t i) (λ j q. q .1) (λ j n. inl (none-ahead side none n, n)) m₀ m k

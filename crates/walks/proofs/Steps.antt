@@ -1,6 +1,6 @@
 -- Small facts on row numbers and largest numbers, one each
 use mathlib.Core.Path.{_≡_}
-use Prim.Native.Nat.{ℕ, suc, _+_, _-_, _≤_, _<_, max}
+use Prim.Native.Nat.{ℕ, suc, _+_, _≤_, _<_, max}
 use native.Mathlib.Omega.{arith}
 
 -- the row after i
@@ -10,36 +10,11 @@ next-only k i p q = omega arith
 pub next-inside : (i n : ℕ) → i < n → i + 1 ≤ n
 next-inside i n p = omega arith
 
-pub next-after : (i : ℕ) → i < i + 1
-next-after i = omega arith
-
-pub below-next : (k i : ℕ) → k < i → k < i + 1
-below-next k i p = omega arith
-
 pub past-next : (i k : ℕ) → i + 1 ≤ k → i ≤ k
 past-next i k p = omega arith
 
 pub after-next : (i k : ℕ) → i + 1 ≤ k → i < k
 after-next i k p = omega arith
-
--- the row before i
-pub last-only : (k i : ℕ) → i - 1 ≤ k → k < i → k ≡ i - 1
-last-only k i p q = omega arith
-
-pub last-inside : (i n : ℕ) → 0 < i → i ≤ n → i - 1 < n
-last-inside i n p q = omega arith
-
-pub last-before : (i : ℕ) → 0 < i → i - 1 < i
-last-before i p = omega arith
-
-pub last-upto : (i k : ℕ) → i ≤ k → i - 1 ≤ k
-last-upto i k p = omega arith
-
-pub upto-last : (k i : ℕ) → k < i → k ≤ i - 1
-upto-last k i p = omega arith
-
-pub below-last : (k i : ℕ) → k < i - 1 → k < i
-below-last k i p = omega arith
 
 -- row numbers
 pub below-upto : (a b c : ℕ) → a < b → b ≤ c → a < c

@@ -13,16 +13,9 @@ use Rattle.links.specs.Links.{onSide}
 use Rattle.walks.specs.Ways.{Upto, Before, nearEnd, farEnd, Ahead, Passed, AnyAhead, anyAhead, rowAhead, placeBehind}
 
 -- ---- order
-pub upto-same : (side : Side) {a b : ℕ} → a ≡ b → Upto side a b
-upto-same Previous e = record { is = omega (arith, e) }
-upto-same Next e = record { is = omega (arith, e) }
-
 pub upto-trans : (side : Side) {a b c : ℕ} → Upto side a b → Upto side b c → Upto side a c
 upto-trans Previous p q = record { is = le-trans (q .is) (p .is) }
 upto-trans Next p q = record { is = le-trans (p .is) (q .is) }
-
-pub before-upto : (side : Side) {a b : ℕ} → Before side a b → Upto side a b
-before-upto side p = record { is = le-of-lt (p .is) }
 
 -- a number between two that are the same is that number
 pub upto-between : (side : Side) {a b c : ℕ} → Upto side c a → Upto side a b → b ≡ c → a ≡ c

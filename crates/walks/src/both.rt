@@ -126,11 +126,11 @@ impl Walkers {
     }
 
     // The walker of a side takes a gap; the other stays where it is.
-    pub fn take_gap<'a>(
+    pub fn take_gap<'a, 'b>(
         mut self,
         side: Side,
         segments: [&'a [u32]; 4],
-        reserved: [&'a [u32]; 10],
+        reserved: [&'b [u32]; 10],
         register: Register,
         gap: u32,
         heaviest: f32,

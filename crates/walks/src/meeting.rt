@@ -74,13 +74,7 @@ fn clashes(s: GapSegment, f: HeldUse) -> bool
 
 // A fixed use of the reservation's unit, from its fixed row on, clashes with the segment. Where the unit's fixed uses begin is
 // searched for here, so that no walker has to keep it. They are in order: once one lies past the segment, the rest does.
-fn use_clashes(
-    f_unit: &[u32],
-    f_point: &[u32],
-    f_value: &[u32],
-    r: Held,
-    s: GapSegment,
-) -> bool
+fn use_clashes(f_unit: &[u32], f_point: &[u32], f_value: &[u32], r: Held, s: GapSegment) -> bool
     ensures { λ b. ⌜
         (let fixedUses = fixedUsesOf (now («f_unit» .entry)) (now («f_point» .entry)) (now («f_value» .entry)) in
         OrderedUses fixedUses → b ≡ anyBelow (useCounts fixedUses s (plainRow r)) (length fixedUses)) ⌝ }
@@ -105,13 +99,7 @@ fn use_clashes(
 }
 
 // Whether a reservation that meets the segment counts as fixed.
-fn counts_as_fixed(
-    f_unit: &[u32],
-    f_point: &[u32],
-    f_value: &[u32],
-    r: Held,
-    s: GapSegment,
-) -> bool
+fn counts_as_fixed(f_unit: &[u32], f_point: &[u32], f_value: &[u32], r: Held, s: GapSegment) -> bool
     ensures { λ b. ⌜
         (let fixedUses = fixedUsesOf (now («f_unit» .entry)) (now («f_point» .entry)) (now («f_value» .entry)) in
         OrderedUses fixedUses → b ≡ countsAsFixed fixedUses s (plainRow r)) ⌝ }

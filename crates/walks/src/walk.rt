@@ -167,11 +167,11 @@ impl Walk {
     }
 
     // The gap segments of one gap, from the next row on.
-    pub(crate) fn take_gap<'a>(
+    pub(crate) fn take_gap<'a, 'b>(
         mut self,
         side: Side,
         segments: [&'a [u32]; 4],
-        reserved: [&'a [u32]; 10],
+        reserved: [&'b [u32]; 10],
         register: Register,
         gap: u32,
         heaviest: f32,

@@ -26,8 +26,12 @@ module _ (col : List ℕ) (lo hi x : ℕ) (order : lo ≤ hi) where
 returns : tie.Need-returns
 returns c =
     let b = c .before .before in
-    let o = b .pre .0 in
-    (o, le-refl (b .args .hi), λ _. at-end (b .args .col .now) (b .args .lo) (b .args .hi) (b .args .x) o (λ k p q. absurd (omega (arith, p, q, c .if1 .taken))))
+    let o = b .pre .0 in (
+      o,
+      le-refl (b .args .hi),
+      λ _. at-end (b .args .col .now) (b .args .lo) (b .args .hi) (b .args .x) o
+          (λ k p q. absurd (omega (arith, p, q, c .if1 .taken))),
+    )
 
 mul-if2 : tie.Need-mul-if2
 mul-if2 c = search needs
@@ -38,7 +42,8 @@ shared-slice-read-if2 c = search needs
 returns-2 : tie.Need-returns-2
 returns-2 c =
     let b = c .before .before .before .before in
-    let o = b .pre .0 in
+    let o =
+    b .pre .0 in
     (le-refl (b .args .lo), o, λ _. at-first (b .args .col .now) (b .args .lo) (b .args .hi) (b .args .x) o (c .if2 .taken))
 
 sub-if3 : tie.Need-sub-if3
@@ -53,7 +58,8 @@ shared-slice-read-if3 c = search needs
 returns-3 : tie.Need-returns-3
 returns-3 c =
     let b = c .before .before .before .before .before .before in
-    let o = b .pre .0 in
+    let o =
+    b .pre .0 in
     (o, le-refl (b .args .hi), λ s. none-reaches (b .args .col .now) (b .args .lo) (b .args .hi) (b .args .x) o s (c .if3 .taken))
 
 first-at-least-requires : tie.Need-first-at-least-requires

@@ -68,13 +68,15 @@ row c =
 -- and goes on at a block of the list
 next : (c : tie.Else1 Inv-loop μ-loop)
     → let a = begin (turn c) .args in
-    let d = c .before .before .before .lower .given .0 .0 .0 in
+    let d =
+    c .before .before .before .lower .given .0 .0 .0 in
     (beside (a .side) (length (a .links .now)) d < beside (a .side) (length (a .links .now)) (turn c .loop .b .0))
     × (d < length (a .links .now)) × (onSide (a .side) 1 0 ≤ turn c .loop .at)
 next c =
     let a = begin (turn c) .args in
     let l = turn c .loop in
-    let m = storing-next (a .side) (a .freq .now) (a .edges .now) (a .links .now) (a .s) (a .n)
+    let m =
+    storing-next (a .side) (a .freq .now) (a .edges .now) (a .links .now) (a .s) (a .n)
     (gapColumns (a .from .now) (a .to .now) (a .weight .now) (a .min-freq .now))
     (gapColumns (l .from) (l .to) (l .weight) (l .min-freq)) (l .b .0) (l .at) (l .edge .0) (l .w) (l .inv)
     (c .before .before .before .lower .given .0 .0 .0) (cut c) in
@@ -82,7 +84,8 @@ next c =
 
 rows-before-requires : tie.Need-rows-before-requires Inv-loop μ-loop
 rows-before-requires c κs =
-    let at-pre = c .before .before .before .before .before .before .before .before .before in
+    let at-pre =
+    c .before .before .before .before .before .before .before .before .before in
     (at-pre .pre .0 .0, at-pre .pre .0 .2)
 
 add-first : tie.Need-add-first Inv-loop μ-loop
@@ -91,7 +94,8 @@ add-first c =
     let a = at-args .args in
     let e = c .rows-before .ensures in
     let r = at-args .pre .1 .from in
-    let f = first-inside (a .side) (a .freq .now) (a .edges .now) (a .links .now) (a .s) (a .n)
+    let f =
+    first-inside (a .side) (a .freq .now) (a .edges .now) (a .links .now) (a .s) (a .n)
     (gapColumns (a .from .now) (a .to .now) (a .weight .now) (a .min-freq .now)) in
     let g = at-args .good .1 .1 .1 .1 .0 .1 in
     omega (arith, e, r, f, g)
@@ -150,11 +154,13 @@ next-row-requires c κs =
     let e = c .before .before .before .before .before .before .before .before .before .before .before .before .before .before .before .before in
     let r = row (turn e) .from in
     let g = begin (turn e) .good .1 .1 .1 .1 .0 .1 in
-    let z = turn e .loop .inv .same .from in
+    let z =
+    turn e .loop .inv .same .from in
     (next e .2, omega (arith, r, g, z))
 
 loop-less : tie.Need-loop-less Inv-loop μ-loop
-loop-less c = next (c .before .before .before .before .before .before .before .before .before .before .before .before .before .before .before .before .before) .0
+loop-less c =
+    next (c .before .before .before .before .before .before .before .before .before .before .before .before .before .before .before .before .before) .0
 
 loop-again : tie.Need-loop-again Inv-loop μ-loop
 unfolding ofBits
@@ -200,7 +206,9 @@ returns c =
 
 add-result : tie.Need-add-result Inv-loop μ-loop
 add-result c =
-    let at-args = begin (c .before .before .before .before .before .before .before .before .before .before .before .before .before .before .before .before .before .before .before) in
+    let at-args =
+    begin (c .before .before .before .before .before .before .before .before .before .before .before .before .before .before .before .before .before .before
+    .before) in
     let r = at-args .pre .1 .from in
     let g = at-args .good .1 .1 .1 .1 .0 .1 in
     let e = returns c .0 in

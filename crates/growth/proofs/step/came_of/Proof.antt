@@ -1,5 +1,5 @@
 -- `came_of` asks for a fixed one first, then for the weight
-use mathlib.Core.Path.{sym, ap, _∙_}
+use mathlib.Core.Path.{sym, _∙_}
 use borrow.Author.Needs.{needs}
 use Rattle.columns.proofs.Tests.{cond-true, cond-false}
 use Rattle.growth.specs.Columns.{cameWith}

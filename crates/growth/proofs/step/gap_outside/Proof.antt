@@ -1,6 +1,6 @@
 -- `gap_outside` is the gap beside the region
 use mathlib.Core.Path.{sym, ap, subst}
-use Prim.Native.Nat.{ℕ, _≤_}
+use Prim.Native.Nat.{_≤_}
 use native.Mathlib.Omega.{arith}
 use borrow.Author.Needs.{needs}
 use Rattle.links.specs.declared.lower.Side.{Side}

@@ -1,6 +1,5 @@
 -- `next_turn` asks which side is tried where there is a region
 use mathlib.Core.Path.{sym, _∙_}
-use borrow.Author.Needs.{needs}
 use borrow.Author.Tests.{lt-ltb, le-ltb}
 use Rattle.columns.proofs.Tests.{cond-true, cond-false}
 use Rattle.growth.specs.Columns.{turnOf}

@@ -1,12 +1,12 @@
 -- `try_gap` asks what comes of the region with the gap
-use mathlib.Core.Path.{_≡_, sym, ap, ap₂, _∙_}
+use mathlib.Core.Path.{ap, _∙_}
 use borrow.Author.Needs.{needs}
 use lib.Ieee.{Float}
 use Rattle.numbers.specs.Normal.{normalised}
 use Rattle.growth.specs.declared.step.Came.{Came}
 use Rattle.growth.specs.declared.step.Grown.{Grown}
 use Rattle.growth.specs.declared.step.Tried.{Tried}
-use Rattle.growth.specs.Columns.{withGap, cameWith, triedWith}
+use Rattle.growth.specs.Columns.{cameWith}
 use Rattle.growth.proofs.step.try_gap.Statement.{statement}
 use Rattle.growth.proofs.step.try_gap.Tie as tie
 

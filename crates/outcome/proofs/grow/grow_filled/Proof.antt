@@ -45,7 +45,7 @@ find-in-tables-requires c κs =
     .before .before .before .before .before .before .before in
     let g : Growable (s .args .register) (reserved s) (s .args .k) (read s) (c .before .filled3 .given .0 .0) =
     subst (GrowableIf (s .args .register) (reserved s) (s .args .k) (read s)) (c .before .filled3 .given .1) (s .pre) in
-    (g .rows, (g .known, (g .walkable, g .in-table)))
+    (g .rows, (g .known, g .walkable, g .in-table))
 
 answer-of-requires : tie.Need-answer-of-requires
 answer-of-requires c κs = tt

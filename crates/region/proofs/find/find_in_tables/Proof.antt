@@ -78,7 +78,8 @@ find-split-region-requires c κs =
           gap-long = same n (a .out-from .now) (a .out-gap .now) (r .out-from) (r .out-gap);
         };
         small = small n (a .out-to .now)
-            (λ k. let l = d .before .before .before .before .before .before .before .before .before .before .before .before .before .shared-slice-known6 .given k in
+            (λ k. let e = d .before .before .before .before .before .before .before in
+            let l = e .before .before .before .before .before .before .shared-slice-known6 .given k in
             omega (arith, l));
         walkable = b .pre .1 .1;
       },

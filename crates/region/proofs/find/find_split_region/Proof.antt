@@ -1,7 +1,7 @@
 -- `find_split_region` makes the walkers at the own gap's left edge, and takes what growth answers
 use mathlib.Core.Path.{_≡_, refl, sym, ap, subst, _∙_}
 use mathlib.Core.List.{map}
-use Prim.Native.Nat.{ℕ, _≤_, zero-le}
+use Prim.Native.Nat.{ℕ, zero-le}
 use native.Mathlib.Nat.{le-refl, le-trans, le-of-eq}
 use borrow.Author.Needs.{needs}
 use denote.Ref.{now}
@@ -9,10 +9,9 @@ use Rattle.links.specs.declared.lower.Side.{Side}
 use Rattle.links.specs.declared.lower.Side.the-variants.{Previous, Next}
 use Rattle.overlaps.specs.GapSegments.{SegmentColumns}
 use Rattle.walks.specs.declared.walk.Walk.{Walk}
-use Rattle.walks.specs.declared.both.Walkers.{Walkers}
-use Rattle.walks.specs.Meeting.{Reserved, reservedIn}
+use Rattle.walks.specs.Meeting.{Reserved}
 use Rattle.walks.specs.Standing.{Stands, PlacesInside}
-use Rattle.walks.specs.Gaps.{segmentsIn, Fits, walkOn}
+use Rattle.walks.specs.Gaps.{segmentsIn, Fits}
 use Rattle.walks.proofs.Taken.{reservedTaken, reserved-taken, segmentsTaken, segments-taken}
 use Rattle.walks.proofs.GapWalk.{gaps-rise}
 use Rattle.growth.specs.declared.proposal.SplitProposal.{SplitProposal}
@@ -96,11 +95,17 @@ begun c =
     record {
       walkable = w .walkable;
       fits = record {
-        on = λ (side : Side). elim side [ Previous ↦ fits (c .new .result .left .walk) (e .0) (e .2 .0) | Next ↦ fits (c .new .result .right .walk) (e .1) (e .3 .0) ];
+        on = λ (side : Side). elim side [
+          | Previous ↦ fits (c .new .result .left .walk) (e .0) (e .2 .0)
+          | Next ↦ fits (c .new .result .right .walk)
+              (e .1) (e .3 .0)
+        ];
       };
       at =
-          λ (side : Side). elim side [ Previous ↦ at Previous (c .new .result .left .walk) (e .0) (e .2 .1)
-          | Next ↦ at Next (c .new .result .right .walk) (e .1) (e .3 .1) ];
+          λ (side : Side). elim side [
+            | Previous ↦ at Previous (c .new .result .left .walk) (e .0) (e .2 .1)
+            | Next ↦ at Next (c .new .result .right .walk) (e .1) (e .3 .1)
+          ];
     }
 
 grow-requires : tie.Need-grow-requires
@@ -115,7 +120,8 @@ grow-requires c κs =
 proposal-of-requires : tie.Need-proposal-of-requires
 proposal-of-requires c κs =
     let k = c .before .before in
-    let b = begin (k .before .before .before .before .before .before .before .before .before .before) in
+    let b =
+    begin (k .before .before .before .before .before .before .before .before .before .before) in
     (k .grow .ensures .inside (c .if1 .taken), (le-refl _, le-of-eq (sym (b .pre .0 .freqs-long))))
 
 returns : tie.Need-returns

@@ -1,5 +1,5 @@
 -- `grow` tries the own gap and then the side whose turn it is: a try is due, and the walkers stand right for it
-use mathlib.Core.Path.{_≡_, refl, sym, _∙_, subst}
+use mathlib.Core.Path.{refl, sym, _∙_, subst}
 use mathlib.Core.List.{map}
 use Prim.Native.Nat.{_<_}
 use native.Mathlib.Nat.{le-of-eq}
@@ -11,7 +11,6 @@ use Rattle.walks.specs.Gaps.{segmentsIn}
 use Rattle.growth.specs.Growth.{GapsSeen}
 use Rattle.growth.specs.Columns.{stateOf}
 use Rattle.growth.specs.declared.step.Growth.{Growth}
-use Rattle.growth.specs.declared.step.Turn.the-variants.{Try, End}
 use Rattle.growth.proofs.Tries.{leftToTry}
 use Rattle.region.specs.OneTry.{Right}
 use Rattle.region.specs.Find.{seenBy, Due, own-try, Reached}
@@ -76,7 +75,8 @@ right c =
     let a = b .args in
     let l = c .before .grow in
     c .try-side .ensures .right
-    (due-relies (a .register) (table b) (columns b) (a .from .now) (a .weight .now) (a .live .now) (a .min-freq .now) (a .initial) (a .k) (b .pre .0) (l .growth)
+    (due-relies (a .register) (table b) (columns b) (a .from .now) (a .weight .now) (a .live .now) (a .min-freq .now) (a .initial) (a .k) (b .pre .0)
+    (l .growth)
     (l .side) (l .inv .0) (b .pre .1 .walkable) (l .walkers) (l .inv .1))
 
 after-requires : tie.Need-after-requires Inv-grow μ-grow
@@ -86,7 +86,8 @@ after-requires c κs = search needs
 gone : (c : tie.After-after Inv-grow μ-grow) →
     let b = begin (c .before .before .before) in
     let a = b .args in
-    Gone (a .register) (table b) (columns b) (a .from .now) (a .weight .now) (a .live .now) (a .min-freq .now) (a .initial) (a .k) (b .pre .0) (c .after .result)
+    Gone (a .register) (table b) (columns b) (a .from .now) (a .weight .now) (a .live .now) (a .min-freq .now) (a .initial) (a .k) (b .pre .0)
+    (c .after .result)
 gone c =
     let k = c .before .before in
     let b = begin (k .before) in
@@ -99,7 +100,8 @@ gone c =
 
 next-turn-requires : tie.Need-next-turn-requires Inv-grow μ-grow
 next-turn-requires c κs =
-    let b = begin (c .before .before .before) in
+    let b =
+    begin (c .before .before .before) in
     (gone c .inside, (le-of-eq (sym (b .pre .0 .freqs-long)), le-of-eq (sym (b .pre .0 .lives-long))))
 
 enum-known-next : tie.Need-enum-known-next Inv-grow μ-grow
@@ -121,7 +123,8 @@ grow-less c =
     subst (λ (x : Growth). leftToTry (view b) (stateOf x) < leftToTry (view b) (stateOf (l .growth))) (sym e)
     (due-less (a .register) (table b) (columns b) (a .from .now) (a .weight .now) (a .live .now) (a .min-freq .now) (a .initial) (a .k) (b .pre .0) (l .growth)
     (l .side) (l .inv .0) (k .try-side .result .tried) (right k .tried)
-    (subst (Gone (a .register) (table b) (columns b) (a .from .now) (a .weight .now) (a .live .now) (a .min-freq .now) (a .initial) (a .k) (b .pre .0)) e (gone d))
+    (subst (Gone (a .register) (table b) (columns b) (a .from .now) (a .weight .now) (a .live .now) (a .min-freq .now) (a .initial) (a .k)
+    (b .pre .0)) e (gone d))
     (subst (λ (x : Growth). x .region .left < x .region .right) e
     (turn-region (a .register) (table b) (columns b) (a .from .now) (a .weight .now) (a .live .now) (a .min-freq .now) (a .initial) (a .k) (b .pre .0)
     (d .after .result) (c .before .next .given .0 .0) turn)))

@@ -1,5 +1,5 @@
 -- `try_side` walks the gap on the side, and tries the region with it
-use mathlib.Core.Path.{_≡_, sym, ap, _∙_, subst}
+use mathlib.Core.Path.{sym, ap, _∙_, subst}
 use mathlib.Core.List.{map}
 use Prim.Native.Nat.{ℕ, _+_}
 use borrow.Author.Needs.{needs}
@@ -11,7 +11,7 @@ use Rattle.walks.specs.Meeting.{Reserved, reservedIn, fixedMetAny}
 use Rattle.walks.specs.Ways.{otherSide, nearEnd, farEnd}
 use Rattle.walks.specs.Gaps.{segmentsIn, segmentsOfGap, heaviestInGap, At, Fits, walkOn}
 use Rattle.growth.specs.Columns.{floatAt, CountFits, triedWith}
-use Rattle.region.specs.OneTry.{gapOn, instsAt}
+use Rattle.region.specs.OneTry.{instsAt}
 use Rattle.region.proofs.Growing.{both-sides}
 use Rattle.region.proofs.one_try.try_side.Statement.{statement}
 use Rattle.region.proofs.one_try.try_side.Tie as tie
@@ -65,13 +65,15 @@ returns c =
       stays = k .stays;
       right =
           λ rel.
-          let exact = k .takes .exact (rel .walkable) (rel .heaviest)
+          let exact =
+          k .takes .exact (rel .walkable) (rel .heaviest)
           (subst (λ (n : ℕ). At (a .side) (a .register) (t .rows) g (nearEnd (a .side) n (n + 1)) (walkOn (a .side) (a .walkers))) (sym e) (rel .at)) in
           let n = insts .insts-of .ensures in
           record {
             tried =
                 tried .try-gap .ensures (subst (CountFits r) (sym (n ∙ ap (instsAt (a .live .now) (a .own)) e)) (rel .count))
-                ∙ ap (λ (i : ℕ). triedWith (a .side) x r (floatAt (a .weight .now) x) i (took .take-gap .result .met .fixed) (took .take-gap .result .met .heaviest)
+                ∙ ap (λ (i : ℕ). triedWith (a .side) x r (floatAt (a .weight .now) x) i (took .take-gap .result .met .fixed)
+                (took .take-gap .result .met .heaviest)
                 (a .k)) n
                 ∙ ap (λ (m : Met). triedWith (a .side) x r (floatAt (a .weight .now) x) (instsAt (a .live .now) (a .own) x) (m .fixed) (m .heaviest) (a .k))
                 (exact .met)

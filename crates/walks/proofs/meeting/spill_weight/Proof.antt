@@ -22,7 +22,9 @@ weight-of-requires-2 : tie.Need-weight-of-requires-2
 weight-of-requires-2 c κs = search needs
 
 returns-2 : tie.Need-returns-2
-returns-2 c = c .weight-of2 .ensures ∙ ap (valueOf weightLimit) (sym (List·getD-eq-default (c .before .before .before .args .weight .now) 0 (c .before .if1 .left)))
+returns-2 c =
+    c .weight-of2 .ensures
+    ∙ ap (valueOf weightLimit) (sym (List·getD-eq-default (c .before .before .before .args .weight .now) 0 (c .before .if1 .left)))
 
 pub spill-weight-spec : {M : Type 1} → statement M
 spill-weight-spec =

@@ -26,7 +26,8 @@ use Rattle.walks.proofs.meeting.use_clashes.Tie as tie
 
 abbrev Inv-loop : tie.InvT-loop
 Inv-loop f-unit f-point f-value r s n from i₀ i =
-    (from + r .fixed ≤ i) × (OrderedUses (fixedUsesOf f-unit f-point f-value) → (k : ℕ) → k < i → k < length (fixedUsesOf f-unit f-point f-value) → useCounts (fixedUsesOf f-unit f-point f-value) s (plainRow r) k ≡ false)
+    (from + r .fixed ≤ i) × (OrderedUses (fixedUsesOf f-unit f-point f-value) → (k : ℕ) → k < i → k < length (fixedUsesOf f-unit f-point f-value)
+    → useCounts (fixedUsesOf f-unit f-point f-value) s (plainRow r) k ≡ false)
 
 abbrev μ-loop : tie.MeasureT-loop
 μ-loop f-unit f-point f-value r s n from i₀ i = n - i
@@ -47,7 +48,8 @@ in-list : (c : tie.In-loop Inv-loop μ-loop) → c .before .loop .i < length (us
 in-list c = lt-of-lt-of-le (c .loop-test .taken) (le-of-eq (c .before .before .before .before .fixed-use-count .ensures))
 
 -- the row that was read is the table's
-row : (d : tie.After-held-use-at Inv-loop μ-loop) → plainFixedUse (d .held-use-at .result) ≡ getD (uses (begin (d .before))) (d .before .before .loop .i) noFixedUse
+row : (d : tie.After-held-use-at Inv-loop μ-loop) → plainFixedUse (d .held-use-at .result)
+    ≡ getD (uses (begin (d .before))) (d .before .before .loop .i) noFixedUse
 row d =
     let b = begin (d .before) in
     own-row (fixedUseRow (b .args .f-unit .now) (b .args .f-point .now) (b .args .f-value .now))
@@ -83,7 +85,8 @@ cast-i c = search needs
 add-i : tie.Need-add-i Inv-loop μ-loop
 add-i c =
     let b = c .before .before .before .before .before .before in
-    let l = le-trans (c .before .first-use .ensures .0)
+    let l =
+    le-trans (c .before .first-use .ensures .0)
     (le-trans
     (le-of-eq
     (table-length (fixedUseRow (b .args .f-unit .now) (b .args .f-point .now) (b .args .f-value .now)) (shortest (lengths b))))

@@ -1,6 +1,5 @@
 -- `any_ahead` compares a place with the end of the rows on its way
 use mathlib.Core.Path.{sym, ap}
-use mathlib.Core.Bool.{Bool}
 use borrow.Author.Needs.{needs}
 use Rattle.links.specs.declared.lower.Side.{Side}
 use Rattle.walks.specs.Ways.{anyAhead}

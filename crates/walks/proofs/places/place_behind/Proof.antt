@@ -1,6 +1,6 @@
 -- `place_behind` goes one row on
 use mathlib.Core.Path.{sym, ap, subst}
-use Prim.Native.Nat.{ℕ, _≤_}
+use Prim.Native.Nat.{_≤_}
 use native.Mathlib.Omega.{arith}
 use borrow.Author.Needs.{needs}
 use Rattle.links.specs.declared.lower.Side.{Side}

@@ -10,7 +10,6 @@ use lib.Ieee.{Float}
 use lib.ListN.{length}
 use Rattle.columns.specs.Table.{shortest}
 use Rattle.links.specs.declared.lower.Side.{Side}
-use Rattle.links.specs.declared.lower.Side.the-variants.{Previous, Next}
 use Rattle.links.specs.Links.{onSide}
 use Rattle.jobs.specs.declared.rows.Reservation.{Reservation}
 use Rattle.jobs.specs.Rows.{reservationRow, noReservation}
@@ -23,7 +22,8 @@ use Rattle.walks.specs.Standing.{StandsIn, Sound, beginOf, endOf, reache
 use Rattle.walks.proofs.Ways.{near-far, row-inside, behind-inside, some-row, fewer-ahead, ahead-true, ahead-false}
 use Rattle.walks.proofs.Seen.{Seen, All, rowOf, seen-is}
 use Rattle.walks.proofs.Begin.{holds-unit}
-use Rattle.walks.proofs.OneUnit.{PassedRows, stands-later, unit-begin, unit-look, unit-other, unit-past, unit-next, unit-end, reaches-true, reaches-false}
+use Rattle.walks.proofs.OneUnit.{PassedRows, stands-later, unit-begin, unit-look, unit-other, unit-past, unit-next, unit-end, reaches-true}
+use Rattle.walks.proofs.OneUnit.{reaches-false}
 use Rattle.walks.proofs.walk.walk_unit.Statement.{statement}
 use Rattle.walks.proofs.walk.walk_unit.Tie as tie
 
@@ -31,10 +31,10 @@ use Rattle.walks.proofs.walk.walk_unit.Tie as tie
 abbrev met : Bool → Float → Met
 met fixed heaviest = record { fixed = fixed; heaviest = heaviest }
 
-
 abbrev Inv-loop : tie.InvT-loop
 Inv-loop side unit start end kind index fixed f-unit f-point f-value weight u at s n i₀ counts₀ heaviest₀ i counts heaviest =
-    let t = reservedOf unit start end kind index fixed f-unit f-point f-value weight in
+    let t =
+    reservedOf unit start end kind index fixed f-unit f-point f-value weight in
     (i ≤ length (t .rows))
     × (Sound t s (met counts₀ heaviest₀) → StandsIn side (t .rows) (u .0) (beginOf side s) at
     → StandsIn side (t .rows) (u .0) (endOf side s) i × Seen (oneUnit (u .0)) t s (PassedRows side t i) (met counts₀ heaviest₀) (met counts heaviest))
@@ -96,7 +96,8 @@ held-at-requires c κs = inside c
 -- the row that was read is the table's
 row : (d : tie.After-held-at Inv-loop μ-loop) →
     plainRow (d .held-at .result)
-    ≡ rowOf (table (begin (d .before .before .before .before))) (rowAhead (begin (d .before .before .before .before) .args .side) (d .before .before .before .before .loop .i))
+    ≡ rowOf (table (begin (d .before .before .before .before)))
+    (rowAhead (begin (d .before .before .before .before) .args .side) (d .before .before .before .before .loop .i))
 row d =
     let c = d .before in
     let b = begin (c .before .before .before) in
@@ -121,7 +122,8 @@ place-behind-requires c κs =
     let a = b .args in
     let x = l .loop .inv .0 in
     let long = holds-unit (a .unit .now) (a .start .now) (a .end .now) (a .kind .now) (a .index .now) (a .fixed .now) .long in
-    let fits = b .good .1 .0 .1 in
+    let fits =
+    b .good .1 .0 .1 in
     (some-row (a .side) (any e), omega (arith, x, long, fits))
 
 -- what was seen of all rows is the answer
@@ -166,7 +168,8 @@ returns-2 c =
 -- the row is of the unit
 of-unit : (c : tie.Else2 Inv-loop μ-loop) →
     rowOf (table (begin (c .before .before .before .before .before .before .before)))
-    (rowAhead (begin (c .before .before .before .before .before .before .before) .args .side) (c .before .before .before .before .before .before .before .loop .i)) .unit
+    (rowAhead (begin (c .before .before .before .before .before .before .before) .args .side)
+    (c .before .before .before .before .before .before .before .loop .i)) .unit
     ≡ begin (c .before .before .before .before .before .before .before) .args .u .0
 of-unit c = ap (λ (r : Reservation). r .unit) (sym (row (c .before .before .before))) ∙ c .if2 .left
 

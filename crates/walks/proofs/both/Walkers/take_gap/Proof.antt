@@ -29,7 +29,8 @@ take-gap-requires c κs =
 -- what the walk of the side took
 takes : (c : tie.After-take-gap) →
     let b = c .before .before .before .before in
-    Takes (b .args .side) (b .args .register) (table b) (columns b) (b .args .gap) (b .args .heaviest) (walkOn (b .args .side) (b .args .self)) (c .take-gap .result)
+    Takes (b .args .side) (b .args .register) (table b) (columns b) (b .args .gap) (b .args .heaviest) (walkOn (b .args .side) (b .args .self))
+    (c .take-gap .result)
 takes c =
     let b = c .before .before .before .before in
     let a = b .args in
@@ -53,7 +54,8 @@ returns c =
     subst (λ (s : Side). TakesBoth s (a .register) (table b) (columns b) (a .gap) (a .heaviest) (a .self) r) (sym e)
     (record {
       takes = subst (λ (s : Side). Takes s (a .register) (table b) (columns b) (a .gap) (a .heaviest) (walkOn s (a .self)) (tookLeft (k .behind .result))) e
-          (subst (Takes (a .side) (a .register) (table b) (columns b) (a .gap) (a .heaviest) (walkOn (a .side) (a .self))) (sym (k .behind .ensures)) (takes d));
+          (subst (Takes (a .side) (a .register) (table b) (columns b) (a .gap) (a .heaviest) (walkOn (a .side) (a .self))) (sym (k .behind .ensures))
+          (takes d));
       stays = refl;
     })
 
@@ -74,7 +76,8 @@ returns-2 c =
     subst (λ (s : Side). TakesBoth s (a .register) (table b) (columns b) (a .gap) (a .heaviest) (a .self) r) (sym e)
     (record {
       takes = subst (λ (s : Side). Takes s (a .register) (table b) (columns b) (a .gap) (a .heaviest) (walkOn s (a .self)) (tookRight (k .behind2 .result))) e
-          (subst (Takes (a .side) (a .register) (table b) (columns b) (a .gap) (a .heaviest) (walkOn (a .side) (a .self))) (sym (k .behind2 .ensures)) (takes d));
+          (subst (Takes (a .side) (a .register) (table b) (columns b) (a .gap) (a .heaviest) (walkOn (a .side) (a .self))) (sym (k .behind2 .ensures))
+          (takes d));
       stays = refl;
     })
 

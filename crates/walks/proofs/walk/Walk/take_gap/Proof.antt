@@ -1,7 +1,7 @@
 -- `take_gap` takes the gap segments of the gap one after the other: what is known is what those passed meet
-use mathlib.Core.Path.{_≡_, refl, sym, ap, subst, _∙_}
+use mathlib.Core.Path.{_≡_, sym, ap, subst, _∙_}
 use mathlib.Core.Bool.{Bool}
-use mathlib.Core.List.{List, map}
+use mathlib.Core.List.{map}
 use Prim.Native.Nat.{ℕ, _+_, _-_, _≤_, _<_}
 use native.Mathlib.Nat.{lt-of-lt-of-le}
 use native.Mathlib.Omega.{arith}
@@ -21,7 +21,7 @@ use Rattle.walks.specs.declared.walk.Walk.{Walk}
 use Rattle.walks.specs.Meeting.{Reserved, reservedIn, alsoMet}
 use Rattle.walks.specs.Ways.{nearEnd, AnyAhead, rowAhead, placeBehind}
 use Rattle.walks.specs.Standing.{Stands, PlacesInside, Sound, beginOf, endOf}
-use Rattle.walks.specs.Gaps.{segmentsIn, segmentIn, beginAt, At, metBefore, Fits, Walkable, Takes}
+use Rattle.walks.specs.Gaps.{segmentIn, beginAt, At, metBefore, Fits, Walkable, Takes}
 use Rattle.walks.proofs.Ways.{row-inside, behind-inside, some-row, fewer-ahead}
 use Rattle.walks.proofs.Taken.{segmentsTaken, segments-taken}
 use Rattle.walks.proofs.GapSegments.{SeenGap, gap-is}
@@ -49,7 +49,8 @@ pub record Relies (side : Side) (p : Register) (t : Reserved) (g : SegmentColumn
 abbrev Inv-loop : tie.InvT-loop
 Inv-loop self₀ side t3 reserved register gap heaviest out-from out-to out-value out-gap counts₀ heaviest₀ i₀ self counts heaviest' i =
     let t = reservedIn (map now reserved) in
-    let g = segmentColumns out-from out-to out-value out-gap (length out-from) in
+    let g =
+    segmentColumns out-from out-to out-value out-gap (length out-from) in
     (i ≤ g .used)
     × PlacesInside register (length (t .rows)) self
     × (Relies side register t g gap heaviest self₀ → Going side register t g gap heaviest self (met counts heaviest') i)
@@ -123,7 +124,8 @@ segment-at-requires : tie.Need-segment-at-requires Inv-loop μ-loop
 segment-at-requires c κs =
     let b = begin (c .before .before .before) in
     let h = subst (λ (x : ℕ). x < columns b .used) (sym (c .row-ahead .ensures)) (inside (c .before)) in
-    let o = fits b .long in
+    let o =
+    fits b .long in
     (lt-of-lt-of-le h (o .from-long), lt-of-lt-of-le h (o .to-long), lt-of-lt-of-le h (o .value-long))
 
 -- the gap segment that was read is the row's
@@ -141,7 +143,8 @@ place-behind-requires c κs =
     let l = d .before .before in
     let b = begin l in
     let h = l .loop .inv .0 in
-    let few = fits b .long .few in
+    let few =
+    fits b .long .few in
     (some-row (b .args .side) (ahead d .0), omega (arith, h, few))
 
 loop-less : tie.Need-loop-less Inv-loop μ-loop
@@ -166,25 +169,27 @@ loop-again c =
       subst (λ (x : ℕ). x ≤ g .used) to (behind-inside (a .side) (ahead d .0) (l .loop .inv .0)),
       took .ensures .1,
       λ r.
-      let n = l .loop .inv .2 r in
-      let o = r .walkable .ordered in
-      let sound : Sound t (k .before .segment-at .result) m =
-      record {
-        ready = r .walkable .ready;
-        nonempty = subst (λ (s : GapSegment). s .from .0 < s .to .0) (sym e) (o .nonempty (rowAhead (a .side) i) (inside d));
-        weight = n .seen .weight;
-      } in
-      let x = took .ensures .2 sound
-      (subst (λ (s : GapSegment). Stands (a .side) (a .register) (t .rows) (beginOf (a .side) s) (l .loop .self)) (sym e) (n .stands (ahead d .0))) in
-      subst (Going (a .side) (a .register) t g (a .gap) (a .heaviest) (took .result .walk) (took .result .met)) to
-      (record {
-        within = within-step (a .side) g (a .gap) i (ahead d .0) (ahead d .1) (n .within);
-        stands = stands-on (a .side) g (a .gap) o i (ahead d .0) (l .loop .inv .0)
-            (subst (λ (s : GapSegment). Stands (a .side) (a .register) (t .rows) (endOf (a .side) s) (took .result .walk)) e (x .1));
-        seen = subst (SeenGap (a .register) t g (a .gap) (PassedGaps (a .side) g (placeBehind (a .side) i)) (metBefore (a .heaviest)))
-            (sym (x .0 ∙ ap (λ (s : GapSegment). alsoMet (a .register) t s m) e))
-            (gap-step (a .side) g (a .gap) (a .register) t i (metBefore (a .heaviest)) m (ahead d .0) (l .loop .inv .0) (eq-eqb _ _ (ahead d .1)) (n .seen));
-      }),
+          let n = l .loop .inv .2 r in
+          let o = r .walkable .ordered in
+          let sound : Sound t (k .before .segment-at .result) m =
+          record {
+            ready = r .walkable .ready;
+            nonempty = subst (λ (s : GapSegment). s .from .0 < s .to .0) (sym e) (o .nonempty (rowAhead (a .side) i) (inside d));
+            weight = n .seen .weight;
+          } in
+          let x =
+          took .ensures .2 sound
+          (subst (λ (s : GapSegment). Stands (a .side) (a .register) (t .rows) (beginOf (a .side) s) (l .loop .self)) (sym e) (n .stands (ahead d .0))) in
+          subst (Going (a .side) (a .register) t g (a .gap) (a .heaviest) (took .result .walk) (took .result .met)) to
+          (record {
+            within = within-step (a .side) g (a .gap) i (ahead d .0) (ahead d .1) (n .within);
+            stands = stands-on (a .side) g (a .gap) o i (ahead d .0) (l .loop .inv .0)
+                (subst (λ (s : GapSegment). Stands (a .side) (a .register) (t .rows) (endOf (a .side) s) (took .result .walk)) e (x .1));
+            seen = subst (SeenGap (a .register) t g (a .gap) (PassedGaps (a .side) g (placeBehind (a .side) i)) (metBefore (a .heaviest)))
+                (sym (x .0 ∙ ap (λ (s : GapSegment). alsoMet (a .register) t s m) e))
+                (gap-step (a .side) g (a .gap) (a .register) t i (metBefore (a .heaviest)) m (ahead d .0) (l .loop .inv .0) (eq-eqb _ _ (ahead d .1))
+                (n .seen));
+          }),
     )
 
 returns : tie.Need-returns Inv-loop μ-loop
@@ -198,7 +203,8 @@ returns c =
     let m = met (l .loop .counts) (l .loop .heaviest) in
     let walk : Walk = record { next = i; at = l .loop .self .at } in
     let places = l .loop .inv .1 in
-    subst (λ (g : SegmentColumns). Takes (a .side) (a .register) t g (a .gap) (a .heaviest) (a .self) (record { met = m; walk = walk })) (segments-taken (a .t3))
+    subst (λ (g : SegmentColumns). Takes (a .side) (a .register) t g (a .gap) (a .heaviest) (a .self) (record { met = m; walk = walk }))
+    (segments-taken (a .t3))
     (record {
       fits = record {
         known = fits b .known;
@@ -209,7 +215,8 @@ returns c =
       exact =
           λ ok w at.
           let n = l .loop .inv .2 (record { walkable = ok; weight = w; at = at }) in
-          let out = within-out (a .side) g (a .gap) (ok .ordered) i (n .within)
+          let out =
+          within-out (a .side) g (a .gap) (ok .ordered) i (n .within)
           (of-gap-false (a .side) (g .gap) (g .used) (a .gap) i (sym (c .before .is-of-gap .ensures) ∙ c .if1 .left)) in
           record {
             met = gap-is (a .register) t g (a .gap) (metBefore (a .heaviest)) m w

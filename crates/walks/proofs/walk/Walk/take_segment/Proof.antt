@@ -1,7 +1,6 @@
 -- `take_segment` walks the register's units one after the other: what is known is what the units before v count
-use mathlib.Core.Path.{_≡_, refl, sym, ap, subst, _∙_}
+use mathlib.Core.Path.{_≡_, refl, sym, ap, subst}
 use mathlib.Core.Bool.{Bool}
-use mathlib.Core.List.{List}
 use Prim.Native.Nat.{ℕ, _+_, _-_, _≤_, _<_, zero-le}
 use native.Mathlib.Nat.{le-refl, le-antisymm}
 use native.Mathlib.Omega.{arith}
@@ -13,7 +12,7 @@ use Rattle.walks.specs.declared.meeting.Met.{Met}
 use Rattle.walks.specs.declared.meeting.GapSegment.{GapSegment}
 use Rattle.walks.specs.declared.meeting.Register.{Register}
 use Rattle.walks.specs.declared.walk.Walk.{Walk}
-use Rattle.walks.specs.Meeting.{Reserved, reservedOf, alsoMet, oneUnit}
+use Rattle.walks.specs.Meeting.{Reserved, reservedOf, alsoMet}
 use Rattle.walks.specs.Standing.{StandsIn, Stands, PlacesInside, Sound, beginOf, endOf}
 use Rattle.walks.proofs.Steps.{next-inside, below-upto}
 use Rattle.walks.proofs.Taken.{reservedTaken, reserved-taken}
@@ -148,13 +147,13 @@ loop-again c =
       i .1,
       walked-more (w .result .at) v few (w .ensures .0) (i .2),
       λ sound st. let k = i .3 sound st in
-      let now : Sound (table b) (a .s) (met (l .loop .counts) (l .loop .heaviest)) =
-      record { ready = sound .ready; nonempty = sound .nonempty; weight = k .1 .weight } in
-      let r = w .ensures .1 now (k .0 .waiting (l .loop .v) (le-refl (l .loop .v)) v) in (
-        walked-more (w .result .at) v few (r .1) (k .0),
-        subst (Seen (firstUnits (a .register) (l .loop .v + 1)) (table b) (a .s) (All (table b)) (a .met)) (sym (r .0))
-            (units-more (a .register) (table b) (a .s) (l .loop .v) (a .met) (met (l .loop .counts) (l .loop .heaviest)) (k .1)),
-      ),
+          let now : Sound (table b) (a .s) (met (l .loop .counts) (l .loop .heaviest)) =
+          record { ready = sound .ready; nonempty = sound .nonempty; weight = k .1 .weight } in
+          let r = w .ensures .1 now (k .0 .waiting (l .loop .v) (le-refl (l .loop .v)) v) in (
+            walked-more (w .result .at) v few (r .1) (k .0),
+            subst (Seen (firstUnits (a .register) (l .loop .v + 1)) (table b) (a .s) (All (table b)) (a .met)) (sym (r .0))
+                (units-more (a .register) (table b) (a .s) (l .loop .v) (a .met) (met (l .loop .counts) (l .loop .heaviest)) (k .1)),
+          ),
     )
 
 -- all units have been walked
