@@ -105,8 +105,8 @@ unfoldable pub turnOf : ℕ → (ℕ → Float) → (ℕ → ℕ) → Growth →
 turnOf n freq live growth = cond (ltb (growth .region .left) (growth .region .right)) (sideTried n freq live (stateOf growth)) Turn·is.End
 
 -- a region with one more gap on a side, of this weight and so many instructions, and the heaviest weight that it then meets
-abbrev pub withGap : Side → ℕ → Grown → Float → ℕ → Float → Grown
-withGap side gap g weight insts heaviest =
+abbrev pub grownWith : Side → ℕ → Grown → Float → ℕ → Float → Grown
+grownWith side gap g weight insts heaviest =
     record {
       left = onSide side gap (g .left);
       right = onSide side (g .right) (gap + 1);
@@ -122,7 +122,7 @@ cameWith fixed normal heaviest = cond fixed Came·is.Fixed (cond (exceeds 2007 n
 -- a try of a gap with these
 abbrev pub triedWith : Side → ℕ → Grown → Float → ℕ → Bool → Float → ℕ → Tried
 triedWith side gap g weight insts fixed heaviest k =
-    let r = withGap side gap g weight insts heaviest in
+    let r = grownWith side gap g weight insts heaviest in
     let normal = normalised (r .weight) (r .insts) k in
     record { side = side; gap = gap; region = r; normalised = normal; came = cameWith fixed normal heaviest }
 

@@ -6,7 +6,7 @@ ghost use lib.Dec.{leb, eqb};
 ghost use Rattle.links.specs.Links.{onSide};
 ghost use Rattle.growth.specs.Growth.{gapOutside, prefersLeft, sideTried};
 ghost use Rattle.growth.specs.Columns.{numberAt, floatAt, spanOf, stateOf, openWith, InsideGaps, HasNeighbours, CountFits};
-ghost use Rattle.growth.specs.Columns.{turnOf, withGap, cameWith, triedWith, noGrowth, barredOn, afterTried};
+ghost use Rattle.growth.specs.Columns.{turnOf, grownWith, cameWith, triedWith, noGrowth, barredOn, afterTried};
 use links::lower::Side;
 
 // A region: the gaps from left to before right, their use weight and live instructions, and the heaviest weight met.
@@ -151,7 +151,7 @@ fn sum_insts(a: u32, b: u32) -> u32
 // A region with one more gap on a side, of this weight and so many instructions, and the heaviest weight that it then meets.
 fn with_gap(side: Side, gap: usize, g: Grown, weight: f32, insts: u32, heaviest: f32) -> Grown
     requires { ⌜ gap < 4294967295 ⌝ }
-    ensures { λ r. ⌜ (CountFits g insts → r ≡ withGap side gap g weight insts heaviest) ⌝ }
+    ensures { λ r. ⌜ (CountFits g insts → r ≡ grownWith side gap g weight insts heaviest) ⌝ }
 {
     let weight = g.weight + weight;
     let insts = sum_insts(g.insts, insts);

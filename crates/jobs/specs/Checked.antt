@@ -39,8 +39,8 @@ abbrev pub plainUse : PlacedUse → Use
 plainUse u = record { position = u .position .0; kind = u .kind; cost = u .cost }
 
 -- a reservation: a unit and points
-abbrev pub heldRow : Reservation → Held
-heldRow r =
+abbrev pub heldReservation : Reservation → Held
+heldReservation r =
     record {
       unit = record { 0 = r .unit };
       start = record { 0 = r .start };

@@ -9,7 +9,7 @@ ghost use Prim.Native.Nat.{_<_};
 ghost use lib.ListN.{length};
 ghost use Rattle.jobs.specs.Rows.{segmentsOf, segmentRow, usesOf, useRow, liveOut, fixedDef};
 ghost use Rattle.jobs.specs.Rows.{reservationsOf, reservationRow, fixedUsesOf, fixedUseRow};
-ghost use Rattle.jobs.specs.Checked.{liveSegment, placedUse, heldRow, heldUse};
+ghost use Rattle.jobs.specs.Checked.{liveSegment, placedUse, heldReservation, heldUse};
 
 // A segment: its points, its value, its uses from first to before end, and flags.
 pub struct LiveSegment {
@@ -94,7 +94,7 @@ pub fn held_at(
     i: usize,
 ) -> Held
     requires { ⌜ i < length (reservationsOf (now unit) (now start) (now end) (now kind) (now index) (now fixed)) ⌝ }
-    ensures { λ r. ⌜ r ≡ heldRow (reservationRow
+    ensures { λ r. ⌜ r ≡ heldReservation (reservationRow
         (now (unit .entry)) (now (start .entry)) (now (end .entry)) (now (kind .entry)) (now (index .entry)) (now (fixed .entry)) i) ⌝ }
 {
     let r = rows::reservation_at(unit, start, end, kind, index, fixed, i);

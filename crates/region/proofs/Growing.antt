@@ -23,14 +23,14 @@ use Rattle.walks.specs.declared.meeting.Register.{Register}
 use Rattle.walks.specs.declared.walk.Walk.{Walk}
 use Rattle.walks.specs.declared.both.Walkers.{Walkers}
 use Rattle.walks.specs.Meeting.{Reserved, fixedMetAny, weightsMetAll}
-use Rattle.walks.specs.Ways.{Upto, otherSide, nearEnd, farEnd, AnyAhead, rowAhead}
-use Rattle.walks.specs.Standing.{Stands}
+use Rattle.walks.specs.Ways.{Upto, otherSide, firstEnd, lastEnd, AnyAhead, rowAhead}
+use Rattle.walks.specs.Standing.{StandsInUnits}
 use Rattle.walks.specs.Gaps.{segmentsOfGap, heaviestInGap, OrderedGaps, GapsFrom, beginAt, At, Walkable, walkOn}
 use Rattle.overlaps.specs.GapSegments.{SegmentColumns}
 use Rattle.walks.proofs.GapWalk.{begins, gaps-found}
 use Rattle.walks.proofs.GapSegments.{all-weights}
 use Rattle.growth.specs.Growth.{GapsSeen, gapsIn, weightsIn, growth, isOpen}
-use Rattle.growth.specs.Columns.{numberAt, floatAt, spanOf, stateOf, InsideGaps, CountFits, turnOf, tried, ownTried, withGap, triedWith, noGrowth}
+use Rattle.growth.specs.Columns.{numberAt, floatAt, spanOf, stateOf, InsideGaps, CountFits, turnOf, tried, ownTried, grownWith, triedWith, noGrowth}
 use Rattle.growth.specs.Columns.{afterWith, afterTried, Going}
 use Rattle.growth.specs.Proposal.{regionOf}
 use Rattle.growth.specs.declared.proposal.Region.the-variants.{Nothing}
@@ -51,12 +51,12 @@ use Rattle.region.specs.declared.one_try.Attempt.{Attempt}
 
 -- ---- the ends of a region, side by side
 -- the gap just outside begins at the region's end
-near-edge : (side : Side) (now : Growth) → onSide side 1 0 ≤ now .region .left → nearEnd side (gapOn side now) (gapOn side now + 1) ≡ edgeOn side (now .region)
+near-edge : (side : Side) (now : Growth) → onSide side 1 0 ≤ now .region .left → firstEnd side (gapOn side now) (gapOn side now + 1) ≡ edgeOn side (now .region)
 near-edge Previous now h = omega (arith, h)
 near-edge Next now h = refl
 
 -- with it the region ends at the gap's far edge
-far-edge : (side : Side) (gap : ℕ) (g : Grown) (w : Float) (n : ℕ) (h : Float) → farEnd side gap (gap + 1) ≡ edgeOn side (withGap side gap g w n h)
+far-edge : (side : Side) (gap : ℕ) (g : Grown) (w : Float) (n : ℕ) (h : Float) → lastEnd side gap (gap + 1) ≡ edgeOn side (grownWith side gap g w n h)
 far-edge Previous gap g w n h = refl
 far-edge Next gap g w n h = refl
 
@@ -78,7 +78,7 @@ other-barred Came·is.Weight Previous r now = refl
 other-barred Came·is.Weight Next r now = refl
 
 other-edge : (c : Came) (side : Side) (gap : ℕ) (w : Float) (n : ℕ) (h : Float) (now : Growth)
-    → edgeOn (otherSide side) (now .region) ≡ edgeOn (otherSide side) (afterWith c side (withGap side gap (now .region) w n h) now .region)
+    → edgeOn (otherSide side) (now .region) ≡ edgeOn (otherSide side) (afterWith c side (grownWith side gap (now .region) w n h) now .region)
 other-edge Came·is.Grown Previous gap w n h now = refl
 other-edge Came·is.Grown Next gap w n h now = refl
 other-edge Came·is.Fixed side gap w n h now = refl
@@ -320,7 +320,7 @@ module _ (p : Register) (t : Reserved) (g : SegmentColumns) (ordered : OrderedGa
       }
   begin-after small Next h = record { is = le-of-eq (point-row (h .is)) }
 
-  pub starts : ((k : ℕ) → getD (g .to) k 0 ≤ 4294967295) → (side : Side) (w : Walk) → w .next ≡ next → Stands side p (t .rows) point w
+  pub starts : ((k : ℕ) → getD (g .to) k 0 ≤ 4294967295) → (side : Side) (w : Walk) → w .next ≡ next → StandsInUnits side p (t .rows) point w
       → At side p (t .rows) g own w
   starts small side w e s =
       begins side g own point w (subst (GapsFrom g own) (sym e) (gaps-found g ordered own next found))

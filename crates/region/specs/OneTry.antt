@@ -12,7 +12,7 @@ use Rattle.links.specs.Links.{onSide}
 use Rattle.walks.specs.declared.meeting.Register.{Register}
 use Rattle.walks.specs.declared.both.Walkers.{Walkers}
 use Rattle.walks.specs.Meeting.{Reserved, fixedMetAny}
-use Rattle.walks.specs.Ways.{otherSide, nearEnd, farEnd}
+use Rattle.walks.specs.Ways.{otherSide, firstEnd, lastEnd}
 use Rattle.walks.specs.Gaps.{segmentsOfGap, heaviestInGap, At, Walkable, walkOn, FitsBoth}
 use Rattle.overlaps.specs.GapSegments.{SegmentColumns}
 use Rattle.growth.specs.Growth.{gapOutside}
@@ -48,13 +48,13 @@ pub record Relies (side : Side) (p : Register) (t : Reserved) (g : SegmentColumn
   pub walkable : Walkable t g
   pub heaviest : Weight (growth .region .heaviest)
   pub count : CountFits (growth .region) (instsAt lives own (gapOn side growth))
-  pub at : At side p (t .rows) g (nearEnd side (gapOn side growth) (gapOn side growth + 1)) (walkOn side ws)
+  pub at : At side p (t .rows) g (firstEnd side (gapOn side growth) (gapOn side growth + 1)) (walkOn side ws)
 
 -- the try is right, and the side's walk stands at the gap's far edge
 pub record Right (side : Side) (weights : List Float) (lives : List ℕ) (own : ℕ) (g : SegmentColumns) (t : Reserved) (p : Register) (k : ℕ) (growth : Growth)
     (r : Attempt) : Type 0 where
   pub tried : r .tried ≡ triedOn side p t g weights lives own k growth
-  pub at : At side p (t .rows) g (farEnd side (gapOn side growth) (gapOn side growth + 1)) (walkOn side (r .walkers))
+  pub at : At side p (t .rows) g (lastEnd side (gapOn side growth) (gapOn side growth + 1)) (walkOn side (r .walkers))
 
 -- what a try answers: the walkers fit again, the other one has not moved, and all is right if what it relies on holds
 pub record Attempts (side : Side) (weights : List Float) (lives : List ℕ) (own : ℕ) (g : SegmentColumns) (t : Reserved) (p : Register) (k : ℕ)

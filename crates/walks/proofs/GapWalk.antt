@@ -18,8 +18,8 @@ use Rattle.walks.specs.declared.meeting.Register.{Register}
 use Rattle.walks.specs.declared.meeting.Met.{Met}
 use Rattle.walks.specs.declared.walk.Walk.{Walk}
 use Rattle.walks.specs.Meeting.{Reserved, alsoMet}
-use Rattle.walks.specs.Ways.{Upto, Before, nearEnd, farEnd, Ahead, Passed, AnyAhead, anyAhead, rowAhead, placeBehind}
-use Rattle.walks.specs.Standing.{Stands}
+use Rattle.walks.specs.Ways.{Upto, Before, firstEnd, lastEnd, Ahead, Behind, AnyAhead, anyAhead, rowAhead, placeBehind}
+use Rattle.walks.specs.Standing.{StandsInUnits}
 use Rattle.walks.specs.Gaps.{segmentIn, ofGap, OrderedGaps, GapsFrom, beginAt, At, isOfGap}
 use Rattle.overlaps.specs.GapSegments.{SegmentColumns}
 use Rattle.walks.proofs.Ways.{passed-or-ahead, row-inside, row-is-ahead, row-first, some-ahead, behind-inside, passed-only, passed-still, row-passed}
@@ -28,12 +28,14 @@ use Rattle.walks.proofs.OneUnit.{stands-later}
 use Rattle.walks.proofs.GapSegments.{SeenGap, gap-none, gap-more, gap-all}
 
 -- ---- a walk carried on to a later point
-pub later : (side : Side) {p : Register} {rows : List Reservation} {a b : ℕ} {w : Walk} → Upto side a b → Stands side p rows a w → Stands side p rows b w
+pub later : (side : Side) {p : Register} {rows : List Reservation} {a b : ℕ} {w : Walk} → Upto side a b → StandsInUnits side p rows a w
+    → StandsInUnits side p rows b w
 later side h s = record { in-unit = λ v l. stands-later side h (s .in-unit v l) }
 
 -- a new walk stands at its edge, if the gap segments ahead begin at its point or after it
 pub begins : (side : Side) {p : Register} {rows : List Reservation} (g : SegmentColumns) (edge point : ℕ) (w : Walk) → GapsFrom g edge (w .next)
-    → (AnyAhead side (w .next) (g .used) → Upto side point (beginAt side g (rowAhead side (w .next)))) → Stands side p rows point w → At side p rows g edge w
+    → (AnyAhead side (w .next) (g .used) → Upto side point (beginAt side g (rowAhead side (w .next)))) → StandsInUnits side p rows point w
+    → At side p rows g edge w
 begins side g edge point w f h s = record { place = f; stands = λ l. later side (h l) s }
 
 -- the first row of the gaps from one on, by a search in the column of gaps
@@ -55,7 +57,7 @@ module _ (g : SegmentColumns) (ordered : OrderedGaps g) where
   gaps-on Next j k h l m = record { is = ordered .gaps j k (h .is) m }
 
   pub segments-on : (side : Side) (j k : ℕ) → Before side j k → j < g .used → k < g .used
-      → Upto side (farEnd side (getD (g .from) j 0) (getD (g .to) j 0)) (beginAt side g k)
+      → Upto side (lastEnd side (getD (g .from) j 0) (getD (g .to) j 0)) (beginAt side g k)
   segments-on Previous j k h l m = record { is = ordered .apart k j (h .is) l }
   segments-on Next j k h l m = record { is = ordered .apart j k (h .is) m }
 
@@ -93,12 +95,12 @@ module _ (g : SegmentColumns) (edge i : ℕ) where
   from-ahead Previous f k n a = record { is = up (f .before k (down (a .is))) }
   from-ahead Next f k n a = record { is = f .later k (a .is) n }
 
-  from-passed : (side : Side) → GapsFrom g edge i → (k : ℕ) → k < g .used → Passed side i k → Passed side edge (getD (g .gap) k 0)
+  from-passed : (side : Side) → GapsFrom g edge i → (k : ℕ) → k < g .used → Behind side i k → Behind side edge (getD (g .gap) k 0)
   from-passed Previous f k n a = record { is = f .later k (a .is) n }
   from-passed Next f k n a = record { is = up (f .before k (down (a .is))) }
 
   from-both : (side : Side) → i ≤ g .used → ((k : ℕ) → k < g .used → Ahead side i k → Ahead side edge (getD (g .gap) k 0))
-      → ((k : ℕ) → k < g .used → Passed side i k → Passed side edge (getD (g .gap) k 0)) → GapsFrom g edge i
+      → ((k : ℕ) → k < g .used → Behind side i k → Behind side edge (getD (g .gap) k 0)) → GapsFrom g edge i
   from-both Previous h a p =
       record { inside = h; before = λ k l. down (a k (lt-of-lt-of-le l h) (record { is = up l }) .is); later = λ k l n. p k n (record { is = l }) .is }
   from-both Next h a p =
@@ -106,23 +108,23 @@ module _ (g : SegmentColumns) (edge i : ℕ) where
 
 -- the rows that were passed
 abbrev pub PassedGaps : Side → SegmentColumns → ℕ → ℕ → Type 0
-PassedGaps side g i k = Passed side i k × (k < g .used)
+PassedGaps side g i k = Behind side i k × (k < g .used)
 
 -- between the rows of the gap: those ahead are of no gap before it, and those passed of none after it
 pub record Within (side : Side) (g : SegmentColumns) (gap i : ℕ) : Type 0 where
   pub inside : i ≤ g .used
-  pub ahead : (k : ℕ) → k < g .used → Ahead side i k → Ahead side (nearEnd side gap (gap + 1)) (getD (g .gap) k 0)
-  pub passed : (k : ℕ) → k < g .used → Passed side i k → Passed side (farEnd side gap (gap + 1)) (getD (g .gap) k 0)
+  pub ahead : (k : ℕ) → k < g .used → Ahead side i k → Ahead side (firstEnd side gap (gap + 1)) (getD (g .gap) k 0)
+  pub passed : (k : ℕ) → k < g .used → Behind side i k → Behind side (lastEnd side gap (gap + 1)) (getD (g .gap) k 0)
 
 module _ (side : Side) (g : SegmentColumns) (gap : ℕ) where
   abbrev gapAt : ℕ → ℕ
   gapAt k = getD (g .gap) k 0
 
   abbrev near : ℕ
-  near = nearEnd side gap (gap + 1)
+  near = firstEnd side gap (gap + 1)
 
   abbrev far : ℕ
-  far = farEnd side gap (gap + 1)
+  far = lastEnd side gap (gap + 1)
 
   -- at the gap's near edge
   pub within-first : (i : ℕ) → GapsFrom g near i → Within side g gap i
@@ -170,8 +172,8 @@ module _ (side : Side) (g : SegmentColumns) (gap : ℕ) where
 
   -- where the walk stands behind a row, for the next one
   pub stands-on : OrderedGaps g → {p : Register} {rows : List Reservation} {w : Walk} (i : ℕ) → AnyAhead side i (g .used) → i ≤ g .used
-      → Stands side p rows (farEnd side (getD (g .from) (rowAhead side i) 0) (getD (g .to) (rowAhead side i) 0)) w
-      → AnyAhead side (placeBehind side i) (g .used) → Stands side p rows (beginAt side g (rowAhead side (placeBehind side i))) w
+      → StandsInUnits side p rows (lastEnd side (getD (g .from) (rowAhead side i) 0) (getD (g .to) (rowAhead side i) 0)) w
+      → AnyAhead side (placeBehind side i) (g .used) → StandsInUnits side p rows (beginAt side g (rowAhead side (placeBehind side i))) w
   stands-on ordered i any inside s next =
       later side
       (segments-on g ordered side (rowAhead side i) (rowAhead side (placeBehind side i)) (row-before side i (row-is-ahead side next))

@@ -16,8 +16,8 @@ use Rattle.links.specs.declared.lower.Side.the-variants.{Previous, Next}
 use Rattle.walks.specs.declared.meeting.GapSegment.{GapSegment}
 use Rattle.walks.specs.declared.meeting.Met.{Met}
 use Rattle.walks.specs.Meeting.{Reserved, meets, looked, oneUnit}
-use Rattle.walks.specs.Ways.{Upto, Before, nearEnd, farEnd, Passed, AnyAhead, rowAhead, placeBehind}
-use Rattle.walks.specs.Standing.{OrderedRows, StandsIn, beginOf, endOf, reachesPast}
+use Rattle.walks.specs.Ways.{Upto, Before, firstEnd, lastEnd, Behind, AnyAhead, rowAhead, placeBehind}
+use Rattle.walks.specs.Standing.{OrderedRows, StandsIn, segmentBegin, segmentEnd, reachesPast}
 use Rattle.walks.proofs.Ways.{upto-trans, upto-between, passed-or-ahead, row-inside, row-is-ahead, row-first, passed-only, passed-still}
 use Rattle.walks.proofs.Ways.{row-passed, ahead-before, row-before, none-ahead}
 use Rattle.walks.proofs.Uses.{either-way, and-right-false}
@@ -25,10 +25,10 @@ use Rattle.walks.proofs.Seen.{Seen, All, Apart, rowOf, seen-none, seen-
 
 -- where a row begins and ends, on the way to a side
 abbrev pub rowBegin : Side → Reservation → ℕ
-rowBegin side r = nearEnd side (r .start) (r .end)
+rowBegin side r = firstEnd side (r .start) (r .end)
 
 abbrev pub rowEnd : Side → Reservation → ℕ
-rowEnd side r = farEnd side (r .start) (r .end)
+rowEnd side r = lastEnd side (r .start) (r .end)
 
 -- a row that ends before the segment, or starts past it, does not meet it
 ends-before : (s : GapSegment) (r : Reservation) → r .end ≤ s .from .0 → meets s r ≡ false
@@ -40,11 +40,11 @@ unfolding meets
 starts-past s r h = and-first (ltb (r .start) (s .to .0)) (ltb (s .from .0) (r .end)) (le-ltb (r .start) (s .to .0) h)
 
 -- nor does one that comes before it, or after it, on the way
-comes-before : (side : Side) (s : GapSegment) (r : Reservation) → Upto side (rowEnd side r) (beginOf side s) → meets s r ≡ false
+comes-before : (side : Side) (s : GapSegment) (r : Reservation) → Upto side (rowEnd side r) (segmentBegin side s) → meets s r ≡ false
 comes-before Previous s r h = starts-past s r (h .is)
 comes-before Next s r h = ends-before s r (h .is)
 
-comes-after : (side : Side) (s : GapSegment) (r : Reservation) → Upto side (endOf side s) (rowBegin side r) → meets s r ≡ false
+comes-after : (side : Side) (s : GapSegment) (r : Reservation) → Upto side (segmentEnd side s) (rowBegin side r) → meets s r ≡ false
 comes-after Previous s r h = ends-before s r (h .is)
 comes-after Next s r h = starts-past s r (h .is)
 
@@ -54,11 +54,11 @@ apart-by s u r f =
     ⊎-elim (λ e. inr (f (eqb-true (r .unit) u e))) (λ e. inl (other-of u r (eqb-false (r .unit) u e))) (either-way (eqb (r .unit) u))
 
 -- the test of a row that reaches past the segment
-pub reaches-true : (side : Side) (s : GapSegment) (r : Reservation) → reachesPast side s r ≡ true → Upto side (endOf side s) (rowEnd side r)
+pub reaches-true : (side : Side) (s : GapSegment) (r : Reservation) → reachesPast side s r ≡ true → Upto side (segmentEnd side s) (rowEnd side r)
 reaches-true Previous s r e = record { is = le-of-lt (ltb-true (r .start) (s .from .0) e) }
 reaches-true Next s r e = record { is = le-of-lt (ltb-true (s .to .0) (r .end) e) }
 
-pub reaches-false : (side : Side) (s : GapSegment) (r : Reservation) → reachesPast side s r ≡ false → Upto side (rowEnd side r) (endOf side s)
+pub reaches-false : (side : Side) (s : GapSegment) (r : Reservation) → reachesPast side s r ≡ false → Upto side (rowEnd side r) (segmentEnd side s)
 reaches-false Previous s r e = record { is = ltb-false (r .start) (s .from .0) e }
 reaches-false Next s r e = record { is = ltb-false (s .to .0) (r .end) e }
 
@@ -79,10 +79,11 @@ module _ (t : Reserved) (ordered : OrderedRows (t .rows)) where
 
 -- the rows that were passed
 abbrev pub PassedRows : Side → Reserved → ℕ → ℕ → Type 0
-PassedRows side t i k = Passed side i k × (k < length (t .rows))
+PassedRows side t i k = Behind side i k × (k < length (t .rows))
 
 module _ (side : Side) (t : Reserved) (ordered : OrderedRows (t .rows)) (s : GapSegment) (u : ℕ) where
-  pub unit-begin : (at : ℕ) (m : Met) → Weight (m .heaviest) → StandsIn side (t .rows) u (beginOf side s) at → Seen (oneUnit u) t s (PassedRows side t at) m m
+  pub unit-begin : (at : ℕ) (m : Met) → Weight (m .heaviest) → StandsIn side (t .rows) u (segmentBegin side s) at
+      → Seen (oneUnit u) t s (PassedRows side t at) m m
   unit-begin at m w b =
       seen-none (oneUnit u) t s (PassedRows side t at) m w
       (λ k l. apart-by s u (rowOf t k) (λ e. comes-before side s (rowOf t k) (b .passed k (l .1) (l .0) e)))
@@ -103,7 +104,7 @@ module _ (side : Side) (t : Reserved) (ordered : OrderedRows (t .rows)) (s : Gap
         (λ j q. (passed-still side (q .0), q .1)) (row-passed side i, there) m₀ m (unit-of u (rowOf t row) e) k
 
     -- out at a row of another unit, or behind a row that reaches past the segment
-    pub unit-other : (rowOf t row .unit ≡ u → ⊥) → StandsIn side (t .rows) u (endOf side s) i → Seen (oneUnit u) t s (PassedRows side t i) m₀ m
+    pub unit-other : (rowOf t row .unit ≡ u → ⊥) → StandsIn side (t .rows) u (segmentEnd side s) i → Seen (oneUnit u) t s (PassedRows side t i) m₀ m
         → Seen (oneUnit u) t s (All t) m₀ m
     unit-other ne b k =
         seen-all (oneUnit u) t s (PassedRows side t i) (λ j q. q .1)
@@ -112,7 +113,7 @@ module _ (side : Side) (t : Reserved) (ordered : OrderedRows (t .rows)) (s : Gap
         (λ e. ne (upto-between side (b .ahead row there (row-is-ahead side any)) (units-on t ordered side row j (row-first side l) there n) e)))))
         (passed-or-ahead side i j)) m₀ m k
 
-    pub unit-past : rowOf t row .unit ≡ u → Upto side (endOf side s) (rowEnd side (rowOf t row))
+    pub unit-past : rowOf t row .unit ≡ u → Upto side (segmentEnd side s) (rowEnd side (rowOf t row))
         → Seen (oneUnit u) t s (PassedRows side t (placeBehind side i)) m₀ m
         → Seen (oneUnit u) t s (All t) m₀ m
     unit-past e l k =
@@ -123,13 +124,13 @@ module _ (side : Side) (t : Reserved) (ordered : OrderedRows (t .rows)) (s : Gap
         (passed-or-ahead side (placeBehind side i) j)) m₀ m k
 
   -- the next row, if this one does not reach past the segment
-  pub unit-next : (i : ℕ) → Upto side (rowEnd side (rowOf t (rowAhead side i))) (endOf side s) → StandsIn side (t .rows) u (endOf side s) i
-      → StandsIn side (t .rows) u (endOf side s) (placeBehind side i)
+  pub unit-next : (i : ℕ) → Upto side (rowEnd side (rowOf t (rowAhead side i))) (segmentEnd side s) → StandsIn side (t .rows) u (segmentEnd side s) i
+      → StandsIn side (t .rows) u (segmentEnd side s) (placeBehind side i)
   unit-next i l b =
       record {
         ahead = λ k n a. b .ahead k n (ahead-before side i a);
         passed =
-            λ k n q e. ⊎-elim (λ x. b .passed k n x e) (λ x. subst (λ (j : ℕ). Upto side (rowEnd side (rowOf t j)) (endOf side s)) (sym x) l)
+            λ k n q e. ⊎-elim (λ x. b .passed k n x e) (λ x. subst (λ (j : ℕ). Upto side (rowEnd side (rowOf t j)) (segmentEnd side s)) (sym x) l)
             (passed-only side q);
       }
 

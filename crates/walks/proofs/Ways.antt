@@ -10,7 +10,7 @@ use Rattle.columns.proofs.Firsts.{split}
 use Rattle.links.specs.declared.lower.Side.{Side}
 use Rattle.links.specs.declared.lower.Side.the-variants.{Previous, Next}
 use Rattle.links.specs.Links.{onSide}
-use Rattle.walks.specs.Ways.{Upto, Before, nearEnd, farEnd, Ahead, Passed, AnyAhead, anyAhead, rowAhead, placeBehind}
+use Rattle.walks.specs.Ways.{Upto, Before, firstEnd, lastEnd, Ahead, Behind, AnyAhead, anyAhead, rowAhead, placeBehind}
 
 -- ---- order
 pub upto-trans : (side : Side) {a b c : ℕ} → Upto side a b → Upto side b c → Upto side a c
@@ -23,12 +23,12 @@ upto-between Previous p q e = omega (arith, p .is, q .is, e)
 upto-between Next p q e = omega (arith, p .is, q .is, e)
 
 -- the ends of a stretch that is not empty
-pub near-far : (side : Side) {from to : ℕ} → from < to → Upto side (nearEnd side from to) (farEnd side from to)
+pub near-far : (side : Side) {from to : ℕ} → from < to → Upto side (firstEnd side from to) (lastEnd side from to)
 near-far Previous h = record { is = le-of-lt h }
 near-far Next h = record { is = le-of-lt h }
 
 -- ---- rows about a place
-pub passed-or-ahead : (side : Side) (i k : ℕ) → Passed side i k ⊎ Ahead side i k
+pub passed-or-ahead : (side : Side) (i k : ℕ) → Behind side i k ⊎ Ahead side i k
 passed-or-ahead Previous i k = ⊎-elim (λ h. inr (record { is = omega (arith, h) })) (λ h. inl (record { is = h })) (split k i)
 passed-or-ahead Next i k = ⊎-elim (λ h. inl (record { is = omega (arith, h) })) (λ h. inr (record { is = h })) (split k i)
 
@@ -55,15 +55,15 @@ pub behind-inside : (side : Side) {i n : ℕ} → AnyAhead side i n → i ≤ n 
 behind-inside Previous h l = omega (arith, l)
 behind-inside Next h l = omega (arith, h .is)
 
-pub passed-only : (side : Side) {i k : ℕ} → Passed side (placeBehind side i) k → Passed side i k ⊎ (k ≡ rowAhead side i)
+pub passed-only : (side : Side) {i k : ℕ} → Behind side (placeBehind side i) k → Behind side i k ⊎ (k ≡ rowAhead side i)
 passed-only Previous {i} {k} h = ⊎-elim (λ l. inr (omega (arith, h .is, l))) (λ l. inl (record { is = l })) (split k i)
 passed-only Next {i} {k} h = ⊎-elim (λ l. inl (record { is = omega (arith, l) })) (λ l. inr (omega (arith, h .is, l))) (split k i)
 
-pub passed-still : (side : Side) {i k : ℕ} → Passed side i k → Passed side (placeBehind side i) k
+pub passed-still : (side : Side) {i k : ℕ} → Behind side i k → Behind side (placeBehind side i) k
 passed-still Previous h = record { is = omega (arith, h .is) }
 passed-still Next h = record { is = omega (arith, h .is) }
 
-pub row-passed : (side : Side) (i : ℕ) → Passed side (placeBehind side i) (rowAhead side i)
+pub row-passed : (side : Side) (i : ℕ) → Behind side (placeBehind side i) (rowAhead side i)
 row-passed Previous i = record { is = le-refl (i - 1) }
 row-passed Next i = record { is = le-refl (i + 1) }
 
@@ -81,7 +81,7 @@ fewer-ahead Previous h e = omega (arith, h .is, e)
 fewer-ahead Next h e = omega (arith, h .is, e)
 
 -- with no row ahead all are passed
-pub none-ahead : (side : Side) {i n k : ℕ} → (AnyAhead side i n → ⊥) → k < n → Passed side i k
+pub none-ahead : (side : Side) {i n k : ℕ} → (AnyAhead side i n → ⊥) → k < n → Behind side i k
 none-ahead side {i} {n} {k} none h = ⊎-elim (λ p. p) (λ a. absurd (none (some-ahead side a h))) (passed-or-ahead side i k)
 
 -- ---- as code tests it
@@ -98,21 +98,21 @@ some-row Previous h = h .is
 some-row Next h = omega arith
 
 -- ---- edges: gap x is the stretch from x to x + 1, and what lies about its two edges
-pub near-other : (side : Side) (x : ℕ) {y : ℕ} → Passed side (nearEnd side x (x + 1)) y → y ≡ x → ⊥
+pub near-other : (side : Side) (x : ℕ) {y : ℕ} → Behind side (firstEnd side x (x + 1)) y → y ≡ x → ⊥
 near-other Previous x p e = omega (arith, p .is, e)
 near-other Next x p e = omega (arith, p .is, e)
 
-pub far-other : (side : Side) (x : ℕ) {y : ℕ} → Ahead side (farEnd side x (x + 1)) y → y ≡ x → ⊥
+pub far-other : (side : Side) (x : ℕ) {y : ℕ} → Ahead side (lastEnd side x (x + 1)) y → y ≡ x → ⊥
 far-other Previous x p e = omega (arith, p .is, e)
 far-other Next x p e = omega (arith, p .is, e)
 
-pub far-passed : (side : Side) (x : ℕ) {y : ℕ} → Passed side (nearEnd side x (x + 1)) y ⊎ (y ≡ x) → Passed side (farEnd side x (x + 1)) y
+pub far-passed : (side : Side) (x : ℕ) {y : ℕ} → Behind side (firstEnd side x (x + 1)) y ⊎ (y ≡ x) → Behind side (lastEnd side x (x + 1)) y
 far-passed Previous x (inl p) = record { is = omega (arith, p .is) }
 far-passed Previous x (inr p) = record { is = omega (arith, p) }
 far-passed Next x (inl p) = record { is = omega (arith, p .is) }
 far-passed Next x (inr p) = record { is = omega (arith, p) }
 
-pub far-ahead : (side : Side) (x : ℕ) {y : ℕ} → Ahead side (nearEnd side x (x + 1)) y → (y ≡ x → ⊥) → Ahead side (farEnd side x (x + 1)) y
+pub far-ahead : (side : Side) (x : ℕ) {y : ℕ} → Ahead side (firstEnd side x (x + 1)) y → (y ≡ x → ⊥) → Ahead side (lastEnd side x (x + 1)) y
 far-ahead Previous x p n = record { is = omega (arith, p .is, n) }
 far-ahead Next x p n = record { is = omega (arith, p .is, n) }
 

@@ -22,8 +22,8 @@ use Rattle.walks.specs.declared.both.TookGap.{TookGap}
 use Rattle.links.specs.declared.lower.Side.{Side}
 use Rattle.links.specs.Links.{onSide}
 use Rattle.walks.specs.Meeting.{Reserved, fixedMetAny, weightsMetAll}
-use Rattle.walks.specs.Ways.{otherSide, nearEnd, farEnd, AnyAhead, anyAhead, rowAhead}
-use Rattle.walks.specs.Standing.{Ready, Known, Stands, PlacesInside}
+use Rattle.walks.specs.Ways.{otherSide, firstEnd, lastEnd, AnyAhead, anyAhead, rowAhead}
+use Rattle.walks.specs.Standing.{Ready, Known, StandsInUnits, PlacesInside}
 
 -- the gap segment that row i of three columns holds
 abbrev pub gapSegmentRow : List ℕ → List ℕ → List ℕ → ℕ → GapSegment
@@ -67,12 +67,12 @@ pub record GapsFrom (g : SegmentColumns) (gap next : ℕ) : Type 0 where
 
 -- where the gap segment of a row begins, on the way to a side
 abbrev pub beginAt : Side → SegmentColumns → ℕ → ℕ
-beginAt side g i = nearEnd side (getD (g .from) i 0) (getD (g .to) i 0)
+beginAt side g i = firstEnd side (getD (g .from) i 0) (getD (g .to) i 0)
 
 -- a walk stands at an edge among the gaps: the rows ahead are those of the gaps ahead, and it stands where the first of them begins
 pub record At (side : Side) (p : Register) (rows : List Reservation) (g : SegmentColumns) (edge : ℕ) (w : Walk) : Type 0 where
   pub place : GapsFrom g edge (w .next)
-  pub stands : AnyAhead side (w .next) (g .used) → Stands side p rows (beginAt side g (rowAhead side (w .next))) w
+  pub stands : AnyAhead side (w .next) (g .used) → StandsInUnits side p rows (beginAt side g (rowAhead side (w .next))) w
 
 -- the heaviest of a weight and of those that the gap segments of a gap meet
 abbrev pub heaviestInGap : Register → Reserved → SegmentColumns → ℕ → Float → Float
@@ -101,12 +101,12 @@ pub record Walkable (t : Reserved) (g : SegmentColumns) : Type 0 where
 -- the gap segments of a gap taken, from its near edge to its far one
 pub record Exact (side : Side) (p : Register) (t : Reserved) (g : SegmentColumns) (gap : ℕ) (w : Float) (r : Took) : Type 0 where
   pub met : r .met ≡ gapMet p t g gap (metBefore w)
-  pub at : At side p (t .rows) g (farEnd side gap (gap + 1)) (r .walk)
+  pub at : At side p (t .rows) g (lastEnd side gap (gap + 1)) (r .walk)
 
 -- what a walk that takes a gap answers: it fits again, and is exact if it stood at the gap's near edge
 pub record Takes (side : Side) (p : Register) (t : Reserved) (g : SegmentColumns) (gap : ℕ) (w : Float) (walk : Walk) (r : Took) : Type 0 where
   pub fits : Fits p t g (r .walk)
-  pub exact : Walkable t g → Weight w → At side p (t .rows) g (nearEnd side gap (gap + 1)) walk → Exact side p t g gap w r
+  pub exact : Walkable t g → Weight w → At side p (t .rows) g (firstEnd side gap (gap + 1)) walk → Exact side p t g gap w r
 
 -- a walker's answer is its walk's
 abbrev pub tookLeft : TookLeft → Took

@@ -16,7 +16,7 @@ use Rattle.walks.specs.declared.meeting.Met.{Met}
 use Rattle.walks.specs.declared.meeting.Register.{Register}
 use Rattle.walks.specs.declared.walk.Walk.{Walk}
 use Rattle.walks.specs.Meeting.{Reserved}
-use Rattle.walks.specs.Ways.{Upto, nearEnd, farEnd, Ahead, Passed}
+use Rattle.walks.specs.Ways.{Upto, firstEnd, lastEnd, Ahead, Behind}
 
 -- reservations as line 10 leaves them: units do not fall; within a unit they are nonempty, ordered and disjoint
 pub record OrderedRows (rows : List Reservation) : Type 0 where
@@ -45,11 +45,11 @@ pub record Known (p : Register) : Type 0 where
 -- at the point or before it, all on the way to that side
 pub record StandsIn (side : Side) (rows : List Reservation) (unit point at : ℕ) : Type 0 where
   pub ahead : (k : ℕ) → k < length rows → Ahead side at k → Upto side unit (getD rows k noReservation .unit)
-  pub passed : (k : ℕ) → k < length rows → Passed side at k → getD rows k noReservation .unit ≡ unit
-      → Upto side (farEnd side (getD rows k noReservation .start) (getD rows k noReservation .end)) point
+  pub passed : (k : ℕ) → k < length rows → Behind side at k → getD rows k noReservation .unit ≡ unit
+      → Upto side (lastEnd side (getD rows k noReservation .start) (getD rows k noReservation .end)) point
 
 -- it does in each unit of the register
-pub record Stands (side : Side) (p : Register) (rows : List Reservation) (point : ℕ) (w : Walk) : Type 0 where
+pub record StandsInUnits (side : Side) (p : Register) (rows : List Reservation) (point : ℕ) (w : Walk) : Type 0 where
   pub in-unit : (v : ℕ) → v < p .units → StandsIn side rows (p .first .0 + v) point (getD (w .at) v 0)
 
 -- its places lie within n rows
@@ -59,11 +59,11 @@ pub record PlacesInside (p : Register) (n : ℕ) (w : Walk) : Type 0 where
 
 -- ---- for contracts of private functions
 -- where a gap segment begins and ends, on the way to a side
-abbrev pub beginOf : Side → GapSegment → ℕ
-beginOf side s = nearEnd side (s .from .0) (s .to .0)
+abbrev pub segmentBegin : Side → GapSegment → ℕ
+segmentBegin side s = firstEnd side (s .from .0) (s .to .0)
 
-abbrev pub endOf : Side → GapSegment → ℕ
-endOf side s = farEnd side (s .from .0) (s .to .0)
+abbrev pub segmentEnd : Side → GapSegment → ℕ
+segmentEnd side s = lastEnd side (s .from .0) (s .to .0)
 
 -- a row reaches past a gap segment's end
 abbrev pub reachesPast : Side → GapSegment → Reservation → Bool

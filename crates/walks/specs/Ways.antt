@@ -20,18 +20,18 @@ pub record Before (side : Side) (a b : ℕ) : Type 0 where
   pub is : onSide side b a < onSide side a b
 
 -- of a stretch from one number to another, the end that comes first, and the one that comes last
-abbrev pub nearEnd : Side → ℕ → ℕ → ℕ
-nearEnd side from to = onSide side to from
+abbrev pub firstEnd : Side → ℕ → ℕ → ℕ
+firstEnd side from to = onSide side to from
 
-abbrev pub farEnd : Side → ℕ → ℕ → ℕ
-farEnd side from to = onSide side from to
+abbrev pub lastEnd : Side → ℕ → ℕ → ℕ
+lastEnd side from to = onSide side from to
 
 -- place i stands between rows i - 1 and i. Row k lies ahead of it: to the left k < i, to the right i ≤ k
 pub record Ahead (side : Side) (i k : ℕ) : Type 0 where
   pub is : onSide side (k + 1) i ≤ onSide side i k
 
 -- or it was passed: to the left i ≤ k, to the right k < i
-pub record Passed (side : Side) (i k : ℕ) : Type 0 where
+pub record Behind (side : Side) (i k : ℕ) : Type 0 where
   pub is : onSide side i (k + 1) ≤ onSide side k i
 
 -- one of n rows lies ahead: to the left 0 < i, to the right i < n

@@ -19,7 +19,7 @@ ghost use Rattle.links.specs.Links.{onSide};
 ghost use Rattle.links.specs.declared.lower.Side.the-variants.{Previous, Next};
 ghost use Rattle.walks.specs.Meeting.{reservedIn};
 ghost use Rattle.walks.specs.Gaps.{segmentsIn, FitsBoth, TakesBoth};
-ghost use Rattle.walks.specs.Standing.{OrderedRows, Known, StandsIn, Stands, PlacesInside};
+ghost use Rattle.walks.specs.Standing.{OrderedRows, Known, StandsIn, StandsInUnits, PlacesInside};
 
 // Where the walks of one unit begin.
 struct Places {
@@ -103,8 +103,8 @@ impl Walkers {
             (now (unit .entry)) (now (start .entry)) (now (end .entry)) (now (kind .entry)) (now (index .entry)) (now (fixed .entry)) in
             (r .left .walk .next ≡ next) ×
             (r .right .walk .next ≡ next) ×
-            (PlacesInside register (length reservations) (r .left .walk) × Stands Previous register reservations (point .0) (r .left .walk)) ×
-            (PlacesInside register (length reservations) (r .right .walk) × Stands Next register reservations (point .0) (r .right .walk))) ⌝ }
+            (PlacesInside register (length reservations) (r .left .walk) × StandsInUnits Previous register reservations (point .0) (r .left .walk)) ×
+            (PlacesInside register (length reservations) (r .right .walk) × StandsInUnits Next register reservations (point .0) (r .right .walk))) ⌝ }
     {
         let mut lefts = [0usize; 8];
         let mut rights = [0usize; 8];

@@ -20,7 +20,7 @@ ghost use Prim.Native.Nat.{_≤_};
 ghost use lib.ListN.{length};
 ghost use Rattle.jobs.specs.Rows.{reservationsOf};
 ghost use Rattle.walks.specs.Meeting.{reservedOf, reservedIn, alsoMet, oneUnit};
-ghost use Rattle.walks.specs.Standing.{Known, StandsIn, Stands, PlacesInside, Sound, beginOf, endOf};
+ghost use Rattle.walks.specs.Standing.{Known, StandsIn, StandsInUnits, PlacesInside, Sound, segmentBegin, segmentEnd};
 ghost use Rattle.walks.specs.Gaps.{segmentsIn, Fits, Takes};
 
 // Where a walk stands: at a place among the gap segments' rows, and for each unit of the register, in turn, at a place among its rows.
@@ -65,8 +65,8 @@ fn walk_unit(
         (now (unit .entry)) (now (start .entry)) (now (end .entry)) (now (kind .entry)) (now (index .entry)) (now (fixed .entry))
         (now («f_unit» .entry)) (now («f_point» .entry)) (now («f_value» .entry)) (now (weight .entry)) in
         (r .at ≤ length (reserved .rows)) ×
-        (Sound reserved s met → StandsIn side (reserved .rows) (u .0) (beginOf side s) at →
-        (r .met ≡ alsoMet (oneUnit (u .0)) reserved s met) × StandsIn side (reserved .rows) (u .0) (endOf side s) (r .at))) ⌝ }
+        (Sound reserved s met → StandsIn side (reserved .rows) (u .0) (segmentBegin side s) at →
+        (r .met ≡ alsoMet (oneUnit (u .0)) reserved s met) × StandsIn side (reserved .rows) (u .0) (segmentEnd side s) (r .at))) ⌝ }
 {
     let n = reservation_count(unit, start, end, kind, index, fixed);
     let mut i = at;
@@ -114,8 +114,8 @@ impl Walk {
         ensures { λ r. ⌜
             (let reserved = reservedIn (map now (reserved .entry)) in
             (r .walk .next ≡ self .next) × PlacesInside register (length (reserved .rows)) (r .walk) ×
-            (Sound reserved s met → Stands side register (reserved .rows) (beginOf side s) self →
-            (r .met ≡ alsoMet register reserved s met) × Stands side register (reserved .rows) (endOf side s) (r .walk))) ⌝ }
+            (Sound reserved s met → StandsInUnits side register (reserved .rows) (segmentBegin side s) self →
+            (r .met ≡ alsoMet register reserved s met) × StandsInUnits side register (reserved .rows) (segmentEnd side s) (r .walk))) ⌝ }
     {
         let unit = reserved[0];
         let start = reserved[1];

@@ -10,7 +10,7 @@ use Rattle.links.specs.declared.lower.Side.the-variants.{Previous, Next}
 use Rattle.overlaps.specs.GapSegments.{SegmentColumns}
 use Rattle.walks.specs.declared.walk.Walk.{Walk}
 use Rattle.walks.specs.Meeting.{Reserved}
-use Rattle.walks.specs.Standing.{Stands, PlacesInside}
+use Rattle.walks.specs.Standing.{StandsInUnits, PlacesInside}
 use Rattle.walks.specs.Gaps.{segmentsIn, Fits}
 use Rattle.walks.proofs.Taken.{reservedTaken, reserved-taken, segmentsTaken, segments-taken}
 use Rattle.walks.proofs.GapWalk.{gaps-rise}
@@ -88,10 +88,10 @@ begun c =
     let next = f .first-at-least .result in
     let fits : (x : Walk) → x .next ≡ next → PlacesInside (a .register) _ x → Fits (a .register) (table b) g x =
     λ x n i. record { known = w .known; long = w .long; next = le-trans (le-of-eq n) (f .first-at-least .ensures .1); places = i } in
-    let at : (side : Side) (x : Walk) → x .next ≡ next → Stands side (a .register) (table b .rows) (d .point-at .result .0) x → _ =
+    let at : (side : Side) (x : Walk) → x .next ≡ next → StandsInUnits side (a .register) (table b .rows) (d .point-at .result .0) x → _ =
     λ side x n s. starts (a .register) (table b) g (w .walkable .ordered) refl (a .initial) next
     (f .first-at-least .ensures .2 (gaps-rise g (w .walkable .ordered))) (w .small) side x n
-    (subst (λ (p : ℕ). Stands side (a .register) (table b .rows) p x) (d .point-at .ensures) s) in
+    (subst (λ (p : ℕ). StandsInUnits side (a .register) (table b .rows) p x) (d .point-at .ensures) s) in
     record {
       walkable = w .walkable;
       fits = record {

@@ -8,7 +8,7 @@ use Rattle.links.specs.declared.lower.Side.{Side}
 use Rattle.overlaps.specs.GapSegments.{SegmentColumns}
 use Rattle.walks.specs.declared.meeting.Met.{Met}
 use Rattle.walks.specs.Meeting.{Reserved, reservedIn, fixedMetAny}
-use Rattle.walks.specs.Ways.{otherSide, nearEnd, farEnd}
+use Rattle.walks.specs.Ways.{otherSide, firstEnd, lastEnd}
 use Rattle.walks.specs.Gaps.{segmentsIn, segmentsOfGap, heaviestInGap, At, Fits, walkOn}
 use Rattle.growth.specs.Columns.{floatAt, CountFits, triedWith}
 use Rattle.region.specs.OneTry.{instsAt}
@@ -67,7 +67,7 @@ returns c =
           λ rel.
           let exact =
           k .takes .exact (rel .walkable) (rel .heaviest)
-          (subst (λ (n : ℕ). At (a .side) (a .register) (t .rows) g (nearEnd (a .side) n (n + 1)) (walkOn (a .side) (a .walkers))) (sym e) (rel .at)) in
+          (subst (λ (n : ℕ). At (a .side) (a .register) (t .rows) g (firstEnd (a .side) n (n + 1)) (walkOn (a .side) (a .walkers))) (sym e) (rel .at)) in
           let n = insts .insts-of .ensures in
           record {
             tried =
@@ -80,7 +80,7 @@ returns c =
                 ∙ ap (λ (y : ℕ). triedWith (a .side) y r (floatAt (a .weight .now) y) (instsAt (a .live .now) (a .own) y)
                 (fixedMetAny (a .register) t (segmentsOfGap g y)) (heaviestInGap (a .register) t g y (r .heaviest)) (a .k)) e;
             at =
-                subst (λ (y : ℕ). At (a .side) (a .register) (t .rows) g (farEnd (a .side) y (y + 1)) (walkOn (a .side) (took .take-gap .result .walkers))) e
+                subst (λ (y : ℕ). At (a .side) (a .register) (t .rows) g (lastEnd (a .side) y (y + 1)) (walkOn (a .side) (took .take-gap .result .walkers))) e
                 (exact .at);
           };
     }

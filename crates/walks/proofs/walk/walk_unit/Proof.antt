@@ -18,7 +18,7 @@ use Rattle.jobs.proofs.Walk.{own-row}
 use Rattle.walks.specs.declared.meeting.Met.{Met}
 use Rattle.walks.specs.Meeting.{Reserved, reservedOf, looked, alsoMet, oneUnit}
 use Rattle.walks.specs.Ways.{AnyAhead, rowAhead, placeBehind}
-use Rattle.walks.specs.Standing.{StandsIn, Sound, beginOf, endOf, reachesPast}
+use Rattle.walks.specs.Standing.{StandsIn, Sound, segmentBegin, segmentEnd, reachesPast}
 use Rattle.walks.proofs.Ways.{near-far, row-inside, behind-inside, some-row, fewer-ahead, ahead-true, ahead-false}
 use Rattle.walks.proofs.Seen.{Seen, All, rowOf, seen-is}
 use Rattle.walks.proofs.Begin.{holds-unit}
@@ -36,8 +36,8 @@ Inv-loop side unit start end kind index fixed f-unit f-point f-value weight u at
     let t =
     reservedOf unit start end kind index fixed f-unit f-point f-value weight in
     (i ≤ length (t .rows))
-    × (Sound t s (met counts₀ heaviest₀) → StandsIn side (t .rows) (u .0) (beginOf side s) at
-    → StandsIn side (t .rows) (u .0) (endOf side s) i × Seen (oneUnit (u .0)) t s (PassedRows side t i) (met counts₀ heaviest₀) (met counts heaviest))
+    × (Sound t s (met counts₀ heaviest₀) → StandsIn side (t .rows) (u .0) (segmentBegin side s) at
+    → StandsIn side (t .rows) (u .0) (segmentEnd side s) i × Seen (oneUnit (u .0)) t s (PassedRows side t i) (met counts₀ heaviest₀) (met counts heaviest))
 
 -- rows ahead
 abbrev μ-loop : tie.MeasureT-loop
@@ -177,7 +177,8 @@ of-unit c = ap (λ (r : Reservation). r .unit) (sym (row (c .before .before .bef
 turn : (c : tie.After-look Inv-loop μ-loop) →
     let l = c .before .before .before .before .before .before .before .before in
     let b = begin l in
-    Sound (table b) (b .args .s) (b .args .met) → StandsIn (b .args .side) (table b .rows) (b .args .u .0) (beginOf (b .args .side) (b .args .s)) (b .args .at)
+    Sound (table b) (b .args .s) (b .args .met)
+    → StandsIn (b .args .side) (table b .rows) (b .args .u .0) (segmentBegin (b .args .side) (b .args .s)) (b .args .at)
     → Seen (oneUnit (b .args .u .0)) (table b) (b .args .s) (PassedRows (b .args .side) (table b) (placeBehind (b .args .side) (l .loop .i))) (b .args .met)
     (c .look .result)
 turn c sound st =
@@ -231,7 +232,7 @@ loop-again c =
     let to = sym (c .place-behind .ensures) in (
       subst (λ (x : ℕ). x ≤ length (table b .rows)) to (behind-inside (a .side) (any e) (l .loop .inv .0)),
       λ sound st. (
-        subst (StandsIn (a .side) (table b .rows) (a .u .0) (endOf (a .side) (a .s))) to
+        subst (StandsIn (a .side) (table b .rows) (a .u .0) (segmentEnd (a .side) (a .s))) to
             (unit-next (a .side) (table b) (sound .ready .rows) (a .s) (a .u .0) (l .loop .i)
             (reaches-false (a .side) (a .s) (rowOf (table b) (rowAhead (a .side) (l .loop .i)))
             (ap (λ (r : Reservation). reachesPast (a .side) (a .s) r) (sym (row d)) ∙ sym (c .before .before .reaches-past .ensures) ∙ c .before .if3 .left))

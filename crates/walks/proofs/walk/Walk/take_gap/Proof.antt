@@ -19,8 +19,8 @@ use Rattle.walks.specs.declared.meeting.GapSegment.{GapSegment}
 use Rattle.walks.specs.declared.meeting.Register.{Register}
 use Rattle.walks.specs.declared.walk.Walk.{Walk}
 use Rattle.walks.specs.Meeting.{Reserved, reservedIn, alsoMet}
-use Rattle.walks.specs.Ways.{nearEnd, AnyAhead, rowAhead, placeBehind}
-use Rattle.walks.specs.Standing.{Stands, PlacesInside, Sound, beginOf, endOf}
+use Rattle.walks.specs.Ways.{firstEnd, AnyAhead, rowAhead, placeBehind}
+use Rattle.walks.specs.Standing.{StandsInUnits, PlacesInside, Sound, segmentBegin, segmentEnd}
 use Rattle.walks.specs.Gaps.{segmentIn, beginAt, At, metBefore, Fits, Walkable, Takes}
 use Rattle.walks.proofs.Ways.{row-inside, behind-inside, some-row, fewer-ahead}
 use Rattle.walks.proofs.Taken.{segmentsTaken, segments-taken}
@@ -37,14 +37,14 @@ met fixed heaviest = record { fixed = fixed; heaviest = heaviest }
 -- at place i among the gap's rows the walk stands where the row ahead begins, and the rows passed meet what was met
 pub record Going (side : Side) (p : Register) (t : Reserved) (g : SegmentColumns) (gap : ℕ) (w : Float) (walk : Walk) (m : Met) (i : ℕ) : Type 0 where
   pub within : Within side g gap i
-  pub stands : AnyAhead side i (g .used) → Stands side p (t .rows) (beginAt side g (rowAhead side i)) walk
+  pub stands : AnyAhead side i (g .used) → StandsInUnits side p (t .rows) (beginAt side g (rowAhead side i)) walk
   pub seen : SeenGap p t g gap (PassedGaps side g i) (metBefore w) m
 
 -- what the walk relies on
 pub record Relies (side : Side) (p : Register) (t : Reserved) (g : SegmentColumns) (gap : ℕ) (w : Float) (walk : Walk) : Type 0 where
   pub walkable : Walkable t g
   pub weight : Weight w
-  pub at : At side p (t .rows) g (nearEnd side gap (gap + 1)) walk
+  pub at : At side p (t .rows) g (firstEnd side gap (gap + 1)) walk
 
 abbrev Inv-loop : tie.InvT-loop
 Inv-loop self₀ side t3 reserved register gap heaviest out-from out-to out-value out-gap counts₀ heaviest₀ i₀ self counts heaviest' i =
@@ -179,12 +179,13 @@ loop-again c =
           } in
           let x =
           took .ensures .2 sound
-          (subst (λ (s : GapSegment). Stands (a .side) (a .register) (t .rows) (beginOf (a .side) s) (l .loop .self)) (sym e) (n .stands (ahead d .0))) in
+          (subst (λ (s : GapSegment). StandsInUnits (a .side) (a .register) (t .rows) (segmentBegin (a .side) s) (l .loop .self)) (sym e)
+          (n .stands (ahead d .0))) in
           subst (Going (a .side) (a .register) t g (a .gap) (a .heaviest) (took .result .walk) (took .result .met)) to
           (record {
             within = within-step (a .side) g (a .gap) i (ahead d .0) (ahead d .1) (n .within);
             stands = stands-on (a .side) g (a .gap) o i (ahead d .0) (l .loop .inv .0)
-                (subst (λ (s : GapSegment). Stands (a .side) (a .register) (t .rows) (endOf (a .side) s) (took .result .walk)) e (x .1));
+                (subst (λ (s : GapSegment). StandsInUnits (a .side) (a .register) (t .rows) (segmentEnd (a .side) s) (took .result .walk)) e (x .1));
             seen = subst (SeenGap (a .register) t g (a .gap) (PassedGaps (a .side) g (placeBehind (a .side) i)) (metBefore (a .heaviest)))
                 (sym (x .0 ∙ ap (λ (s : GapSegment). alsoMet (a .register) t s m) e))
                 (gap-step (a .side) g (a .gap) (a .register) t i (metBefore (a .heaviest)) m (ahead d .0) (l .loop .inv .0) (eq-eqb _ _ (ahead d .1))

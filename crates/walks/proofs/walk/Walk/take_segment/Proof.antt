@@ -13,7 +13,7 @@ use Rattle.walks.specs.declared.meeting.GapSegment.{GapSegment}
 use Rattle.walks.specs.declared.meeting.Register.{Register}
 use Rattle.walks.specs.declared.walk.Walk.{Walk}
 use Rattle.walks.specs.Meeting.{Reserved, reservedOf, alsoMet}
-use Rattle.walks.specs.Standing.{StandsIn, Stands, PlacesInside, Sound, beginOf, endOf}
+use Rattle.walks.specs.Standing.{StandsIn, StandsInUnits, PlacesInside, Sound, segmentBegin, segmentEnd}
 use Rattle.walks.proofs.Steps.{next-inside, below-upto}
 use Rattle.walks.proofs.Taken.{reservedTaken, reserved-taken}
 use Rattle.walks.proofs.Seen.{Seen, All, firstUnits, units-none, units-more, seen-is}
@@ -39,8 +39,8 @@ Units side p t s w₀ w m₀ m v =
     (v ≤ p .units)
     × (w .next ≡ w₀ .next)
     × Walked (p .units) (Inside t) (Inside t) (w .at) v
-    × (Sound t s m₀ → Stands side p (t .rows) (beginOf side s) w₀
-    → Walked (p .units) (StandsAt side p t (beginOf side s)) (StandsAt side p t (endOf side s)) (w .at) v × Seen (firstUnits p v) t s (All t) m₀ m)
+    × (Sound t s m₀ → StandsInUnits side p (t .rows) (segmentBegin side s) w₀
+    → Walked (p .units) (StandsAt side p t (segmentBegin side s)) (StandsAt side p t (segmentEnd side s)) (w .at) v × Seen (firstUnits p v) t s (All t) m₀ m)
 
 abbrev Inv-loop : tie.InvT-loop
 Inv-loop side t3 register s self₀ unit start end kind index fixed f-unit f-point f-value weight counts₀ heaviest₀ v₀ self counts heaviest v =
@@ -95,8 +95,8 @@ loop-holds c =
       refl,
       walked-none (a .register .units) (Inside (table b)) (Inside (table b)) (a .t1 .at) (places .eight) (places .inside),
       λ sound st. (
-        walked-none (a .register .units) (StandsAt (a .side) (a .register) (table b) (beginOf (a .side) (a .s)))
-            (StandsAt (a .side) (a .register) (table b) (endOf (a .side) (a .s))) (a .t1 .at) (places .eight) (st .in-unit),
+        walked-none (a .register .units) (StandsAt (a .side) (a .register) (table b) (segmentBegin (a .side) (a .s)))
+            (StandsAt (a .side) (a .register) (table b) (segmentEnd (a .side) (a .s))) (a .t1 .at) (places .eight) (st .in-unit),
         units-none (a .register) (table b) (a .s) (a .met) (sound .weight),
       ),
     )
@@ -169,8 +169,8 @@ returns c =
     let m = met (l .loop .counts) (l .loop .heaviest) in
     subst
     (λ (t : Reserved). (l .loop .self .next ≡ a .t1 .next) × PlacesInside (a .register) (length (t .rows)) (l .loop .self)
-    × (Sound t (a .s) (a .met) → Stands (a .side) (a .register) (t .rows) (beginOf (a .side) (a .s)) (a .t1)
-    → (m ≡ alsoMet (a .register) t (a .s) (a .met)) × Stands (a .side) (a .register) (t .rows) (endOf (a .side) (a .s)) (l .loop .self)))
+    × (Sound t (a .s) (a .met) → StandsInUnits (a .side) (a .register) (t .rows) (segmentBegin (a .side) (a .s)) (a .t1)
+    → (m ≡ alsoMet (a .register) t (a .s) (a .met)) × StandsInUnits (a .side) (a .register) (t .rows) (segmentEnd (a .side) (a .s)) (l .loop .self)))
     (reserved-taken (a .t3)) (
       i .1,
       record { eight = i .2 .eight; inside = λ v h. i .2 .walked v (done c v h) },
