@@ -2,14 +2,17 @@
 use mathlib.Core.Path.{_≡_, refl, sym, _∙_, subst}
 use mathlib.Core.Logic.{_⊎_, inl, inr}
 use Prim.Native.Nat.{ℕ, zero, suc, _+_, _-_, _≤_, _<_, zero-le, suc-le-suc}
-use native.Mathlib.Nat.{le-refl, le-of-lt, le-antisymm, le-of-suc-le-suc, lt-irrefl, lt-of-lt-of-le, lt-of-not-le, not-suc-le-zero}
+use native.Mathlib.Nat.{le-refl, le-trans, le-of-lt, le-antisymm, le-of-suc-le-suc, lt-irrefl, lt-of-lt-of-le, lt-of-le-of-lt, lt-of-not-le, not-suc-le-zero}
 use native.Mathlib.Decide.{decLt}
 use native.Mathlib.Omega.{arith}
 use mathlib.Core.Bool.{Bool, true, false, not, cond, true≢false}
-use lib.Dec.{T}
+use mathlib.Core.List.{List}
+use lib.Dec.{T, leb}
+use lib.ListN.{getD}
+use borrow.Author.Tests.{leb-true, leb-false}
 use lib.Ieee.Bits.{is-true, is-false}
 use Rattle.columns.proofs.Tests.{cond-both}
-use Rattle.columns.specs.First.{firstBelow, FirstIn}
+use Rattle.columns.specs.First.{firstBelow, FirstIn, Rising}
 
 -- before or not
 pub split : (a b : ℕ) → (a < b) ⊎ (b ≤ a)
@@ -76,3 +79,15 @@ first-none test n passed = first-is (record { from = zero-le; to = le-refl n; pa
 -- a walk that answers the number of them has passed all
 pub first-all : (test : ℕ → Bool) (n : ℕ) → firstBelow test n ≡ n → (k : ℕ) → k < n → test k ≡ false
 first-all test n e k h = first-in test n .passed k zero-le (subst (λ (r : ℕ). k < r) (sym e) h)
+
+-- what a search in a column that does not fall parts: numbers below x, and the others
+pub record Parted (col : List ℕ) (x lo hi r : ℕ) : Type 0 where
+  pub before : (k : ℕ) → lo ≤ k → k < r → getD col k 0 < x
+  pub later : (k : ℕ) → r ≤ k → k < hi → x ≤ getD col k 0
+
+pub parted : {col : List ℕ} {x lo hi r : ℕ} → Rising col lo hi → FirstIn (λ (k : ℕ). leb x (getD col k 0)) lo hi r → Parted col x lo hi r
+parted {col} {x} {lo} {hi} {r} rising f =
+    record {
+      before = λ k p q. leb-false x (getD col k 0) (f .passed k p q);
+      later = λ k p q. le-trans (leb-true x (getD col r 0) (f .found (lt-of-le-of-lt p q))) (rising r k (f .from) p q);
+    }

@@ -1,6 +1,7 @@
 -- Tests as facts, and facts as tests
 use mathlib.Core.Path.{_≡_, refl}
-use mathlib.Core.Bool.{Bool, true, false, not, _&&_, cond}
+use mathlib.Core.Logic.{_⊎_, inl, inr, _↔_}
+use mathlib.Core.Bool.{Bool, true, false, not, _&&_, _||_, cond}
 use Prim.Native.Nat.{ℕ, _<_}
 use native.Mathlib.Nat.{lt-trans}
 use lib.Dec.{T, ltb, ltb→lt, lt→ltb, lit<}
@@ -16,6 +17,16 @@ test-same false false f g = refl
 -- two comparisons that imply each other are equal
 pub ltb-same : (a b x y : ℕ) → (a < b → x < y) → (x < y → a < b) → ltb a b ≡ ltb x y
 ltb-same a b x y f g = test-same (ltb a b) (ltb x y) (λ t. lt→ltb x y (f (ltb→lt a b t))) (λ t. lt→ltb a b (g (ltb→lt x y t)))
+
+-- one of two tests, and both
+pub or-T : (a b : Bool) → T (a || b) ↔ (T a ⊎ T b)
+or-T true b = (λ _. inl tt, λ _. tt)
+or-T false true = (λ _. inr tt, λ _. tt)
+or-T false false = (λ t. absurd t, λ t. elim t [ inl f ↦ f | inr f ↦ f ])
+
+pub and-T : (a b : Bool) → T (a && b) ↔ (T a × T b)
+and-T true b = (λ t. (tt, t), λ t. t .1)
+and-T false b = (λ t. absurd t, λ t. t .0)
 
 -- the four parts of a conjunction
 pub and-four : (a b c d : Bool) → T (a && b && c && d) → T a × T b × T c × T d

@@ -10,6 +10,7 @@ use lib.Dec.{T, ltb, ltb→lt, nltb→le}
 use lib.Ieee.{Float, lt}
 use Rattle.numbers.specs.Weight.{Weight, finite, unitsOf, zeroWeight, heavier, heaviest, Weights, Among}
 use Rattle.columns.proofs.Tests.{cond-both}
+use Rattle.columns.proofs.OneOf.{OneOf}
 use Rattle.numbers.proofs.Units.{units-order, units-inj, zero-finite, zero-units}
 
 -- ---- two weights
@@ -37,6 +38,10 @@ pub heaviest-weight : (ws : List Float) → Weights ws → Weight (heaviest ws)
 heaviest-weight [] p = finite zero-finite
 heaviest-weight (w ∷ ws) p = heavier-weight (heaviest-weight ws (p .1)) (p .0)
 
+-- a list has a weight if one of its items is that weight
+pub among-one : (w : Float) → OneOf (Among w) (λ (v : Float). w ≡ v)
+among-one w = record { none = λ a. a; next = λ v vs. (λ a. a, λ a. a) }
+
 -- the heaviest is zero or one of them
 pub heaviest-among : (ws : List Float) → (heaviest ws ≡ zeroWeight) ⊎ Among (heaviest ws) ws
 heaviest-among [] = inl refl
@@ -62,6 +67,11 @@ heaviest-above (v ∷ vs) p w a =
     left : (w h v r : ℕ) → w ≤ h → r ≡ max h v → w ≤ r
     left w h v r p q = omega arith
 
+-- and no heavier than what none of them exceeds
+pub heaviest-least : (ws : List Float) (n : ℕ) → ((w : Float) → Among w ws → unitsOf w ≤ n) → unitsOf (heaviest ws) ≤ n
+heaviest-least ws n f =
+    elim (heaviest-among ws) [ inl e ↦ le-trans (le-of-eq (ap unitsOf e ∙ zero-units)) zero-le | inr a ↦ f (heaviest ws) a ]
+
 among-weight : (ws : List Float) → Weights ws → (w : Float) → Among w ws → Weight w
 among-weight [] p w a = absurd a
 among-weight (v ∷ vs) p w a = elim a [ inl e ↦ subst Weight (sym e) (p .0) | inr b ↦ among-weight vs (p .1) w b ]
@@ -70,16 +80,13 @@ among-weight (v ∷ vs) p w a = elim a [ inl e ↦ subst Weight (sym e) (p .0) |
 pub heaviest-only : (ws : List Float) → Weights ws → (h : Float) → ((h ≡ zeroWeight) ⊎ Among h ws) → ((w : Float) → Among w ws → unitsOf w ≤ unitsOf h)
     → h ≡ heaviest ws
 heaviest-only ws p h a b =
-    units-inj weight (heaviest-weight ws p) (le-antisymm upper lower)
+    units-inj weight (heaviest-weight ws p) (le-antisymm upper (heaviest-least ws (unitsOf h) b))
   where
     weight : Weight h
     weight = elim a [ inl e ↦ subst Weight (sym e) (finite zero-finite) | inr m ↦ among-weight ws p h m ]
 
     upper : unitsOf h ≤ unitsOf (heaviest ws)
     upper = elim a [ inl e ↦ le-trans (le-of-eq (ap unitsOf e ∙ zero-units)) zero-le | inr m ↦ heaviest-above ws p h m ]
-
-    lower : unitsOf (heaviest ws) ≤ unitsOf h
-    lower = elim (heaviest-among ws) [ inl e ↦ le-trans (le-of-eq (ap unitsOf e ∙ zero-units)) zero-le | inr m ↦ b (heaviest ws) m ]
 
 -- ---- two lists
 pub weights-append : (xs ys : List Float) → Weights xs → Weights ys → Weights (xs ++ ys)

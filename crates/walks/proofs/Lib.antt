@@ -4,13 +4,11 @@ pub mod Steps
 pub mod Taken
 pub mod Ways
 pub mod Uses
-pub mod Top
+pub mod Sets
 pub mod Seen
 pub mod OneUnit
 pub mod AllUnits
 pub mod Begin
 pub mod Checked
-pub mod GapSegments
 pub mod GapWalk
-pub mod Sets
 pub mod Cases

@@ -1,356 +1,288 @@
--- What is known after some rows of a register were looked at, and that after all of them it is what the definitions say
-use mathlib.Core.Path.{_≡_, refl, sym, ap, ap₂, _∙_}
+-- What was met is the least that covers what each row of a set counts, in whatever order they are looked at
+use mathlib.Core.Path.{_≡_, refl, sym, ap, ap₂, _∙_, subst}
 use mathlib.Core.Logic.{_⊎_, inl, inr, ⊎-elim}
-use mathlib.Core.Bool.{Bool, true, false, _&&_, _||_, cond, true≢false}
-use mathlib.Core.List.{List, [], _∷_}
-use Prim.Native.Nat.{ℕ, zero, suc, _+_, _≤_, _<_, max, zero-le, suc-le-suc}
-use native.Mathlib.Nat.{le-refl, le-trans, le-of-eq, not-suc-le-zero, le-of-suc-le-suc, zero-lt-suc}
+use mathlib.Core.Bool.{Bool, true, false, _&&_, _||_, cond}
+use mathlib.Core.List.{List}
+use Prim.Native.Nat.{ℕ, _+_, _≤_, _<_, max, zero-le}
+use native.Mathlib.Nat.{le-refl, le-trans, le-antisymm, le-of-eq}
 use native.Mathlib.Omega.{arith}
-use lib.Dec.{leb, ltb, eqb}
+use lib.Dec.{T, leb, ltb, eqb, leb→le, le→leb, ltb→lt, lt→ltb, eqb→eq, eqb-refl}
 use lib.Ieee.{Float}
+use lib.Ieee.Bits.{is-true}
 use lib.ListN.{length, getD}
-use borrow.Author.Tests.{lt-ltb, le-ltb, le-leb, lt-leb, leb-true, leb-false}
-use Rattle.numbers.specs.Weight.{Weight, unitsOf, weightLimit, heavier, heaviest, Weights}
-use Rattle.numbers.proofs.Units.{units-inj, zero-units}
-use Rattle.numbers.proofs.Bits.{value-weight}
-use Rattle.numbers.proofs.Heaviest.{heavier-weight, heavier-units, heaviest-weight}
+use Rattle.columns.specs.Table.{anyOf}
+use Rattle.columns.proofs.Tests.{test-same, cond-both, cond-true, or-T, and-T}
 use Rattle.columns.proofs.Firsts.{split}
+use Rattle.columns.proofs.OneOf.{any-one, one-some, some-one, picked-some, some-picked}
+use Rattle.numbers.specs.Weight.{Weight, unitsOf, zeroWeight, heavier, heaviest, Weights}
+use Rattle.numbers.proofs.Units.{units-inj, zero-units}
+use Rattle.numbers.proofs.Heaviest.{heavier-weight, heavier-units, heaviest-weight, heaviest-above, heaviest-least}
 use Rattle.jobs.specs.Rows.{noReservation}
 use Rattle.jobs.specs.declared.rows.Reservation.{Reservation}
+use Rattle.links.specs.declared.lower.Side.{Side}
+use Rattle.overlaps.specs.GapSegments.{SegmentColumns}
 use Rattle.walks.specs.declared.meeting.GapSegment.{GapSegment}
 use Rattle.walks.specs.declared.meeting.Register.{Register}
 use Rattle.walks.specs.declared.meeting.Met.{Met}
-use Rattle.walks.specs.Meeting.{Reserved, meets, countsAsFixed, spillWeight, ofRegister, fixedAgainst, weighsAgainst, fixedMet, weightsWhere, weightsMet}
-use Rattle.walks.specs.Meeting.{alsoMet, looked, oneUnit}
-use Rattle.columns.specs.Table.{anyOf}
-use Rattle.walks.proofs.Steps.{max-left, max-right, max-least, max-none, none-max}
-use Rattle.walks.proofs.Uses.{either-way, and-true}
-use Rattle.walks.proofs.Top.{Top, top-only, top-none, top-more, top-all, top-join}
+use Rattle.walks.specs.Meeting.{Reserved, meets, countsAsFixed, spillWeight, ofRegister, fixedAgainst, weighsAgainst, fixedMet, weightsMet}
+use Rattle.walks.specs.Meeting.{fixedMetAny, weightsMetAll, alsoMet, looked, oneUnit}
+use Rattle.walks.specs.Ways.{Ahead, Behind, AnyAhead, rowAhead, placeBehind}
+use Rattle.walks.specs.Gaps.{segmentIn, ofGap, segmentsOfGap, gapMet}
+use Rattle.walks.proofs.Ways.{passed-or-ahead, row-inside, passed-only, passed-still, row-passed}
+use Rattle.walks.proofs.Sets.{where-one, spill-weight, fixed-one, weight-one, met-weights, all-weights}
 
--- ---- what a test and a weight count
-abbrev pub bit : Bool → ℕ
-bit b = cond b 1 0
+-- ---- an order
+-- m covers x: it is fixed if x is, and no lighter
+pub record Covers (m x : Met) : Type 0 where
+  pub fixed : T (x .fixed) → T (m .fixed)
+  pub heaviest : unitsOf (x .heaviest) ≤ unitsOf (m .heaviest)
 
-pub bit-or : (a b : Bool) → bit (a || b) ≡ max (bit a) (bit b)
-bit-or true true = refl
-bit-or true false = refl
-bit-or false true = refl
-bit-or false false = refl
+-- anything covers x
+abbrev pub Nothing : Met → Type 0
+Nothing x = (m : Met) → Covers m x
 
-pub bit-only : (a b : Bool) → bit a ≡ bit b → a ≡ b
-bit-only true true e = refl
-bit-only true false e = absurd (omega (arith, e))
-bit-only false true e = absurd (omega (arith, e))
-bit-only false false e = refl
+covers-trans : {a b c : Met} → Covers a b → Covers b c → Covers a c
+covers-trans p q = record { fixed = λ t. p .fixed (q .fixed t); heaviest = le-trans (q .heaviest) (p .heaviest) }
 
--- ---- all rows of a list
-module _ {A : Type 0} (test : A → Bool) (d : A) where
-  any-above : (rows : List A) (k : ℕ) → k < length rows → bit (test (getD rows k d)) ≤ bit (anyOf test rows)
-  unfolding anyOf
-  any-above [] k h = absurd (not-suc-le-zero h)
-  any-above (r ∷ rows) zero h = first (bit (test r)) (bit (anyOf test rows)) (bit (anyOf test (r ∷ rows))) (bit-or (test r) (anyOf test rows))
-    where
-      first : (a b c : ℕ) → c ≡ max a b → a ≤ c
-      first a b c e = omega arith
-  any-above (r ∷ rows) (suc k) h =
-      later (bit (test (getD rows k d))) (bit (test r)) (bit (anyOf test rows)) (bit (anyOf test (r ∷ rows))) (bit-or (test r) (anyOf test rows))
-      (any-above rows k (le-of-suc-le-suc h))
-    where
-      later : (x a b c : ℕ) → c ≡ max a b → x ≤ b → x ≤ c
-      later x a b c e l = omega arith
+-- c is a and b together
+pub record Joins (a b c : Met) : Type 0 where
+  pub weight : Weight (c .heaviest)
+  pub fixed : c .fixed ≡ (a .fixed || b .fixed)
+  pub heaviest : unitsOf (c .heaviest) ≡ max (unitsOf (a .heaviest)) (unitsOf (b .heaviest))
 
-  any-least : (rows : List A) (m : ℕ) → ((k : ℕ) → k < length rows → bit (test (getD rows k d)) ≤ m) → bit (anyOf test rows) ≤ m
-  unfolding anyOf
-  any-least [] m f = zero-le
-  any-least (r ∷ rows) m f =
-      max-least (bit (test r)) (bit (anyOf test rows)) (bit (anyOf test (r ∷ rows))) m (bit-or (test r) (anyOf test rows)) (f 0 (zero-lt-suc (length rows)))
-      (any-least rows m (λ k l. f (suc k) (suc-le-suc l)))
+-- x is the least that covers what the rows in P count
+pub record Least (count : ℕ → Met) (P : ℕ → Type 0) (x : Met) : Type 0 where
+  pub above : (k : ℕ) → P k → Covers x (count k)
+  pub least : (n : Met) → ((k : ℕ) → P k → Covers n (count k)) → Covers n x
 
-pub weight-of-weight : (weights : List ℕ) (r : Reservation) → Weight (spillWeight weights r)
-unfolding spillWeight
-weight-of-weight weights r = value-weight weightLimit (getD weights (r .index) 0) (le-refl weightLimit)
+-- m is the least that covers m₀ and what they count
+pub record Seen (count : ℕ → Met) (P : ℕ → Type 0) (m₀ m : Met) : Type 0 where
+  pub weight : Weight (m .heaviest)
+  pub kept : Covers m m₀
+  pub above : (k : ℕ) → P k → Covers m (count k)
+  pub least : (n : Met) → Covers n m₀ → ((k : ℕ) → P k → Covers n (count k)) → Covers n m
 
--- what a row counts in units of weight, if it passes a test
-abbrev heavy : (Reservation → Bool) → List ℕ → Reservation → ℕ
-heavy test weights r = cond (test r) (unitsOf (spillWeight weights r)) 0
+unfoldable made : Bool → Float → Met
+made b x = record { fixed = b; heaviest = x }
 
-module _ (test : Reservation → Bool) (weights : List ℕ) where
-  where-weights : (rows : List Reservation) → Weights (weightsWhere test weights rows)
-  unfolding weightsWhere
-  where-weights [] = tt
-  where-weights (r ∷ rows) = step (test r) (where-weights rows)
-    where
-      step : (b : Bool) → Weights (weightsWhere test weights rows) → Weights
-          (cond b (spillWeight weights r ∷ weightsWhere test weights rows) (weightsWhere test weights rows))
-      step true ws = (weight-of-weight weights r, ws)
-      step false ws = ws
+module _ {count : ℕ → Met} where
+  -- there is only one
+  pub seen-only : {P : ℕ → Type 0} {m₀ m n : Met} → Seen count P m₀ m → Seen count P m₀ n → m ≡ n
+  unfolding made
+  seen-only {m = m} {n} s t =
+      let a = t .least m (s .kept) (s .above) in
+      let b = s .least n (t .kept) (t .above) in
+      ap₂ made (test-same (m .fixed) (n .fixed) (b .fixed) (a .fixed)) (units-inj (s .weight) (t .weight) (le-antisymm (b .heaviest) (a .heaviest)))
 
-  where-next : (r : Reservation) (rows : List Reservation) → unitsOf (heaviest (weightsWhere test weights (r ∷ rows)))
-      ≡ max (unitsOf (heaviest (weightsWhere test weights rows))) (heavy test weights r)
-  unfolding weightsWhere
-  where-next r rows = step (test r)
-    where
-      step : (b : Bool) → unitsOf (heaviest (cond b (spillWeight weights r ∷ weightsWhere test weights rows) (weightsWhere test weights rows)))
-          ≡ max (unitsOf (heaviest (weightsWhere test weights rows))) (cond b (unitsOf (spillWeight weights r)) 0)
-      step true = heavier-units (heaviest-weight (weightsWhere test weights rows) (where-weights rows)) (weight-of-weight weights r)
-      step false = max-none (unitsOf (heaviest (weightsWhere test weights rows)))
+  -- rows that count nothing more
+  pub seen-none : {P : ℕ → Type 0} {m : Met} → Weight (m .heaviest) → ((k : ℕ) → P k → Covers m (count k)) → Seen count P m m
+  seen-none {m = m} w f =
+      record { weight = w; kept = record { fixed = λ t. t; heaviest = le-refl (unitsOf (m .heaviest)) }; above = f; least = λ n h _. h }
 
-  where-above : (rows : List Reservation) (k : ℕ) → k < length rows → heavy test weights (getD rows k noReservation)
-      ≤ unitsOf (heaviest (weightsWhere test weights rows))
-  where-above [] k h = absurd (not-suc-le-zero h)
-  where-above (r ∷ rows) zero h =
-      last (unitsOf (heaviest (weightsWhere test weights rows))) (heavy test weights r) (unitsOf (heaviest (weightsWhere test weights (r ∷ rows))))
-      (where-next r rows)
-    where
-      last : (a b c : ℕ) → c ≡ max a b → b ≤ c
-      last a b c e = omega arith
-  where-above (r ∷ rows) (suc k) h =
-      later (heavy test weights (getD rows k noReservation)) (unitsOf (heaviest (weightsWhere test weights rows))) (heavy test weights r)
-      (unitsOf (heaviest (weightsWhere test weights (r ∷ rows)))) (where-next r rows) (where-above rows k (le-of-suc-le-suc h))
-    where
-      later : (x a b c : ℕ) → c ≡ max a b → x ≤ a → x ≤ c
-      later x a b c e l = omega arith
+  -- rows that count x
+  pub seen-joins : {P : ℕ → Type 0} {m x m' : Met} → Joins m x m' → Least count P x → Seen count P m m'
+  seen-joins {m = m} {x} j l =
+      record {
+        weight = j .weight;
+        kept = record { fixed = λ t. rw (j .fixed) (or-T (m .fixed) (x .fixed) .1 (inl t)); heaviest = omega arith };
+        above = λ k p. covers-trans (record { fixed = λ t. rw (j .fixed) (or-T (m .fixed) (x .fixed) .1 (inr t)); heaviest = omega arith }) (l .above k p);
+        least = λ n h f. let c = l .least n f in record {
+          fixed = λ t. ⊎-elim (h .fixed) (c .fixed) (or-T (m .fixed) (x .fixed) .0 (rw (j .fixed) at t));
+          heaviest = omega arith;
+        };
+      }
 
-  where-least : (rows : List Reservation) (m : ℕ) → ((k : ℕ) → k < length rows → heavy test weights (getD rows k noReservation) ≤ m)
-      → unitsOf (heaviest (weightsWhere test weights rows)) ≤ m
-  unfolding weightsWhere
-  where-least [] m f = le-trans (le-of-eq zero-units) zero-le
-  where-least (r ∷ rows) m f =
-      max-least (unitsOf (heaviest (weightsWhere test weights rows))) (heavy test weights r) (unitsOf (heaviest (weightsWhere test weights (r ∷ rows)))) m
-      (where-next r rows) (where-least rows m (λ k l. f (suc k) (suc-le-suc l))) (f 0 (zero-lt-suc (length rows)))
+  -- some rows, and then others
+  pub seen-then : {P : ℕ → Type 0} (Q R : ℕ → Type 0) {m₀ m n : Met} → ((k : ℕ) → R k → P k ⊎ Q k) → ((k : ℕ) → P k → R k) → ((k : ℕ) → Q k → R k)
+      → Seen count P m₀ m → Seen count Q m n → Seen count R m₀ n
+  seen-then Q R only first second s t =
+      record {
+        weight = t .weight;
+        kept = covers-trans (t .kept) (s .kept);
+        above = λ k r. ⊎-elim (λ p. covers-trans (t .kept) (s .above k p)) (t .above k) (only k r);
+        least = λ n h f. t .least n (s .least n h (λ k p. f k (first k p))) (λ k q. f k (second k q));
+      }
 
--- ---- the rows of a register
+-- ---- a walk over those of n rows that are such, on the way to a side
+abbrev pub Rows : ℕ → (ℕ → Type 0) → ℕ → Type 0
+Rows n Of k = (k < n) × Of k
+
+-- and those of them that were passed
+abbrev pub Passed : Side → ℕ → (ℕ → Type 0) → ℕ → ℕ → Type 0
+Passed side n Of i k = Behind side i k × Rows n Of k
+
+module _ (side : Side) (n : ℕ) (count : ℕ → Met) (Of : ℕ → Type 0) where
+  abbrev Before : ℕ → ℕ → Type 0
+  Before = Passed side n Of
+
+  -- one row more
+  pub walk-more : (i : ℕ) {m₀ m m' : Met} → AnyAhead side i n → i ≤ n → Of (rowAhead side i) → Joins m (count (rowAhead side i)) m'
+      → Seen count (Before i) m₀ m → Seen count (Before (placeBehind side i)) m₀ m'
+  walk-more i any inside of j s =
+      seen-then (λ (k : ℕ). k ≡ rowAhead side i) (Before (placeBehind side i))
+      (λ k q. ⊎-elim (λ l. inl (l, q .1)) (λ l. inr l) (passed-only side (q .0)))
+      (λ k q. (passed-still side (q .0), q .1))
+      (λ k e. subst (Before (placeBehind side i)) (sym e) (row-passed side i, (row-inside side any inside, of))) s
+      (seen-joins j (record {
+        above = λ k e. subst (λ (x : ℕ). Covers (count (rowAhead side i)) (count x)) (sym e) (record { fixed = λ t. t; heaviest = le-refl _ });
+        least = λ x f. f (rowAhead side i) refl;
+      }))
+
+  -- all rows, if those ahead count nothing
+  pub walk-all : (i : ℕ) {m₀ m : Met} → ((k : ℕ) → Ahead side i k → Rows n Of k → Nothing (count k)) → Seen count (Before i) m₀ m → Seen count (Rows n Of) m₀ m
+  walk-all i {m = m} f s =
+      seen-then (λ (k : ℕ). Ahead side i k × Rows n Of k) (Rows n Of) (λ k r. ⊎-elim (λ l. inl (l, r)) (λ l. inr (l, r)) (passed-or-ahead side i k))
+      (λ k q. q .1) (λ k q. q .1) s (seen-none (s .weight) (λ k q. f k (q .0) (q .1) m))
+
+-- ---- the rows of a register against a gap segment
 abbrev pub rowOf : Reserved → ℕ → Reservation
 rowOf t k = getD (t .rows) k noReservation
 
-abbrev pub fixedCount : Register → Reserved → GapSegment → ℕ → ℕ
-fixedCount p t s k = bit (fixedAgainst p (t .fixedUses) s (rowOf t k))
+-- what one counts that meets it
+abbrev pub counted : Reserved → GapSegment → ℕ → Met
+counted t s k =
+    let r = rowOf t k in
+    record { fixed = meets s r && countsAsFixed (t .fixedUses) s r; heaviest = cond (meets s r && eqb (r .kind) 0) (spillWeight (t .weights) r) zeroWeight }
 
-abbrev pub weightCount : Register → Reserved → GapSegment → ℕ → ℕ
-weightCount p t s k = heavy (weighsAgainst p s) (t .weights) (rowOf t k)
+-- it is of one of the register's units
+abbrev pub OfRegister : Register → Reserved → ℕ → Type 0
+OfRegister p t k = (p .first .0 ≤ rowOf t k .unit) × (rowOf t k .unit < p .first .0 + p .units)
 
--- m is m₀ and with it what the rows in P count
-pub record Seen (p : Register) (t : Reserved) (s : GapSegment) (P : ℕ → Type 0) (m₀ m : Met) : Type 0 where
-  pub weight : Weight (m .heaviest)
-  pub fixed : Top (fixedCount p t s) P (bit (m₀ .fixed)) (bit (m .fixed))
-  pub heaviest : Top (weightCount p t s) P (unitsOf (m₀ .heaviest)) (unitsOf (m .heaviest))
+abbrev pub RowsOf : Register → Reserved → ℕ → Type 0
+RowsOf p t = Rows (length (t .rows)) (OfRegister p t)
 
--- all rows of the table
-abbrev pub All : Reserved → ℕ → Type 0
-All t k = k < length (t .rows)
+-- what a gap segment meets
+abbrev pub metBy : Register → Reserved → GapSegment → Met
+metBy p t s = record { fixed = fixedMet p t s; heaviest = heaviest (weightsMet p t s) }
 
--- a row of no unit of the register, or that does not meet the segment, counts nothing
-abbrev pub Apart : Register → GapSegment → Reservation → Type 0
-Apart p s r = (ofRegister p r ≡ false) ⊎ (meets s r ≡ false)
+pub also-joins : (m x : Met) → Weight (m .heaviest) → Weight (x .heaviest)
+    → Joins m x (record { fixed = m .fixed || x .fixed; heaviest = heavier (m .heaviest) (x .heaviest) })
+also-joins m x w v = record { weight = heavier-weight w v; fixed = refl; heaviest = heavier-units w v }
 
-apart-and : (a b c : Bool) → (a ≡ false) ⊎ (b ≡ false) → (a && (b && c)) ≡ false
-apart-and true true c e = ⊎-elim (λ x. x) (λ x. x) (⊎-elim (λ x. inl (absurd (true≢false x))) (λ x. inl (absurd (true≢false x))) e)
-apart-and true false c e = refl
-apart-and false b c e = refl
+none-lighter : (x : Float) → unitsOf zeroWeight ≤ unitsOf x
+none-lighter x = le-trans (le-of-eq zero-units) zero-le
 
-unfoldable pub made : Bool → Float → Met
-made b x = record { fixed = b; heaviest = x }
-
-module _ (p : Register) (t : Reserved) (s : GapSegment) where
-  apart-fixed : (k : ℕ) → Apart p s (rowOf t k) → fixedCount p t s k ≡ 0
-  unfolding fixedAgainst
-  apart-fixed k e = ap bit (apart-and (ofRegister p (rowOf t k)) (meets s (rowOf t k)) (countsAsFixed (t .fixedUses) s (rowOf t k)) e)
-
-  apart-weight : (k : ℕ) → Apart p s (rowOf t k) → weightCount p t s k ≡ 0
-  unfolding weighsAgainst
-  apart-weight k e =
-      ap (λ (b : Bool). cond b (unitsOf (spillWeight (t .weights) (rowOf t k))) 0)
-      (apart-and (ofRegister p (rowOf t k)) (meets s (rowOf t k)) (eqb (rowOf t k .kind) 0) e)
-
-  -- rows that lie apart
-  pub seen-none : (P : ℕ → Type 0) (m : Met) → Weight (m .heaviest) → ((k : ℕ) → P k → Apart p s (rowOf t k)) → Seen p t s P m m
-  seen-none P m w e =
+module _ (t : Reserved) (s : GapSegment) where
+  -- a row that does not meet the segment counts nothing
+  pub unmet : (k : ℕ) → (T (meets s (rowOf t k)) → ⊥) → Nothing (counted t s k)
+  unmet k h m =
+      let r = rowOf t k in
       record {
-        weight = w;
-        fixed = top-none (bit (m .fixed)) (λ k q. apart-fixed k (e k q));
-        heaviest =
-            top-none (unitsOf (m .heaviest)) (λ k q. apart-weight k (e k q));
+        fixed = λ c. absurd (h (and-T (meets s r) (countsAsFixed (t .fixedUses) s r) .0 c .0));
+        heaviest = cond-both (λ (x : Float). unitsOf x ≤ unitsOf (m .heaviest)) (meets s r && eqb (r .kind) 0) (spillWeight (t .weights) r) zeroWeight
+            (λ c. absurd (h (and-T (meets s r) (eqb (r .kind) 0) .0 c .0))) (λ _. none-lighter (m .heaviest));
       }
 
-  -- one row of the register more
-  looked-fixed : (k : ℕ) (m : Met) → ofRegister p (rowOf t k) ≡ true → bit (looked (t .fixedUses) (t .weights) s (rowOf t k) m .fixed)
-      ≡ max (bit (m .fixed)) (fixedCount p t s k)
-  unfolding looked fixedAgainst
-  looked-fixed k m e =
-      step (ofRegister p (rowOf t k)) (meets s (rowOf t k)) (countsAsFixed (t .fixedUses) s (rowOf t k))
-      (cond (eqb (rowOf t k .kind) 0) (heavier (m .heaviest) (spillWeight (t .weights) (rowOf t k))) (m .heaviest)) e
+  -- a row looked at
+  pub looked-joins : (k : ℕ) (m : Met) → Weight (m .heaviest) → Joins m (counted t s k) (looked (t .fixedUses) (t .weights) s (rowOf t k) m)
+  unfolding looked
+  looked-joins k m w =
+      let r = rowOf t k in
+      by (meets s r) (countsAsFixed (t .fixedUses) s r) (eqb (r .kind) 0) (spillWeight (t .weights) r) (spill-weight (t .weights) r)
     where
-      step : (a b c : Bool) (x : Float) → a ≡ true → bit (cond b (record { fixed = m .fixed || c; heaviest = x }) m .fixed)
-          ≡ max (bit (m .fixed)) (bit (a && (b && c)))
-      step true true c x e = bit-or (m .fixed) c
-      step true false c x e = max-none (bit (m .fixed))
-      step false b c x e = absurd (true≢false (sym e))
+      none : (b : Bool) → b ≡ (b || false)
+      none true = refl
+      none false = refl
 
-  looked-weight : (k : ℕ) (m : Met) → Weight (m .heaviest) → ofRegister p (rowOf t k) ≡ true
-      → Weight (looked (t .fixedUses) (t .weights) s (rowOf t k) m .heaviest)
-      × (unitsOf (looked (t .fixedUses) (t .weights) s (rowOf t k) m .heaviest) ≡ max (unitsOf (m .heaviest)) (weightCount p t s k))
-  unfolding looked weighsAgainst
-  looked-weight k m w e =
-      step (ofRegister p (rowOf t k)) (meets s (rowOf t k)) (eqb (rowOf t k .kind) 0) (m .fixed || countsAsFixed (t .fixedUses) s (rowOf t k)) e
-    where
-      step : (a b c : Bool) (f : Bool) → a ≡ true
-          → Weight (cond b (record { fixed = f; heaviest = cond c (heavier (m .heaviest) (spillWeight (t .weights) (rowOf t k))) (m .heaviest) }) m .heaviest)
-          × (unitsOf (cond b (record { fixed = f; heaviest = cond c (heavier (m .heaviest) (spillWeight (t .weights) (rowOf t k))) (m .heaviest) }) m .heaviest)
-          ≡ max (unitsOf (m .heaviest)) (cond (a && (b && c)) (unitsOf (spillWeight (t .weights) (rowOf t k))) 0))
-      step true true true f e = (heavier-weight w (weight-of-weight (t .weights) (rowOf t k)), heavier-units w (weight-of-weight (t .weights) (rowOf t k)))
-      step true true false f e = (w, max-none (unitsOf (m .heaviest)))
-      step true false c f e = (w, max-none (unitsOf (m .heaviest)))
-      step false b c f e = absurd (true≢false (sym e))
+      lighter : unitsOf (m .heaviest) ≡ max (unitsOf (m .heaviest)) (unitsOf zeroWeight)
+      lighter = let z = zero-units in omega (arith, z)
 
-  pub seen-look : (P Q : ℕ → Type 0) (i : ℕ) → ((k : ℕ) → Q k → P k ⊎ (k ≡ i)) → ((k : ℕ) → P k → Q k) → Q i → (m₀ m : Met) → ofRegister p (rowOf t i) ≡ true
-      → Seen p t s P m₀ m → Seen p t s Q m₀ (looked (t .fixedUses) (t .weights) s (rowOf t i) m)
-  seen-look P Q i only more here m₀ m e k =
-      let w = looked-weight i m (k .weight) e in
-      record {
-        weight = w .0;
-        fixed = top-more Q i (bit (looked (t .fixedUses) (t .weights) s (rowOf t i) m .fixed)) only more here (looked-fixed i m e) (k .fixed);
-        heaviest = top-more Q i (unitsOf (looked (t .fixedUses) (t .weights) s (rowOf t i) m .heaviest)) only more here (w .1) (k .heaviest);
-      }
+      by : (b c d : Bool) (x : Float) → Weight x → Joins m (record { fixed = b && c; heaviest = cond (b && d) x zeroWeight })
+          (cond b (record { fixed = m .fixed || c; heaviest = cond d (heavier (m .heaviest) x) (m .heaviest) }) m)
+      by true c true x v = record { weight = heavier-weight w v; fixed = refl; heaviest = heavier-units w v }
+      by true c false x v = record { weight = w; fixed = refl; heaviest = lighter }
+      by false c d x v = record { weight = w; fixed = none (m .fixed); heaviest = lighter }
 
-  -- all rows, where those left lie apart
-  pub seen-all : (P : ℕ → Type 0) → ((k : ℕ) → P k → All t k) → ((k : ℕ) → All t k → P k ⊎ Apart p s (rowOf t k)) → (m₀ m : Met) → Seen p t s P m₀ m
-      → Seen p t s (All t) m₀ m
-  seen-all P more only m₀ m k =
-      record {
-        weight = k .weight;
-        fixed = top-all (All t) more (λ i l. ⊎-elim (λ x. inl x) (λ x. inr (apart-fixed i x)) (only i l)) (k .fixed);
-        heaviest = top-all (All t) more (λ i l. ⊎-elim (λ x. inl x) (λ x. inr (apart-weight i x)) (only i l)) (k .heaviest);
-      }
+  module _ (p : Register) where
+    of-register : (k : ℕ) → T (ofRegister p (rowOf t k)) → OfRegister p t k
+    unfolding ofRegister
+    of-register k o = let q = and-T (leb (p .first .0) (rowOf t k .unit)) (ltb (rowOf t k .unit) (p .first .0 + p .units)) .0 o in
+        (leb→le _ _ (q .0), ltb→lt _ _ (q .1))
 
-  -- what is met are weights
-  pub met-weights : Weights (weightsMet p t s)
-  unfolding weightsMet
-  met-weights = where-weights (weighsAgainst p s) (t .weights) (t .rows)
+    register-of : (k : ℕ) → OfRegister p t k → T (ofRegister p (rowOf t k))
+    unfolding ofRegister
+    register-of k o = and-T (leb (p .first .0) (rowOf t k .unit)) (ltb (rowOf t k .unit) (p .first .0 + p .units)) .1 (le→leb _ _ (o .0), lt→ltb _ _ (o .1))
 
-  -- the definitions are what all rows count
-  pub met-seen : (m : Met) → Weight (m .heaviest) → Seen p t s (All t) m (alsoMet p t s m)
-  unfolding fixedMet weightsMet
-  met-seen m w =
-      let test = fixedAgainst p (t .fixedUses) s in
-      let ws = weightsWhere (weighsAgainst p s) (t .weights) (t .rows) in
-      let h = heaviest-weight ws (where-weights (weighsAgainst p s) (t .weights) (t .rows)) in
-      let b = bit-or (m .fixed) (anyOf test (t .rows)) in
-      let u = heavier-units w h in
-      record {
-        weight = heavier-weight w h;
-        fixed = record {
-          kept = max-left (bit (m .fixed)) (bit (anyOf test (t .rows))) (bit (m .fixed || anyOf test (t .rows))) (bit (m .fixed)) b (le-refl (bit (m .fixed)));
-          above =
-              λ k l. max-right (bit (m .fixed)) (bit (anyOf test (t .rows))) (bit (m .fixed || anyOf test (t .rows))) (fixedCount p t s k) b
-              (any-above test noReservation (t .rows) k l);
-          least =
-              λ n l f. max-least (bit (m .fixed)) (bit (anyOf test (t .rows))) (bit (m .fixed || anyOf test (t .rows))) n b l
-              (any-least test noReservation (t .rows) n f);
-        };
-        heaviest = record {
-          kept =
-              max-left (unitsOf (m .heaviest)) (unitsOf (heaviest ws)) (unitsOf (heavier (m .heaviest) (heaviest ws))) (unitsOf (m .heaviest)) u
-              (le-refl (unitsOf (m .heaviest)));
-          above =
-              λ k l. max-right (unitsOf (m .heaviest)) (unitsOf (heaviest ws)) (unitsOf (heavier (m .heaviest) (heaviest ws))) (weightCount p t s k) u
-              (where-above (weighsAgainst p s) (t .weights) (t .rows) k l);
-          least =
-              λ n l f. max-least (unitsOf (m .heaviest)) (unitsOf (heaviest ws)) (unitsOf (heavier (m .heaviest) (heaviest ws))) n u l
-              (where-least (weighsAgainst p s) (t .weights) (t .rows) n f);
-        };
-      }
+    -- what the segment meets is the least that covers what the register's rows count
+    met-least : Least (counted t s) (RowsOf p t) (metBy p t s)
+    unfolding fixedMet weightsMet fixedAgainst weighsAgainst
+    met-least =
+        record {
+          above = λ k o. let r = rowOf t k in let of = register-of k (o .1) in record {
+            fixed = λ c. some-one (any-one (fixedAgainst p (t .fixedUses) s)) noReservation (t .rows) k (o .0)
+                (and-T (ofRegister p r) (meets s r && countsAsFixed (t .fixedUses) s r) .1 (of, c));
+            heaviest = cond-both (λ (x : Float). unitsOf x ≤ unitsOf (heaviest (weightsMet p t s))) (meets s r && eqb (r .kind) 0)
+                (spillWeight (t .weights) r) zeroWeight
+                (λ c. heaviest-above (weightsMet p t s) (met-weights p t s) (spillWeight (t .weights) r)
+                (some-one (where-one (weighsAgainst p s) (t .weights) (spillWeight (t .weights) r)) noReservation (t .rows) k (o .0)
+                (and-T (ofRegister p r) (meets s r && eqb (r .kind) 0) .1 (of, c), refl)))
+                (λ _. none-lighter (heaviest (weightsMet p t s)));
+          };
+          least = λ n f. record {
+            fixed = λ c.
+                let i = one-some (any-one (fixedAgainst p (t .fixedUses) s)) noReservation (t .rows) c in
+                let r = rowOf t (i .at) in
+                let q = and-T (ofRegister p r) (meets s r && countsAsFixed (t .fixedUses) s r) .0 (i .is) in
+                f (i .at) (i .inside, of-register (i .at) (q .0)) .fixed (q .1);
+            heaviest = heaviest-least (weightsMet p t s) (unitsOf (n .heaviest)) (λ w a.
+                let i = one-some (where-one (weighsAgainst p s) (t .weights) w) noReservation (t .rows) a in
+                let r = rowOf t (i .at) in
+                let q = and-T (ofRegister p r) (meets s r && eqb (r .kind) 0) .0 (i .is .0) in
+                le-trans (le-of-eq (ap unitsOf (i .is .1 ∙ sym (cond-true {t = meets s r && eqb (r .kind) 0} (spillWeight (t .weights) r) zeroWeight (is-true _ (q .1))))))
+                (f (i .at) (i .inside, of-register (i .at) (q .0)) .heaviest));
+          };
+        }
 
-  pub seen-is : (m₀ m : Met) → Weight (m₀ .heaviest) → Seen p t s (All t) m₀ m → m ≡ alsoMet p t s m₀
-  unfolding made
-  seen-is m₀ m w k =
-      let a = met-seen m₀ w in
-      ap₂ made (bit-only (m .fixed) (alsoMet p t s m₀ .fixed) (top-only (k .fixed) (a .fixed)))
-      (units-inj (k .weight) (a .weight) (top-only (k .heaviest) (a .heaviest)))
+    pub met-seen : (m : Met) → Weight (m .heaviest) → Seen (counted t s) (RowsOf p t) m (alsoMet p t s m)
+    met-seen m w = seen-joins (also-joins m (metBy p t s) w (heaviest-weight (weightsMet p t s) (met-weights p t s))) met-least
 
--- ---- unit by unit
--- a register of no units, and of one more
-pub none-of : (p : Register) (r : Reservation) → ofRegister (record { first = p .first; units = 0 }) r ≡ false
-unfolding ofRegister
-none-of p r = go (leb (p .first .0) (r .unit)) refl
-  where
-    go : (b : Bool) → leb (p .first .0) (r .unit) ≡ b → (b && ltb (r .unit) (p .first .0 + 0)) ≡ false
-    go true e = let l = leb-true (p .first .0) (r .unit) e in le-ltb (r .unit) (p .first .0 + 0) (omega (arith, l))
-    go false e = refl
-
-pub unit-of : (u : ℕ) (r : Reservation) → r .unit ≡ u → ofRegister (oneUnit u) r ≡ true
-unfolding ofRegister
-unit-of u r e = and-true (leb u (r .unit)) (ltb (r .unit) (u + 1)) (le-leb u (r .unit) (omega (arith, e))) (lt-ltb (r .unit) (u + 1) (omega (arith, e)))
-
-pub other-of : (u : ℕ) (r : Reservation) → (r .unit ≡ u → ⊥) → ofRegister (oneUnit u) r ≡ false
-unfolding ofRegister
-other-of u r ne = go (leb u (r .unit)) refl
-  where
-    go : (b : Bool) → leb u (r .unit) ≡ b → (b && ltb (r .unit) (u + 1)) ≡ false
-    go true e = le-ltb (r .unit) (u + 1) (above (r .unit) u (leb-true u (r .unit) e) ne)
-      where
-        above : (a b : ℕ) → b ≤ a → (a ≡ b → ⊥) → b + 1 ≤ a
-        above a b l n = omega (arith, l, n)
-    go false e = refl
-
--- a register's first v units
+-- ---- unit by unit: a register's first v units
 abbrev pub firstUnits : Register → ℕ → Register
 firstUnits p v = record { first = p .first; units = v }
 
-more-of : (p : Register) (v : ℕ) (r : Reservation) → ofRegister (firstUnits p (v + 1)) r
-    ≡ (ofRegister (firstUnits p v) r || ofRegister (oneUnit (p .first .0 + v)) r)
-unfolding ofRegister
-more-of p v r =
-    go (p .first .0) (r .unit) (either-way (leb (p .first .0) (r .unit))) (split (r .unit) (p .first .0 + v)) (split (r .unit) (p .first .0 + v + 1))
-  where
-    go : (a u : ℕ) → (leb a u ≡ true) ⊎ (leb a u ≡ false) → (u < a + v) ⊎ (a + v ≤ u) → (u < a + v + 1) ⊎ (a + v + 1 ≤ u)
-        → (leb a u && ltb u (a + (v + 1))) ≡ ((leb a u && ltb u (a + v)) || (leb (a + v) u && ltb u (a + v + 1)))
-    go a u (inl e) (inl h) l = rw (e, lt-ltb u (a + (v + 1)) (omega (arith, h)), lt-ltb u (a + v) h) refl
-    go a u (inl e) (inr h) (inl l) = rw (e, lt-ltb u (a + (v + 1)) (omega (arith, l)), le-ltb u (a + v) h, le-leb (a + v) u h, lt-ltb u (a + v + 1) l) refl
-    go a u (inl e) (inr h) (inr l) = rw (e, le-ltb u (a + (v + 1)) (omega (arith, l)), le-ltb u (a + v) h, le-leb (a + v) u h, le-ltb u (a + v + 1) l) refl
-    go a u (inr e) h l = rw (e, lt-leb (a + v) u (omega (arith, leb-false a u e))) refl
-
-or-and : (a b x : Bool) → bit ((a || b) && x) ≡ max (bit (a && x)) (bit (b && x))
-or-and true true true = refl
-or-and true true false = refl
-or-and true false true = refl
-or-and true false false = refl
-or-and false b x = none-max (bit (b && x))
-
-or-weighs : (a b x : Bool) (w : ℕ) → cond ((a || b) && x) w 0 ≡ max (cond (a && x) w 0) (cond (b && x) w 0)
-or-weighs true b true w = first b
-  where
-    both : (w : ℕ) → w ≡ max w w
-    both w = omega arith
-
-    first : (b : Bool) → w ≡ max w (cond (b && true) w 0)
-    first true = both w
-    first false = max-none w
-or-weighs true true false w = refl
-or-weighs true false false w = refl
-or-weighs false b x w = none-max (cond (b && x) w 0)
-
 module _ (p : Register) (t : Reserved) (s : GapSegment) where
-  -- before the first unit nothing is known
-  pub units-none : (m : Met) → Weight (m .heaviest) → Seen (firstUnits p 0) t s (All t) m m
-  units-none m w = seen-none (firstUnits p 0) t s (All t) m w (λ k _. inl (none-of p (rowOf t k)))
+  pub units-none : (m : Met) → Weight (m .heaviest) → Seen (counted t s) (RowsOf (firstUnits p 0) t) m m
+  units-none m w = seen-none w (λ k o. absurd (omega arith))
 
-  -- one unit more
-  pub units-more : (v : ℕ) (m₀ m : Met) → Seen (firstUnits p v) t s (All t) m₀ m
-      → Seen (firstUnits p (v + 1)) t s (All t) m₀ (alsoMet (oneUnit (p .first .0 + v)) t s m)
-  unfolding fixedAgainst weighsAgainst
+  pub units-more : (v : ℕ) (m₀ m : Met) → Seen (counted t s) (RowsOf (firstUnits p v) t) m₀ m
+      → Seen (counted t s) (RowsOf (firstUnits p (v + 1)) t) m₀ (alsoMet (oneUnit (p .first .0 + v)) t s m)
   units-more v m₀ m k =
-      let u = met-seen (oneUnit (p .first .0 + v)) t s m (k .weight) in
+      seen-then (RowsOf (oneUnit (p .first .0 + v)) t) (RowsOf (firstUnits p (v + 1)) t)
+      (λ j o. ⊎-elim (λ l. inl (o .0, (o .1 .0, l))) (λ l. inr (o .0, (l, omega arith))) (split (rowOf t j .unit) (p .first .0 + v)))
+      (λ j o. (o .0, (o .1 .0, omega arith))) (λ j o. (o .0, (omega arith, omega arith))) k
+      (met-seen t s (oneUnit (p .first .0 + v)) m (k .weight))
+
+-- ---- the gap segments of a gap
+abbrev pub metAt : Register → Reserved → SegmentColumns → ℕ → Met
+metAt p t g k = metBy p t (segmentIn g k)
+
+abbrev pub OfGap : SegmentColumns → ℕ → ℕ → Type 0
+OfGap g gap k = getD (g .gap) k 0 ≡ gap
+
+module _ (p : Register) (t : Reserved) (g : SegmentColumns) (gap : ℕ) where
+  of-gap : (k : ℕ) → OfGap g gap k → T (ofGap g gap k)
+  of-gap k e = subst (λ (x : ℕ). T (eqb (getD (g .gap) k 0) x)) e (eqb-refl (getD (g .gap) k 0))
+
+  gap-of : (k : ℕ) → T (ofGap g gap k) → OfGap g gap k
+  gap-of k t = eqb→eq (getD (g .gap) k 0) gap t
+
+  gap-least : Least (metAt p t g) (Rows (g .used) (OfGap g gap))
+      (record { fixed = fixedMetAny p t (segmentsOfGap g gap); heaviest = heaviest (weightsMetAll p t (segmentsOfGap g gap)) })
+  gap-least =
       record {
-        weight = u .weight;
-        fixed = top-join (fixedCount (firstUnits p (v + 1)) t s)
-            (λ i _. ap (λ (b : Bool). bit (b && (meets s (rowOf t i) && countsAsFixed (t .fixedUses) s (rowOf t i)))) (more-of p v (rowOf t i))
-            ∙ or-and (ofRegister (firstUnits p v) (rowOf t i)) (ofRegister (oneUnit (p .first .0 + v)) (rowOf t i))
-            (meets s (rowOf t i) && countsAsFixed (t .fixedUses) s (rowOf t i)))
-            (k .fixed) (u .fixed);
-        heaviest = top-join (weightCount (firstUnits p (v + 1)) t s)
-            (λ i _. ap (λ (b : Bool). cond (b && (meets s (rowOf t i) && eqb (rowOf t i .kind) 0)) (unitsOf (spillWeight (t .weights) (rowOf t i))) 0)
-            (more-of p v (rowOf t i))
-            ∙ or-weighs (ofRegister (firstUnits p v) (rowOf t i)) (ofRegister (oneUnit (p .first .0 + v)) (rowOf t i))
-            (meets s (rowOf t i) && eqb (rowOf t i .kind) 0) (unitsOf (spillWeight (t .weights) (rowOf t i))))
-            (k .heaviest) (u .heaviest);
+        above = λ k o. record {
+          fixed = λ c. some-picked (fixed-one p t) (ofGap g gap) (segmentIn g) (g .used) k (o .0) (of-gap k (o .1)) c;
+          heaviest = heaviest-least (weightsMet p t (segmentIn g k)) _ (λ w a. heaviest-above (weightsMetAll p t (segmentsOfGap g gap))
+              (all-weights p t (segmentsOfGap g gap)) w (some-picked (weight-one p t w) (ofGap g gap) (segmentIn g) (g .used) k (o .0) (of-gap k (o .1)) a));
+        };
+        least = λ n f. record {
+          fixed = λ c. let i = picked-some (fixed-one p t) (ofGap g gap) (segmentIn g) (g .used) c in f (i .at) (i .inside, gap-of (i .at) (i .is .0)) .fixed (i .is .1);
+          heaviest = heaviest-least (weightsMetAll p t (segmentsOfGap g gap)) (unitsOf (n .heaviest)) (λ w a.
+              let i = picked-some (weight-one p t w) (ofGap g gap) (segmentIn g) (g .used) a in
+              le-trans (heaviest-above (weightsMet p t (segmentIn g (i .at))) (met-weights p t (segmentIn g (i .at))) w (i .is .1))
+              (f (i .at) (i .inside, gap-of (i .at) (i .is .0)) .heaviest));
+        };
       }
+
+  pub gap-seen : (m : Met) → Weight (m .heaviest) → Seen (metAt p t g) (Rows (g .used) (OfGap g gap)) m (gapMet p t g gap m)
+  gap-seen m w = seen-joins (also-joins m _ w (heaviest-weight (weightsMetAll p t (segmentsOfGap g gap)) (all-weights p t (segmentsOfGap g gap)))) gap-least

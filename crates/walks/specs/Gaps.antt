@@ -1,7 +1,7 @@
 -- The gap segments of a gap, and where a walker stands among them
 use mathlib.Core.Path.{_≡_}
 use Prim.Native.Nat.{ℕ, _+_, _≤_, _<_}
-use mathlib.Core.Bool.{Bool, false, _&&_, _||_}
+use mathlib.Core.Bool.{Bool, false, _||_}
 use mathlib.Core.List.{List, []}
 use lib.Dec.{eqb}
 use lib.Ieee.{Float}
@@ -22,7 +22,7 @@ use Rattle.walks.specs.declared.both.TookGap.{TookGap}
 use Rattle.links.specs.declared.lower.Side.{Side}
 use Rattle.links.specs.Links.{onSide}
 use Rattle.walks.specs.Meeting.{Reserved, fixedMetAny, weightsMetAll}
-use Rattle.walks.specs.Ways.{otherSide, firstEnd, lastEnd, AnyAhead, anyAhead, rowAhead}
+use Rattle.walks.specs.Ways.{otherSide, firstEnd, lastEnd, AnyAhead, rowAhead}
 use Rattle.walks.specs.Standing.{Ready, Known, StandsInUnits, PlacesInside}
 
 -- the gap segment that row i of three columns holds
@@ -127,8 +127,3 @@ pub record FitsBoth (p : Register) (t : Reserved) (g : SegmentColumns) (ws : Wal
 pub record TakesBoth (side : Side) (p : Register) (t : Reserved) (g : SegmentColumns) (gap : ℕ) (w : Float) (ws : Walkers) (r : TookGap) : Type 0 where
   pub takes : Takes side p t g gap w (walkOn side ws) (record { met = r .met; walk = walkOn side (r .walkers) })
   pub stays : walkOn (otherSide side) (r .walkers) ≡ walkOn (otherSide side) ws
-
--- ---- for contracts of private functions
--- the row ahead is of the gap
-abbrev pub isOfGap : Side → List ℕ → ℕ → ℕ → ℕ → Bool
-isOfGap side gaps used gap i = anyAhead side i used && eqb (getD gaps (rowAhead side i) 0) gap

@@ -1,7 +1,9 @@
 -- The way to a side, which a walk goes: what comes before what, the row ahead of a place, what a place has passed
 use Prim.Native.Nat.{ℕ, _+_, _-_, _≤_, _<_}
-use mathlib.Core.Bool.{Bool}
-use lib.Dec.{ltb}
+use mathlib.Core.Bool.{Bool, _&&_}
+use mathlib.Core.List.{List}
+use lib.Dec.{ltb, eqb}
+use lib.ListN.{getD}
 use Rattle.links.specs.declared.lower.Side.{Side}
 use Rattle.links.specs.declared.lower.Side.the-variants.{Previous, Next}
 use Rattle.links.specs.Links.{onSide}
@@ -47,3 +49,7 @@ rowAhead side i = onSide side (i - 1) i
 
 abbrev pub placeBehind : Side → ℕ → ℕ
 placeBehind side i = onSide side (i - 1) (i + 1)
+
+-- one lies ahead, and the first has x in a column
+abbrev pub aheadIs : Side → List ℕ → ℕ → ℕ → ℕ → Bool
+aheadIs side column n i x = anyAhead side i n && eqb (getD column (rowAhead side i) 0) x

@@ -3,7 +3,8 @@ use links::lower::Side;
 ghost use mathlib.Core.Path.{_≡_};
 ghost use Prim.Native.Nat.{_≤_, _<_};
 ghost use Rattle.links.specs.Links.{onSide};
-ghost use Rattle.walks.specs.Ways.{anyAhead, rowAhead, placeBehind};
+ghost use lib.ListN.{length};
+ghost use Rattle.walks.specs.Ways.{anyAhead, rowAhead, aheadIs, placeBehind};
 
 // One of n rows lies ahead on the way to a side.
 pub(crate) fn any_ahead(side: Side, i: usize, n: usize) -> bool
@@ -24,6 +25,18 @@ pub(crate) fn row_ahead(side: Side, i: usize) -> usize
         Side::Previous => i - 1,
         Side::Next => i,
     }
+}
+
+// One lies ahead, and it has the number x in a column.
+pub(crate) fn ahead_is(side: Side, column: &[u32], n: usize, i: usize, x: u32) -> bool
+    requires { ⌜ (n ≤ length (now column)) × (i ≤ n) ⌝ }
+    ensures { λ r. ⌜ r ≡ aheadIs side (now (column .entry)) n i x ⌝ }
+{
+    if !any_ahead(side, i, n) {
+        return false;
+    }
+    let row = row_ahead(side, i);
+    column[row] == x
 }
 
 // The place behind it.

@@ -1,13 +1,12 @@
 // One walk for both sides: over gap segments and, in each unit of a register, over its reservations. To the right both come in rising
 // order, to the left in falling order.
-use crate::gap_rows::is_of_gap;
 use crate::gap_rows::segment_at;
 use crate::meeting::GapSegment;
 use crate::meeting::Met;
 use crate::meeting::Register;
 use crate::meeting::look;
 use crate::meeting::reaches_past;
-use crate::places::any_ahead;
+use crate::places::ahead_is;
 use crate::places::place_behind;
 use crate::places::row_ahead;
 use jobs::checked::held_at;
@@ -41,7 +40,7 @@ struct Walked {
     pub met: Met,
 }
 
-// One unit: the rows from `at` on, up to one that reaches past the segment. That one may meet the next segment too.
+// One unit: its rows from `at` on, up to one that reaches past the segment. That one may meet the next segment too.
 fn walk_unit(
     side: Side,
     unit: &[u32],
@@ -72,15 +71,9 @@ fn walk_unit(
     let mut i = at;
     let mut counts = met.fixed;
     let mut heaviest = met.heaviest;
-    loop {
-        if !any_ahead(side, i, n) {
-            break;
-        }
+    while ahead_is(side, unit, n, i, u.0) {
         let row = row_ahead(side, i);
         let r = held_at(unit, start, end, kind, index, fixed, row);
-        if r.unit.0 != u.0 {
-            break;
-        }
         let seen = Met {
             fixed: counts,
             heaviest,
@@ -187,7 +180,7 @@ impl Walk {
         let mut counts = false;
         let mut heaviest = heaviest;
         let mut i = self.next;
-        while is_of_gap(side, out_gap, out_from.len(), gap, i) {
+        while ahead_is(side, out_gap, out_from.len(), i, gap) {
             let row = row_ahead(side, i);
             let s = segment_at(out_from, out_to, out_value, row);
             let seen = Met {

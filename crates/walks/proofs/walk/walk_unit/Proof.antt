@@ -1,11 +1,11 @@
 -- `walk_unit` looks at the unit's rows ahead, one after the other: what is known is what the rows passed count
 use mathlib.Core.Path.{_≡_, sym, ap, _∙_, subst}
-use mathlib.Core.Bool.{Bool}
+use mathlib.Core.Bool.{Bool, true, false}
 use mathlib.Core.List.{[], _∷_}
 use Prim.Native.Nat.{ℕ, _-_, _≤_, _<_}
 use native.Mathlib.Omega.{arith}
 use borrow.Author.Needs.{needs}
-use borrow.Author.Tests.{not-true, not-false}
+use lib.Dec.{T}
 use lib.Ieee.{Float}
 use lib.ListN.{length}
 use Rattle.columns.specs.Table.{shortest}
@@ -16,14 +16,13 @@ use Rattle.jobs.specs.Rows.{reservationRow, noReservation}
 use Rattle.jobs.specs.Checked.{plainRow}
 use Rattle.jobs.proofs.Walk.{own-row}
 use Rattle.walks.specs.declared.meeting.Met.{Met}
-use Rattle.walks.specs.Meeting.{Reserved, reservedOf, looked, alsoMet, oneUnit}
-use Rattle.walks.specs.Ways.{AnyAhead, rowAhead, placeBehind}
-use Rattle.walks.specs.Standing.{StandsIn, Sound, segmentBegin, segmentEnd, reachesPast}
-use Rattle.walks.proofs.Ways.{near-far, row-inside, behind-inside, some-row, fewer-ahead, ahead-true, ahead-false}
-use Rattle.walks.proofs.Seen.{Seen, All, rowOf, seen-is}
-use Rattle.walks.proofs.Begin.{holds-unit}
-use Rattle.walks.proofs.OneUnit.{PassedRows, stands-later, unit-begin, unit-look, unit-other, unit-past, unit-next, unit-end, reaches-true}
-use Rattle.walks.proofs.OneUnit.{reaches-false}
+use Rattle.walks.specs.Meeting.{Reserved, reservedOf, looked}
+use Rattle.walks.specs.Ways.{AnyAhead, rowAhead, aheadIs}
+use Rattle.walks.specs.Standing.{OrderedUses, StandsIn, Sound, segmentBegin, reachesPast}
+use Rattle.walks.proofs.Ways.{row-inside, behind-inside, some-row, fewer-ahead, ahead-is-T}
+use Rattle.walks.proofs.Seen.{rowOf}
+use Rattle.walks.proofs.Begin.{Holds, holds-unit}
+use Rattle.walks.proofs.OneUnit.{Walking, Answers, walking-first, walking-out, walking-past, walking-next}
 use Rattle.walks.proofs.walk.walk_unit.Statement.{statement}
 use Rattle.walks.proofs.walk.walk_unit.Tie as tie
 
@@ -33,15 +32,17 @@ met fixed heaviest = record { fixed = fixed; heaviest = heaviest }
 
 abbrev Inv-loop : tie.InvT-loop
 Inv-loop side unit start end kind index fixed f-unit f-point f-value weight u at s n i₀ counts₀ heaviest₀ i counts heaviest =
-    let t =
-    reservedOf unit start end kind index fixed f-unit f-point f-value weight in
+    let t = reservedOf unit start end kind index fixed f-unit f-point f-value weight in
     (i ≤ length (t .rows))
     × (Sound t s (met counts₀ heaviest₀) → StandsIn side (t .rows) (u .0) (segmentBegin side s) at
-    → StandsIn side (t .rows) (u .0) (segmentEnd side s) i × Seen (oneUnit (u .0)) t s (PassedRows side t i) (met counts₀ heaviest₀) (met counts heaviest))
+    → Walking side t s (u .0) (met counts₀ heaviest₀) i (met counts heaviest))
 
 -- rows ahead
 abbrev μ-loop : tie.MeasureT-loop
 μ-loop side unit start end kind index fixed f-unit f-point f-value weight u at s n i₀ counts₀ heaviest₀ i counts heaviest = onSide side i (n - i)
+
+abbrev begin : tie.At-loop Inv-loop μ-loop → tie.Start Inv-loop μ-loop
+begin c = c .before .before .before .before .before .before .before .before .before .before .before .before
 
 abbrev table : tie.Start Inv-loop μ-loop → Reserved
 table b =
@@ -49,214 +50,134 @@ table b =
     reservedOf (a .unit .now) (a .start .now) (a .end .now) (a .kind .now) (a .index .now) (a .fixed .now) (a .f-unit .now)
     (a .f-point .now) (a .f-value .now) (a .weight .now)
 
-abbrev begin : tie.At-loop Inv-loop μ-loop → tie.Start Inv-loop μ-loop
-begin c = c .before .before .before .before .before .before .before .before .before .before .before .before
+-- the row ahead, and what was met so far
+abbrev row : tie.At-loop Inv-loop μ-loop → ℕ
+row l = rowAhead (begin l .args .side) (l .loop .i)
 
--- the rows were counted
-counted : (c : tie.At-loop Inv-loop μ-loop) → c .before .reservation-count .result ≡ length (table (begin c) .rows)
-counted c = c .before .reservation-count .ensures
+abbrev now : tie.At-loop Inv-loop μ-loop → Met
+now l = met (l .loop .counts) (l .loop .heaviest)
 
-reservation-count-requires : tie.Need-reservation-count-requires Inv-loop μ-loop
-reservation-count-requires c κs = search needs
+units : (b : tie.Start Inv-loop μ-loop) → Holds (b .args .unit .now) (table b .rows) noReservation (λ (r : Reservation). r .unit)
+units b = let a = b .args in holds-unit (a .unit .now) (a .start .now) (a .end .now) (a .kind .now) (a .index .now) (a .fixed .now)
 
-loop-holds : tie.Need-loop-holds Inv-loop μ-loop
-loop-holds c =
-    let b = c .before .before .before .before .before .before .before .before .before .before .before in
-    let a = b .args in (
-      b .pre,
-      λ sound st. (
-        stands-later (a .side) (near-far (a .side) (sound .nonempty)) st,
-        unit-begin (a .side) (table b) (sound .ready .rows) (a .s) (a .u .0) (a .at) (a .met) (sound .weight) st,
-      ),
-    )
+-- the test asks all rows
+tested : (c : tie.After-ahead-is Inv-loop μ-loop) (t : Bool) → c .ahead-is .result ≡ t →
+    let l = c .before in
+    let a = begin l .args in
+    aheadIs (a .side) (a .unit .now) (length (table (begin l) .rows)) (l .loop .i) (a .u .0) ≡ t
+tested c t e =
+    let l = c .before in
+    let a = begin l .args in
+    ap (λ (n : ℕ). aheadIs (a .side) (a .unit .now) n (l .loop .i) (a .u .0)) (sym (l .before .reservation-count .ensures)) ∙ sym (c .ahead-is .ensures) ∙ e
 
-any-ahead-requires : tie.Need-any-ahead-requires Inv-loop μ-loop
-any-ahead-requires c κs = search needs
-
--- a row lies ahead
-any : (c : tie.Else1 Inv-loop μ-loop) →
-    AnyAhead (begin (c .before .before) .args .side) (c .before .before .loop .i) (length (table (begin (c .before .before)) .rows))
-any c =
+-- a row of the unit lies ahead
+ahead : (c : tie.Then1 Inv-loop μ-loop) →
     let l = c .before .before in
-    let side = begin l .args .side in
-    subst (AnyAhead side (l .loop .i)) (counted l)
-    (ahead-true side (l .loop .i) (l .before .reservation-count .result) (sym (c .before .any-ahead .ensures) ∙ not-false _ (c .if1 .left)))
-
-row-ahead-requires : tie.Need-row-ahead-requires Inv-loop μ-loop
-row-ahead-requires c κs = some-row (begin (c .before .before) .args .side) (any c)
-
-inside : (c : tie.After-row-ahead Inv-loop μ-loop) → c .row-ahead .result < length (table (begin (c .before .before .before)) .rows)
-inside c =
-    let l = c .before .before .before in
-    subst (λ (x : ℕ). x < length (table (begin l) .rows)) (sym (c .row-ahead .ensures)) (row-inside (begin l .args .side) (any (c .before)) (l .loop .inv .0))
-
-held-at-requires : tie.Need-held-at-requires Inv-loop μ-loop
-held-at-requires c κs = inside c
+    let b = begin l in
+    AnyAhead (b .args .side) (l .loop .i) (length (table b .rows)) × (row l < length (table b .rows)) × (rowOf (table b) (row l) .unit ≡ b .args .u .0)
+ahead c =
+    let l = c .before .before in
+    let b = begin l in
+    let a = b .args in
+    let h = ahead-is-T (a .side) (a .unit .now) (length (table b .rows)) (l .loop .i) (a .u .0) .0 (subst T (sym (tested (c .before) true (c .if1 .taken))) tt) in
+    let inside = row-inside (a .side) (h .0) (l .loop .inv .0) in
+    (h .0, inside, sym (units b .at (row l) inside) ∙ h .1)
 
 -- the row that was read is the table's
-row : (d : tie.After-held-at Inv-loop μ-loop) →
-    plainRow (d .held-at .result)
-    ≡ rowOf (table (begin (d .before .before .before .before)))
-    (rowAhead (begin (d .before .before .before .before) .args .side) (d .before .before .before .before .loop .i))
-row d =
+read : (d : tie.After-held-at Inv-loop μ-loop) → let l = d .before .before .before .before in plainRow (d .held-at .result) ≡ rowOf (table (begin l)) (row l)
+read d =
     let c = d .before in
     let b = begin (c .before .before .before) in
     let a = b .args in
     own-row (reservationRow (a .unit .now) (a .start .now) (a .end .now) (a .kind .now) (a .index .now) (a .fixed .now))
     (shortest
     (length (a .unit .now) ∷ length (a .start .now) ∷ length (a .end .now) ∷ length (a .kind .now) ∷ length (a .index .now) ∷ length (a .fixed .now) ∷ []))
-    (c .row-ahead .result) noReservation (plainRow (d .held-at .result)) (ap plainRow (d .held-at .ensures)) (inside c)
+    (c .row-ahead .result) noReservation (plainRow (d .held-at .result)) (ap plainRow (d .held-at .ensures))
+    (subst (λ (x : ℕ). x < length (table b .rows)) (sym (c .row-ahead .ensures)) (ahead (c .before) .1))
     ∙ ap (rowOf (table b)) (c .row-ahead .ensures)
 
-look-requires : tie.Need-look-requires Inv-loop μ-loop
-look-requires c κs = search needs
+-- it was looked at, and asked whether it reaches past the segment
+seen : (c : tie.After-look Inv-loop μ-loop) →
+    let l = c .before .before .before .before .before in
+    let t = table (begin l) in
+    OrderedUses (t .fixedUses) → looked (t .fixedUses) (t .weights) (begin l .args .s) (rowOf t (row l)) (now l) ≡ c .look .result
+seen c o =
+    let l = c .before .before .before .before .before in
+    let t = table (begin l) in
+    ap (λ (r : Reservation). looked (t .fixedUses) (t .weights) (begin l .args .s) r (now l)) (sym (read (c .before))) ∙ sym (c .look .ensures o)
 
-reaches-past-requires : tie.Need-reaches-past-requires Inv-loop μ-loop
-reaches-past-requires c κs = search needs
+reaches : (c : tie.After-reaches-past Inv-loop μ-loop) (t : Bool) → c .reaches-past .result ≡ t →
+    let l = c .before .before .before .before .before .before in
+    reachesPast (begin l .args .side) (begin l .args .s) (rowOf (table (begin l)) (row l)) ≡ t
+reaches c t e =
+    let a = begin (c .before .before .before .before .before .before) .args in
+    ap (reachesPast (a .side) (a .s)) (sym (read (c .before .before))) ∙ sym (c .reaches-past .ensures) ∙ e
 
-place-behind-requires : tie.Need-place-behind-requires Inv-loop μ-loop
-place-behind-requires c κs =
-    let e = c .before .before .before .before .before .before .before .before in
-    let l = e .before .before in
-    let b = begin l in
-    let a = b .args in
-    let x = l .loop .inv .0 in
-    let long = holds-unit (a .unit .now) (a .start .now) (a .end .now) (a .kind .now) (a .index .now) (a .fixed .now) .long in
-    let fits =
-    b .good .1 .0 .1 in
-    (some-row (a .side) (any e), omega (arith, x, long, fits))
-
--- what was seen of all rows is the answer
-answer : (b : tie.Start Inv-loop μ-loop) (m : Met) → Sound (table b) (b .args .s) (b .args .met) →
-    Seen (oneUnit (b .args .u .0)) (table b) (b .args .s) (All (table b)) (b .args .met) m →
-    m ≡ alsoMet (oneUnit (b .args .u .0)) (table b) (b .args .s) (b .args .met)
-answer b m sound k = seen-is (oneUnit (b .args .u .0)) (table b) (b .args .s) (b .args .met) m (sound .weight) k
-
--- out where no row is ahead
+-- out where no row of the unit is ahead
 returns : tie.Need-returns Inv-loop μ-loop
 returns c =
     let l = c .before .before in
     let b = begin l in
-    let a = b .args in
-    let none = ahead-false (a .side) (l .loop .i) (l .before .reservation-count .result) (sym (c .before .any-ahead .ensures) ∙ not-true _ (c .if1 .taken)) in (
-      l .loop .inv .0,
-      λ sound st. let k = l .loop .inv .1 sound st in (
-        answer b (met (l .loop .counts) (l .loop .heaviest)) sound
-            (unit-end (a .side) (table b) (sound .ready .rows) (a .s) (a .u .0) (l .loop .i) (a .met) (met (l .loop .counts) (l .loop .heaviest))
-            (λ h. none (subst (AnyAhead (a .side) (l .loop .i)) (sym (counted l)) h)) (k .1)),
-        k .0,
-      ),
-    )
-
--- out at a row of another unit
-returns-2 : tie.Need-returns-2 Inv-loop μ-loop
-returns-2 c =
-    let d = c .before .before .before in
-    let e = d .before .before in
-    let l = e .before .before in
-    let b = begin l in
     let a = b .args in (
       l .loop .inv .0,
-      λ sound st. let k = l .loop .inv .1 sound st in (
-        answer b (met (l .loop .counts) (l .loop .heaviest)) sound
-            (unit-other (a .side) (table b) (sound .ready .rows) (a .s) (a .u .0) (l .loop .i) (any e) (l .loop .inv .0) (a .met)
-            (met (l .loop .counts) (l .loop .heaviest)) (λ f. c .if2 .taken (ap (λ (r : Reservation). r .unit) (row d) ∙ f)) (k .0) (k .1)),
-        k .0,
-      ),
+      λ sound st. walking-out (a .side) (table b) (a .s) (a .u .0) (a .met) sound (l .loop .i) (now l) (l .loop .inv .1 sound st)
+          (λ any inside e. subst T (tested (c .before) false (c .if1 .left))
+          (ahead-is-T (a .side) (a .unit .now) (length (table b .rows)) (l .loop .i) (a .u .0) .1
+          (any, units b .at (row l) (row-inside (a .side) any inside) ∙ e)))
+          (l .loop .inv .0),
     )
-
--- the row is of the unit
-of-unit : (c : tie.Else2 Inv-loop μ-loop) →
-    rowOf (table (begin (c .before .before .before .before .before .before .before)))
-    (rowAhead (begin (c .before .before .before .before .before .before .before) .args .side)
-    (c .before .before .before .before .before .before .before .loop .i)) .unit
-    ≡ begin (c .before .before .before .before .before .before .before) .args .u .0
-of-unit c = ap (λ (r : Reservation). r .unit) (sym (row (c .before .before .before))) ∙ c .if2 .left
-
--- behind a look the row is among those passed
-turn : (c : tie.After-look Inv-loop μ-loop) →
-    let l = c .before .before .before .before .before .before .before .before in
-    let b = begin l in
-    Sound (table b) (b .args .s) (b .args .met)
-    → StandsIn (b .args .side) (table b .rows) (b .args .u .0) (segmentBegin (b .args .side) (b .args .s)) (b .args .at)
-    → Seen (oneUnit (b .args .u .0)) (table b) (b .args .s) (PassedRows (b .args .side) (table b) (placeBehind (b .args .side) (l .loop .i))) (b .args .met)
-    (c .look .result)
-turn c sound st =
-    let d = c .before .before .before .before in
-    let e = d .before .before in
-    let l = e .before .before in
-    let b = begin l in
-    let a = b .args in
-    let t = table b in
-    let m = met (l .loop .counts) (l .loop .heaviest) in
-    subst (Seen (oneUnit (a .u .0)) t (a .s) (PassedRows (a .side) t (placeBehind (a .side) (l .loop .i))) (a .met))
-    (ap (λ (r : Reservation). looked (t .fixedUses) (t .weights) (a .s) r m) (sym (row d)) ∙ sym (c .look .ensures (sound .ready .uses)))
-    (unit-look (a .side) t (sound .ready .rows) (a .s) (a .u .0) (l .loop .i) (any e) (l .loop .inv .0) (a .met) m (of-unit (c .before))
-    (l .loop .inv .1 sound st .1))
 
 -- out behind a row that reaches past the segment
-returns-3 : tie.Need-returns-3 Inv-loop μ-loop
-returns-3 c =
+returns-2 : tie.Need-returns-2 Inv-loop μ-loop
+returns-2 c =
     let k = c .before .before in
-    let d = k .before .before .before .before in
-    let e = d .before .before in
-    let l = e .before .before in
+    let d = k .before .before .before in
+    let l = d .before .before in
     let b = begin l in
-    let a = b .args in (
+    let a = b .args in
+    let h = ahead d in (
       l .loop .inv .0,
-      λ sound st. (
-        answer b (k .look .result) sound
-            (unit-past (a .side) (table b) (sound .ready .rows) (a .s) (a .u .0) (l .loop .i) (any e) (l .loop .inv .0) (a .met) (k .look .result)
-            (of-unit (k .before))
-            (reaches-true (a .side) (a .s) (rowOf (table b) (rowAhead (a .side) (l .loop .i)))
-            (ap (λ (r : Reservation). reachesPast (a .side) (a .s) r) (sym (row d)) ∙ sym (c .before .reaches-past .ensures) ∙ c .if3 .taken))
-            (turn k sound st)),
-        l .loop .inv .1 sound st .0,
-      ),
+      λ sound st. subst (Answers (a .side) (table b) (a .s) (a .u .0) (a .met) (l .loop .i)) (seen k (sound .ready .uses))
+          (walking-past (a .side) (table b) (a .s) (a .u .0) (a .met) sound (l .loop .i) (now l) (l .loop .inv .1 sound st) (h .0) (l .loop .inv .0) (h .2)
+          (reaches (c .before) true (c .if2 .taken))),
     )
-
-loop-less : tie.Need-loop-less Inv-loop μ-loop
-loop-less c =
-    let e = c .before .before .before .before .before .before .before .before .before in
-    let l = e .before .before in
-    fewer-ahead (begin l .args .side) (subst (AnyAhead (begin l .args .side) (l .loop .i)) (sym (counted l)) (any e)) (c .place-behind .ensures)
 
 loop-again : tie.Need-loop-again Inv-loop μ-loop
 loop-again c =
     let k = c .before .before .before in
-    let d = k .before .before .before .before in
-    let e = d .before .before in
-    let l = e .before .before in
+    let d = k .before .before .before in
+    let l = d .before .before in
     let b = begin l in
     let a = b .args in
+    let h = ahead d in
     let to = sym (c .place-behind .ensures) in (
-      subst (λ (x : ℕ). x ≤ length (table b .rows)) to (behind-inside (a .side) (any e) (l .loop .inv .0)),
-      λ sound st. (
-        subst (StandsIn (a .side) (table b .rows) (a .u .0) (segmentEnd (a .side) (a .s))) to
-            (unit-next (a .side) (table b) (sound .ready .rows) (a .s) (a .u .0) (l .loop .i)
-            (reaches-false (a .side) (a .s) (rowOf (table b) (rowAhead (a .side) (l .loop .i)))
-            (ap (λ (r : Reservation). reachesPast (a .side) (a .s) r) (sym (row d)) ∙ sym (c .before .before .reaches-past .ensures) ∙ c .before .if3 .left))
-            (l .loop .inv .1 sound st .0)),
-        subst (λ (x : ℕ). Seen (oneUnit (a .u .0)) (table b) (a .s) (PassedRows (a .side) (table b) x) (a .met) (k .look .result)) to (turn k sound st),
-      ),
+      subst (λ (x : ℕ). x ≤ length (table b .rows)) to (behind-inside (a .side) (h .0) (l .loop .inv .0)),
+      λ sound st. subst (λ (x : ℕ). Walking (a .side) (table b) (a .s) (a .u .0) (a .met) x (k .look .result)) to
+          (subst (Walking (a .side) (table b) (a .s) (a .u .0) (a .met) _) (seen k (sound .ready .uses))
+          (walking-next (a .side) (table b) (a .s) (a .u .0) (a .met) sound (l .loop .i) (now l) (l .loop .inv .1 sound st) (h .0) (l .loop .inv .0) (h .2)
+          (reaches (c .before .before) false (c .before .if2 .left)))),
     )
 
 pub walk-unit-spec : {M : Type 1} → statement M
 walk-unit-spec =
     tie.close
-    (tie.spec
-    Inv-loop
-    μ-loop
-    reservation-count-requires
-    loop-holds
-    any-ahead-requires
-    row-ahead-requires
-    held-at-requires
-    look-requires
-    reaches-past-requires
-    place-behind-requires
-    loop-less
+    (tie.spec Inv-loop μ-loop
+    (λ c κs. search needs)
+    (λ c. let b = c .before .before .before .before .before .before .before .before .before .before .before in
+    let a = b .args in (b .pre, λ sound st. walking-first (a .side) (table b) (a .s) (a .u .0) (a .met) sound (a .at) st))
+    (λ c κs. let e = c .before .reservation-count .ensures in
+    let long = units (begin c) .long in (omega (arith, e, long), omega (arith, e, c .loop .inv .0)))
+    (λ c κs. some-row (begin (c .before .before) .args .side) (ahead c .0))
+    (λ c κs. subst (λ (x : ℕ). x < length (table (begin (c .before .before .before)) .rows)) (sym (c .row-ahead .ensures)) (ahead (c .before) .1))
+    (λ c κs. search needs)
+    (λ c κs. search needs)
+    (λ c κs. let d = c .before .before .before .before .before in
+    let b = begin (d .before .before) in
+    let i = d .before .before .loop .inv .0 in
+    let long = units b .long in (some-row (b .args .side) (ahead d .0), omega (arith, i, long, b .good .1 .0 .1)))
+    (λ c. let d = c .before .before .before .before .before .before in
+    let l = d .before .before in
+    fewer-ahead (begin l .args .side) (subst (AnyAhead _ (l .loop .i)) (sym (l .before .reservation-count .ensures)) (ahead d .0)) (c .place-behind .ensures))
     loop-again
     returns
-    returns-2
-    returns-3)
+    returns-2)

@@ -1,8 +1,8 @@
 -- `take_segment` walks the register's units one after the other: what is known is what the units before v count
-use mathlib.Core.Path.{_≡_, refl, sym, ap, subst}
+use mathlib.Core.Path.{_≡_, refl, sym, subst}
 use mathlib.Core.Bool.{Bool}
 use Prim.Native.Nat.{ℕ, _+_, _-_, _≤_, _<_, zero-le}
-use native.Mathlib.Nat.{le-refl, le-antisymm}
+use native.Mathlib.Nat.{le-refl, le-antisymm, lt-of-lt-of-le}
 use native.Mathlib.Omega.{arith}
 use borrow.Author.Needs.{needs}
 use lib.Ieee.{Float}
@@ -14,9 +14,8 @@ use Rattle.walks.specs.declared.meeting.Register.{Register}
 use Rattle.walks.specs.declared.walk.Walk.{Walk}
 use Rattle.walks.specs.Meeting.{Reserved, reservedOf, alsoMet}
 use Rattle.walks.specs.Standing.{StandsIn, StandsInUnits, PlacesInside, Sound, segmentBegin, segmentEnd}
-use Rattle.walks.proofs.Steps.{next-inside, below-upto}
 use Rattle.walks.proofs.Taken.{reservedTaken, reserved-taken}
-use Rattle.walks.proofs.Seen.{Seen, All, firstUnits, units-none, units-more, seen-is}
+use Rattle.walks.proofs.Seen.{Seen, RowsOf, counted, firstUnits, units-none, units-more, seen-only, met-seen}
 use Rattle.walks.proofs.AllUnits.{Walked, walked-none, walked-more}
 use Rattle.walks.proofs.walk.Walk.take_segment.Statement.{statement}
 use Rattle.walks.proofs.walk.Walk.take_segment.Tie as tie
@@ -40,7 +39,8 @@ Units side p t s w₀ w m₀ m v =
     × (w .next ≡ w₀ .next)
     × Walked (p .units) (Inside t) (Inside t) (w .at) v
     × (Sound t s m₀ → StandsInUnits side p (t .rows) (segmentBegin side s) w₀
-    → Walked (p .units) (StandsAt side p t (segmentBegin side s)) (StandsAt side p t (segmentEnd side s)) (w .at) v × Seen (firstUnits p v) t s (All t) m₀ m)
+    → Walked (p .units) (StandsAt side p t (segmentBegin side s)) (StandsAt side p t (segmentEnd side s)) (w .at) v
+    × Seen (counted t s) (RowsOf (firstUnits p v) t) m₀ m)
 
 abbrev Inv-loop : tie.InvT-loop
 Inv-loop side t3 register s self₀ unit start end kind index fixed f-unit f-point f-value weight counts₀ heaviest₀ v₀ self counts heaviest v =
@@ -48,36 +48,6 @@ Inv-loop side t3 register s self₀ unit start end kind index fixed f-unit f-poi
 
 abbrev μ-loop : tie.MeasureT-loop
 μ-loop side t3 register s self₀ unit start end kind index fixed f-unit f-point f-value weight counts₀ heaviest₀ v₀ self counts heaviest v = register .units - v
-
-array-copy-out-unit : tie.Need-array-copy-out-unit Inv-loop μ-loop
-array-copy-out-unit c = search needs
-
-array-copy-out-start : tie.Need-array-copy-out-start Inv-loop μ-loop
-array-copy-out-start c = search needs
-
-array-copy-out-end : tie.Need-array-copy-out-end Inv-loop μ-loop
-array-copy-out-end c = search needs
-
-array-copy-out-kind : tie.Need-array-copy-out-kind Inv-loop μ-loop
-array-copy-out-kind c = search needs
-
-array-copy-out-index : tie.Need-array-copy-out-index Inv-loop μ-loop
-array-copy-out-index c = search needs
-
-array-copy-out-fixed : tie.Need-array-copy-out-fixed Inv-loop μ-loop
-array-copy-out-fixed c = search needs
-
-array-copy-out-f-unit : tie.Need-array-copy-out-f-unit Inv-loop μ-loop
-array-copy-out-f-unit c = search needs
-
-array-copy-out-f-point : tie.Need-array-copy-out-f-point Inv-loop μ-loop
-array-copy-out-f-point c = search needs
-
-array-copy-out-f-value : tie.Need-array-copy-out-f-value Inv-loop μ-loop
-array-copy-out-f-value c = search needs
-
-array-copy-out-weight : tie.Need-array-copy-out-weight Inv-loop μ-loop
-array-copy-out-weight c = search needs
 
 abbrev begin : tie.At-loop Inv-loop μ-loop → tie.Start Inv-loop μ-loop
 begin c = c .before .before .before .before .before .before .before .before .before .before .before
@@ -93,45 +63,16 @@ loop-holds c =
     let places = subst (λ (t : Reserved). PlacesInside (a .register) (length (t .rows)) (a .t1)) (sym (reserved-taken (a .t3))) (b .pre .1) in (
       zero-le,
       refl,
-      walked-none (a .register .units) (Inside (table b)) (Inside (table b)) (a .t1 .at) (places .eight) (places .inside),
+      walked-none _ _ (Inside (table b)) (a .t1 .at) (places .eight) (places .inside),
       λ sound st. (
-        walked-none (a .register .units) (StandsAt (a .side) (a .register) (table b) (segmentBegin (a .side) (a .s)))
-            (StandsAt (a .side) (a .register) (table b) (segmentEnd (a .side) (a .s))) (a .t1 .at) (places .eight) (st .in-unit),
+        walked-none _ _ (StandsAt (a .side) (a .register) (table b) (segmentEnd (a .side) (a .s))) (a .t1 .at) (places .eight) (st .in-unit),
         units-none (a .register) (table b) (a .s) (a .met) (sound .weight),
       ),
     )
 
 -- the unit is one of the eight
-unit-inside : (c : tie.Then1 Inv-loop μ-loop) → c .before .before .loop .v < 8
-unit-inside c = let few = begin (c .before .before) .pre .0 .few in omega (arith, few, c .if1 .taken)
-
-cast-i : tie.Need-cast-i Inv-loop μ-loop
-cast-i c = search needs
-
-add-t49 : tie.Need-add-t49 Inv-loop μ-loop
-add-t49 c = let fits = begin (c .before .before .before) .pre .0 .fits in omega (arith, fits, c .before .if1 .taken)
-
-mul-walk-unit : tie.Need-mul-walk-unit Inv-loop μ-loop
-mul-walk-unit c = omega (arith, unit-inside (c .before))
-
-element-copy-out-walk-unit : tie.Need-element-copy-out-walk-unit Inv-loop μ-loop
-element-copy-out-walk-unit c = omega (arith, unit-inside (c .before), c .before .before .before .loop .inv .2 .eight)
-
-walk-unit-requires : tie.Need-walk-unit-requires Inv-loop μ-loop
-walk-unit-requires c κs =
-    let l = c .before .before .before .before .loop in l .inv .2 .waiting (l .v) (le-refl (l .v)) (c .before .before .if1 .taken)
-
-mul-self : tie.Need-mul-self Inv-loop μ-loop
-mul-self c = omega (arith, unit-inside (c .before .before .before .before))
-
-element-write-self : tie.Need-element-write-self Inv-loop μ-loop
-element-write-self c = omega (arith, unit-inside (c .before .before .before .before), c .before .before .before .before .before .before .loop .inv .2 .eight)
-
-add-v : tie.Need-add-v Inv-loop μ-loop
-add-v c = omega (arith, unit-inside (c .before .before .before .before))
-
-loop-less : tie.Need-loop-less Inv-loop μ-loop
-loop-less c = omega (arith, c .before .before .before .before .if1 .taken)
+one-of-eight : (c : tie.Then1 Inv-loop μ-loop) → c .before .before .loop .v < 8
+one-of-eight c = lt-of-lt-of-le (c .if1 .taken) (begin (c .before .before) .pre .0 .few)
 
 loop-again : tie.Need-loop-again Inv-loop μ-loop
 loop-again c =
@@ -143,7 +84,7 @@ loop-again c =
     let few = b .pre .0 .few in
     let w = c .before .walk-unit in
     let i = l .loop .inv in (
-      next-inside (l .loop .v) (a .register .units) v,
+      omega (arith, v),
       i .1,
       walked-more (w .result .at) v few (w .ensures .0) (i .2),
       λ sound st. let k = i .3 sound st in
@@ -151,15 +92,12 @@ loop-again c =
           record { ready = sound .ready; nonempty = sound .nonempty; weight = k .1 .weight } in
           let r = w .ensures .1 now (k .0 .waiting (l .loop .v) (le-refl (l .loop .v)) v) in (
             walked-more (w .result .at) v few (r .1) (k .0),
-            subst (Seen (firstUnits (a .register) (l .loop .v + 1)) (table b) (a .s) (All (table b)) (a .met)) (sym (r .0))
+            subst (Seen (counted (table b) (a .s)) (RowsOf (firstUnits (a .register) (l .loop .v + 1)) (table b)) (a .met)) (sym (r .0))
                 (units-more (a .register) (table b) (a .s) (l .loop .v) (a .met) (met (l .loop .counts) (l .loop .heaviest)) (k .1)),
           ),
     )
 
 -- all units have been walked
-done : (c : tie.Else1 Inv-loop μ-loop) (v : ℕ) → v < begin (c .before .before) .args .register .units → v < c .before .before .loop .v
-done c v h = below-upto v _ _ h (c .if1 .left)
-
 returns : tie.Need-returns Inv-loop μ-loop
 returns c =
     let l = c .before .before in
@@ -167,45 +105,37 @@ returns c =
     let a = b .args in
     let i = l .loop .inv in
     let m = met (l .loop .counts) (l .loop .heaviest) in
+    let done : (v : ℕ) → v < a .register .units → v < l .loop .v = λ v h. lt-of-lt-of-le h (c .if1 .left) in
     subst
     (λ (t : Reserved). (l .loop .self .next ≡ a .t1 .next) × PlacesInside (a .register) (length (t .rows)) (l .loop .self)
     × (Sound t (a .s) (a .met) → StandsInUnits (a .side) (a .register) (t .rows) (segmentBegin (a .side) (a .s)) (a .t1)
     → (m ≡ alsoMet (a .register) t (a .s) (a .met)) × StandsInUnits (a .side) (a .register) (t .rows) (segmentEnd (a .side) (a .s)) (l .loop .self)))
     (reserved-taken (a .t3)) (
       i .1,
-      record { eight = i .2 .eight; inside = λ v h. i .2 .walked v (done c v h) },
+      record { eight = i .2 .eight; inside = λ v h. i .2 .walked v (done v h) },
       λ sound st. let k = i .3 sound st in (
-        seen-is (a .register) (table b) (a .s) (a .met) m (sound .weight)
-            (subst (λ (v : ℕ). Seen (firstUnits (a .register) v) (table b) (a .s) (All (table b)) (a .met) m) (le-antisymm (i .0) (c .if1 .left)) (k .1)),
-        record { in-unit = λ v h. k .0 .walked v (done c v h) },
+        seen-only
+            (subst (λ (v : ℕ). Seen (counted (table b) (a .s)) (RowsOf (firstUnits (a .register) v) (table b)) (a .met) m) (le-antisymm (i .0) (c .if1 .left))
+            (k .1)) (met-seen (table b) (a .s) (a .register) (a .met) (sound .weight)),
+        record { in-unit = λ v h. k .0 .walked v (done v h) },
       ),
     )
 
 pub take-segment-spec : {M : Type 1} → statement M
 take-segment-spec =
     tie.close
-    (tie.spec
-    Inv-loop
-    μ-loop
-    array-copy-out-unit
-    array-copy-out-start
-    array-copy-out-end
-    array-copy-out-kind
-    array-copy-out-index
-    array-copy-out-fixed
-    array-copy-out-f-unit
-    array-copy-out-f-point
-    array-copy-out-f-value
-    array-copy-out-weight
+    (tie.spec Inv-loop μ-loop
+    (λ c. search needs) (λ c. search needs) (λ c. search needs) (λ c. search needs) (λ c. search needs)
+    (λ c. search needs) (λ c. search needs) (λ c. search needs) (λ c. search needs) (λ c. search needs)
     loop-holds
-    cast-i
-    add-t49
-    mul-walk-unit
-    element-copy-out-walk-unit
-    walk-unit-requires
-    mul-self
-    element-write-self
-    add-v
-    loop-less
+    (λ c. search needs)
+    (λ c. let fits = begin (c .before .before .before) .pre .0 .fits in omega (arith, fits, c .before .if1 .taken))
+    (λ c. omega (arith, one-of-eight (c .before)))
+    (λ c. omega (arith, one-of-eight (c .before), c .before .before .before .loop .inv .2 .eight))
+    (λ c κs. let l = c .before .before .before .before .loop in l .inv .2 .waiting (l .v) (le-refl (l .v)) (c .before .before .if1 .taken))
+    (λ c. omega (arith, one-of-eight (c .before .before .before .before)))
+    (λ c. omega (arith, one-of-eight (c .before .before .before .before), c .before .before .before .before .before .before .loop .inv .2 .eight))
+    (λ c. omega (arith, one-of-eight (c .before .before .before .before)))
+    (λ c. omega (arith, c .before .before .before .before .if1 .taken))
     loop-again
     returns)
