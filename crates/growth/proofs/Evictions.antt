@@ -17,7 +17,7 @@ use Rattle.numbers.proofs.Units.{units-lt, lt-units, finite-of-units}
 use Rattle.numbers.proofs.Rounding.{rounded, round-weight, round-monotone, round-at-most}
 use Rattle.numbers.proofs.Operations.{product-round, product-weight, whole-number, whole-finite}
 use Rattle.numbers.proofs.Normalised.{exceeds-rises, exceeds-lighter}
-use Rattle.numbers.proofs.Heaviest.{heaviest-weight, heaviest-above}
+use Rattle.numbers.proofs.Heaviest.{heaviest-weight, heaviest-above, among-weight}
 use Rattle.numbers.proofs.Bits.{weight-back, bits-back, value-is}
 use Rattle.numbers.proofs.Chain.{chain-rises, chain-few, chain-bound}
 use Rattle.growth.specs.Growth.{GapsSeen, ownSpan, passes, growth, weightsIn}
@@ -26,7 +26,6 @@ use Rattle.growth.specs.Demand.{SoundGaps}
 use Rattle.growth.specs.Evictions.{Promise, Kept, MeetsCarrier, EvictsAfter, Evicts, Each, member, EvictionsEnd, promiseOf, Given, AfterTries, IsFound}
 use Rattle.growth.specs.Evictions.{promised}
 use Rattle.growth.specs.declared.proposal.SplitProposal.{SplitProposal}
-use Rattle.growth.proofs.Meetings.{among-weight}
 use Rattle.growth.proofs.Proposals.{growth-met, early-demand3, found-own-passes, found-is-grown}
 
 -- ---- a test that holds at a numerator holds at a higher one

@@ -1,6 +1,6 @@
 -- What a region meets: the weights of all its gaps, and the heaviest of the region with one more gap
 use mathlib.Core.Path.{_≡_, refl, sym, ap, _∙_, subst}
-use mathlib.Core.Logic.{_⊎_, inl, inr}
+use mathlib.Core.Logic.{inl, inr}
 use Prim.Native.Nat.{ℕ, zero, suc, _+_, _-_, _≤_, _<_, max}
 use native.Mathlib.Nat.{le-refl, le-trans, le-of-lt, eq-or-lt-of-le}
 use native.Mathlib.Omega.{arith}
@@ -8,32 +8,15 @@ use mathlib.Core.List.{List, [], _∷_, _++_, append-assoc, append-nil}
 use lib.Dec.{T}
 use lib.Ieee.{Float}
 use Rattle.numbers.specs.Weight.{Weight, unitsOf, heavier, heaviest, Weights, Among}
+use Rattle.columns.proofs.OneOf.{one-both}
 use Rattle.numbers.proofs.Units.{units-inj}
-use Rattle.numbers.proofs.Heaviest.{heavier-weight, heavier-units, heaviest-weight, heaviest-append, weights-append}
+use Rattle.numbers.proofs.Heaviest.{heavier-weight, heavier-units, heaviest-weight, heaviest-append, weights-append, among-one}
 use Rattle.links.specs.declared.lower.Side.{Side}
 use Rattle.links.specs.declared.lower.Side.the-variants.{Previous, Next}
 use Rattle.growth.specs.Growth.{GapsSeen, Span, State, numbersFrom, gapsIn, weightsIn, heaviestIn, gapOutside, grownBy, isOpen}
 use Rattle.growth.specs.Demand.{Around, In}
 use Rattle.growth.proofs.Tries.{open-left}
 use Rattle.growth.proofs.Spans.{between-before, between-behind}
-
--- ---- lists of weights
-among-left : (w : Float) (xs ys : List Float) → Among w xs → Among w (xs ++ ys)
-among-left w [] ys a = absurd a
-among-left w (x ∷ xs) ys a = elim a [ inl e ↦ inl e | inr b ↦ inr (among-left w xs ys b) ]
-
-among-right : (w : Float) (xs ys : List Float) → Among w ys → Among w (xs ++ ys)
-among-right w [] ys a = a
-among-right w (x ∷ xs) ys a = inr (among-right w xs ys a)
-
-among-append : (w : Float) (xs ys : List Float) → Among w (xs ++ ys) → Among w xs ⊎ Among w ys
-among-append w [] ys a = inr a
-among-append w (x ∷ xs) ys a =
-    elim a [ inl e ↦ inl (inl e) | inr b ↦ elim (among-append w xs ys b) [ inl c ↦ inl (inr c) | inr c ↦ inr c ] ]
-
-pub among-weight : (ws : List Float) → Weights ws → (w : Float) → Among w ws → Weight w
-among-weight [] p w a = absurd a
-among-weight (v ∷ vs) p w a = elim a [ inl e ↦ subst Weight (sym e) (p .0) | inr b ↦ among-weight vs (p .1) w b ]
 
 -- ---- the weights that a run of gaps meets
 module _ (met : ℕ → List Float) where
@@ -63,9 +46,10 @@ module _ (met : ℕ → List Float) where
       none : (a g : ℕ) → a ≤ g → g < a + 0 → ⊥
       none a g l m = omega arith
   run-among a (suc n) g w l m p =
+      let both = one-both (among-one w) (met a) (weightsIn met (numbersFrom (suc a) n)) in
       elim (eq-or-lt-of-le l) [
-        | inl e ↦ among-left w (met a) (weightsIn met (numbersFrom (suc a) n)) (subst (λ (x : ℕ). Among w (met x)) (sym e) p)
-        | inr k ↦ among-right w (met a) (weightsIn met (numbersFrom (suc a) n)) (run-among (suc a) n g w k (later a n g m) p)
+        | inl e ↦ both .1 (inl (subst (λ (x : ℕ). Among w (met x)) (sym e) p))
+        | inr k ↦ both .1 (inr (run-among (suc a) n g w k (later a n g m) p))
       ]
     where
       later : (a n g : ℕ) → g < a + suc n → g < suc a + n
@@ -76,7 +60,7 @@ module _ (met : ℕ → List Float) where
   unfolding weightsIn numbersFrom
   run-of a zero w p = absurd p
   run-of a (suc n) w p =
-      elim (among-append w (met a) (weightsIn met (numbersFrom (suc a) n)) p) [
+      elim (one-both (among-one w) (met a) (weightsIn met (numbersFrom (suc a) n)) .0 p) [
         | inl q ↦ (a, le-refl a, first a n, q)
         | inr q ↦ let r = run-of (suc a) n w q in (r .0, le-of-lt (r .1), later a n (r .0) (r .2), r .3)
       ]

@@ -1,12 +1,12 @@
 -- The heavier of two weights and the heaviest of a list: a weight, no lighter than any of them, one of them or zero, and the only such weight
 use mathlib.Core.Path.{_≡_, refl, sym, ap, _∙_, subst}
 use mathlib.Core.Logic.{_⊎_, inl, inr}
-use mathlib.Core.List.{List, [], _∷_, _++_, List·Memᴰ}
+use mathlib.Core.List.{List, [], _∷_, _++_}
 use Prim.Native.Nat.{ℕ, _≤_, _<_, max, zero-le}
-use native.Mathlib.Nat.{le-refl, le-trans, le-of-eq, le-antisymm}
+use native.Mathlib.Nat.{le-trans, le-of-eq, le-antisymm}
 use native.Mathlib.Omega.{arith}
-use mathlib.Core.Bool.{Bool, true, false, not, cond}
-use lib.Dec.{T, ltb, ltb→lt, nltb→le}
+use mathlib.Core.Bool.{Bool, not}
+use lib.Dec.{T, ltb→lt, nltb→le}
 use lib.Ieee.{Float, lt}
 use Rattle.numbers.specs.Weight.{Weight, finite, unitsOf, zeroWeight, heavier, heaviest, Weights, Among}
 use Rattle.columns.proofs.Tests.{cond-both}
@@ -72,7 +72,8 @@ pub heaviest-least : (ws : List Float) (n : ℕ) → ((w : Float) → Among w ws
 heaviest-least ws n f =
     elim (heaviest-among ws) [ inl e ↦ le-trans (le-of-eq (ap unitsOf e ∙ zero-units)) zero-le | inr a ↦ f (heaviest ws) a ]
 
-among-weight : (ws : List Float) → Weights ws → (w : Float) → Among w ws → Weight w
+-- what stands among weights is one
+pub among-weight : (ws : List Float) → Weights ws → (w : Float) → Among w ws → Weight w
 among-weight [] p w a = absurd a
 among-weight (v ∷ vs) p w a = elim a [ inl e ↦ subst Weight (sym e) (p .0) | inr b ↦ among-weight vs (p .1) w b ]
 

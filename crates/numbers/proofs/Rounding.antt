@@ -1,18 +1,17 @@
 -- Rounding to binary32, in units: it gives a weight, keeps the order and leaves every weight alone, so a weight below the rounded value is below the exact one
 use mathlib.Core.Path.{_≡_, refl, sym, ap, _∙_, subst}
-use mathlib.Core.Logic.{_⊎_, inl, inr}
+use mathlib.Core.Logic.{inl, inr}
 use Prim.Native.Nat.{ℕ, zero, suc, _*_, _/_, _^_, _≤_, _<_}
 use native.Mathlib.Nat.{le-trans, le-of-eq, le-of-lt, lt-of-not-le, not-le-of-lt, lt-irrefl, mul-div-cancel}
-use mathlib.Core.Bool.{Bool, true, false, not, _&&_, _||_, cond}
-use lib.IntN.{ℤ}
+use mathlib.Core.Bool.{Bool, true, false, not}
 use lib.Dec.{T, ltb, eqb, ltb→lt, eqb→eq, nltb→le, not-T}
 use lib.Pow.{pow-pos}
 use lib.Ieee.{Float, nan, inf, fin, binary32, up, down, odd, units, round, fits, lt, le, eq}
 use lib.Ieee.Fits.{and-l, down-pos, round-fits, round-is}
 use lib.Ieee.Exact.{HasValue, round-exact}
 use lib.Ieee.Order.{round-mono}
-use Rattle.numbers.specs.Weight.{Finite, number, Weight, infinite, finite, infiniteUnits, unitsOf}
-use Rattle.columns.proofs.Tests.{cond-both}
+use Rattle.numbers.specs.Weight.{number, Weight, infinite, finite, infiniteUnits, unitsOf}
+use Rattle.columns.proofs.Tests.{cond-both, or-T}
 use Rattle.numbers.proofs.Units.{fits-holds, units-whole, units-below, units-order, units-lt}
 
 -- ---- a rounded fraction is a weight
@@ -49,10 +48,6 @@ unfoldable pub rounded : ℕ → ℕ → ℕ
 rounded a c = unitsOf (round binary32 false a c)
 
 -- ---- rounding keeps the order
-or-cases : (a b : Bool) → T (a || b) → T a ⊎ T b
-or-cases true b t = inl tt
-or-cases false b t = inr t
-
 -- weights that are equal are not in order
 eq-no-lt : {x y : Float} → Weight x → Weight y → T (eq x y) → T (lt y x) → ⊥
 unfolding eq lt
@@ -68,7 +63,7 @@ eq-no-lt (finite (number {m} {e} f)) (finite (number {m = n} {e = d} g)) h k =
 le-units : {x y : Float} → Weight x → Weight y → T (le x y) → unitsOf x ≤ unitsOf y
 unfolding le
 le-units {x} {y} p q h =
-    elim (or-cases (lt x y) (eq x y) h) [
+    elim (or-T (lt x y) (eq x y) .0 h) [
       | inl a ↦ le-of-lt (units-lt p q a)
       | inr a ↦ nltb→le (unitsOf y) (unitsOf x) (subst (λ (t : Bool). T (not t)) (units-order q p) (not-T (lt y x) (eq-no-lt p q a)))
     ]

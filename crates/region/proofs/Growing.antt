@@ -28,7 +28,7 @@ use Rattle.walks.specs.Standing.{StandsInUnits}
 use Rattle.walks.specs.Gaps.{segmentsOfGap, heaviestInGap, OrderedGaps, GapsFrom, beginAt, At, Walkable, walkOn}
 use Rattle.overlaps.specs.GapSegments.{SegmentColumns}
 use Rattle.walks.proofs.GapWalk.{begins, gaps-found}
-use Rattle.walks.proofs.GapSegments.{all-weights}
+use Rattle.walks.proofs.Sets.{all-weights}
 use Rattle.growth.specs.Growth.{GapsSeen, gapsIn, weightsIn, growth, isOpen}
 use Rattle.growth.specs.Columns.{numberAt, floatAt, spanOf, stateOf, InsideGaps, CountFits, turnOf, tried, ownTried, grownWith, triedWith, noGrowth}
 use Rattle.growth.specs.Columns.{afterWith, afterTried, Going}

@@ -1,6 +1,6 @@
 -- The units of a register, one after the other: those before v have been walked, the others wait
 use mathlib.Core.Path.{_≡_, subst⁻¹}
-use mathlib.Core.Logic.{_⊎_, ⊎-elim}
+use mathlib.Core.Logic.{⊎-elim}
 use mathlib.Core.List.{List}
 use Prim.Native.Nat.{ℕ, _+_, _≤_, _<_}
 use native.Mathlib.Omega.{arith}

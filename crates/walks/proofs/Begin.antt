@@ -1,6 +1,6 @@
 -- Where a walk begins: the rows and the fixed uses of a unit stand together, and a search by halves in them finds the place
 use mathlib.Core.Path.{_≡_, refl, sym, ap, _∙_}
-use mathlib.Core.Logic.{_⊎_, ⊎-elim}
+use mathlib.Core.Logic.{⊎-elim}
 use mathlib.Core.List.{List, [], _∷_}
 use Prim.Native.Nat.{ℕ, _+_, _≤_, _<_, zero-le}
 use native.Mathlib.Nat.{le-refl, le-antisymm, le-trans, le-of-eq, le-of-lt, lt-of-le-of-lt, lt-of-lt-of-le}

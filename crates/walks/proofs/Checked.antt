@@ -1,9 +1,9 @@
 -- Tables that have passed lines 10 and 11 are as the walkers need them
 use mathlib.Core.Path.{_≡_, sym, ap, _∙_}
-use mathlib.Core.Logic.{_⊎_, ⊎-elim}
+use mathlib.Core.Logic.{⊎-elim}
 use mathlib.Core.Bool.{Bool, true, false, not, _&&_, true≢false}
 use mathlib.Core.List.{List}
-use Prim.Native.Nat.{ℕ, zero, suc, _-_, _%_, _≤_, _<_}
+use Prim.Native.Nat.{ℕ, zero, suc, _%_, _≤_, _<_}
 use native.Mathlib.Nat.{le-trans, le-of-eq, le-of-lt, le-antisymm, le-of-suc-le-suc, not-suc-le-zero}
 use lib.Dec.{leb, ltb, eqb}
 use lib.ListN.{length, getD}
@@ -14,7 +14,7 @@ use Rattle.jobs.specs.declared.rows.FixedUse.{FixedUse}
 use Rattle.jobs.specs.declared.rows.Limits.{Limits}
 use Rattle.jobs.specs.Rows.{noReservation, noFixedUse}
 use Rattle.columns.specs.Table.{rowBefore}
-use Rattle.jobs.specs.Lines.{fixedOf, noFixed, badSpan, badKind, badReservation, badFixedUse, badFixedUseAt}
+use Rattle.jobs.specs.Lines.{fixedOf, badSpan, badKind, badReservation, badFixedUse, badFixedUseAt}
 use Rattle.jobs.proofs.Sound.{or-parts}
 use Rattle.walks.specs.Meeting.{Reserved}
 use Rattle.walks.specs.Standing.{OrderedRows, OrderedUses, Ready}

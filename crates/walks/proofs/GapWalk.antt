@@ -1,12 +1,11 @@
 -- A walk over the rows of a gap: where it stands, one row more, and where it ends
 use mathlib.Core.Path.{_≡_, ap, _∙_}
-use mathlib.Core.Logic.{_⊎_, inl, inr, ⊎-elim}
+use mathlib.Core.Logic.{inl, inr, ⊎-elim}
 use mathlib.Core.List.{List}
 use Prim.Native.Nat.{ℕ, _+_, _≤_, _<_, zero-le}
 use native.Mathlib.Nat.{lt-of-lt-of-le}
 use native.Mathlib.Omega.{arith}
 use lib.Dec.{leb}
-use lib.Ieee.{Float}
 use lib.ListN.{getD}
 use Rattle.columns.specs.First.{FirstIn, Rising}
 use Rattle.columns.proofs.Firsts.{parted}
@@ -22,12 +21,12 @@ use Rattle.walks.specs.declared.walk.Walk.{Walk}
 use Rattle.walks.specs.Meeting.{Reserved, weightsMet, alsoMet}
 use Rattle.walks.specs.Ways.{Upto, Before, firstEnd, lastEnd, Ahead, Behind, AnyAhead, rowAhead, placeBehind}
 use Rattle.walks.specs.Standing.{StandsInUnits, segmentEnd}
-use Rattle.walks.specs.Gaps.{segmentIn, OrderedGaps, GapsFrom, beginAt, At, gapMet, metBefore}
+use Rattle.walks.specs.Gaps.{segmentIn, OrderedGaps, GapsFrom, beginAt, At, gapMet}
 use Rattle.walks.proofs.Ways.{row-inside, row-is-ahead, row-first, some-ahead, behind-inside, passed-only, ahead-before, row-before}
 use Rattle.walks.proofs.Ways.{near-other, far-other, far-passed, far-ahead, ahead-later}
 use Rattle.walks.proofs.OneUnit.{stands-later}
 use Rattle.walks.proofs.Sets.{met-weights}
-use Rattle.walks.proofs.Seen.{Seen, Passed, OfGap, metAt, metBy, also-joins, seen-only, seen-none, walk-more, walk-all, gap-seen}
+use Rattle.walks.proofs.Seen.{Seen, Passed, OfGap, metAt, also-joins, seen-only, seen-none, walk-more, walk-all, gap-seen}
 
 -- ---- a walk carried on to a later point
 pub later : (side : Side) {p : Register} {rows : List Reservation} {a b : ℕ} {w : Walk} → Upto side a b → StandsInUnits side p rows a w

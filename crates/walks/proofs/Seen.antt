@@ -2,7 +2,6 @@
 use mathlib.Core.Path.{_≡_, refl, sym, ap, ap₂, _∙_, subst}
 use mathlib.Core.Logic.{_⊎_, inl, inr, ⊎-elim}
 use mathlib.Core.Bool.{Bool, true, false, _&&_, _||_, cond}
-use mathlib.Core.List.{List}
 use Prim.Native.Nat.{ℕ, _+_, _≤_, _<_, max, zero-le}
 use native.Mathlib.Nat.{le-refl, le-trans, le-antisymm, le-of-eq}
 use native.Mathlib.Omega.{arith}
@@ -10,11 +9,10 @@ use lib.Dec.{T, leb, ltb, eqb, leb→le, le→leb, ltb→lt, lt→ltb, eqb→eq,
 use lib.Ieee.{Float}
 use lib.Ieee.Bits.{is-true}
 use lib.ListN.{length, getD}
-use Rattle.columns.specs.Table.{anyOf}
 use Rattle.columns.proofs.Tests.{test-same, cond-both, cond-true, or-T, and-T}
 use Rattle.columns.proofs.Firsts.{split}
 use Rattle.columns.proofs.OneOf.{any-one, one-some, some-one, picked-some, some-picked}
-use Rattle.numbers.specs.Weight.{Weight, unitsOf, zeroWeight, heavier, heaviest, Weights}
+use Rattle.numbers.specs.Weight.{Weight, unitsOf, zeroWeight, heavier, heaviest}
 use Rattle.numbers.proofs.Units.{units-inj, zero-units}
 use Rattle.numbers.proofs.Heaviest.{heavier-weight, heavier-units, heaviest-weight, heaviest-above, heaviest-least}
 use Rattle.jobs.specs.Rows.{noReservation}

@@ -8,7 +8,6 @@ use native.Mathlib.Nat.{le-refl}
 use lib.Dec.{T}
 use lib.Ieee.{Float}
 use lib.ListN.{getD}
-use Rattle.columns.specs.Table.{anyOf}
 use Rattle.columns.proofs.OneOf.{OneOf, any-one, one-both}
 use Rattle.jobs.specs.declared.rows.Reservation.{Reservation}
 use Rattle.numbers.specs.Weight.{Weight, weightLimit, Weights, Among}
@@ -16,7 +15,7 @@ use Rattle.numbers.proofs.Bits.{value-weight}
 use Rattle.numbers.proofs.Heaviest.{among-one, weights-append}
 use Rattle.walks.specs.declared.meeting.GapSegment.{GapSegment}
 use Rattle.walks.specs.declared.meeting.Register.{Register}
-use Rattle.walks.specs.Meeting.{Reserved, spillWeight, weighsAgainst, fixedAgainst, fixedMet, weightsWhere, weightsMet, fixedMetAny, weightsMetAll}
+use Rattle.walks.specs.Meeting.{Reserved, spillWeight, weighsAgainst, fixedMet, weightsWhere, weightsMet, fixedMetAny, weightsMetAll}
 
 -- ---- rows
 -- the weights of those that pass a test

@@ -9,7 +9,6 @@ use lib.Dec.{T}
 use lib.Ieee.{Float}
 use lib.ListN.{length}
 use Rattle.columns.specs.Table.{shortest}
-use Rattle.links.specs.declared.lower.Side.{Side}
 use Rattle.links.specs.Links.{onSide}
 use Rattle.jobs.specs.declared.rows.Reservation.{Reservation}
 use Rattle.jobs.specs.Rows.{reservationRow, noReservation}
