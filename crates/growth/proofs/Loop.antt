@@ -15,10 +15,10 @@ use Rattle.numbers.proofs.Operations.{sum-weight, sum-units}
 use Rattle.links.specs.declared.lower.Side.{Side}
 use Rattle.links.specs.declared.lower.Side.the-variants.{Previous, Next}
 use Rattle.growth.specs.Growth.{GapsSeen, Span, State, ownSpan, gapsIn, weightsIn, heaviestIn, weightTest, gapOutside, grownBy, passes, passesOn, isOpen}
-use Rattle.growth.specs.Growth.{sideTried, barred, grows, came, cameOn, afterCame, tryOn, tryAt, try, growth, grown}
+use Rattle.growth.specs.Growth.{sideTried, barred, grows, came, cameOn, afterCame, tryOn, tryAt, try, growth, grown, grownOf, tried, ownTried}
 use Rattle.growth.specs.Proposal.{proposalWith, proposalOf, regionOf}
 use Rattle.growth.specs.Demand.{Around, Ended, SoundGaps}
-use Rattle.growth.specs.Columns.{grownOf, growthOf, spanOf, stateOf, InsideGaps, CountFits, tried, ownTried, cameWith, triedWith, noGrowth, barredOn}
+use Rattle.growth.specs.Columns.{growthOf, spanOf, stateOf, InsideGaps, CountFits, cameWith, triedWith, noGrowth, barredOn}
 use Rattle.growth.specs.Columns.{afterWith, afterTried}
 use Rattle.growth.specs.Columns.{startAt, Going}
 use Rattle.growth.specs.declared.step.Growth.{Growth}

@@ -13,10 +13,10 @@ use Rattle.columns.proofs.Tests.{cond-true, cond-false}
 use Rattle.columns.proofs.Firsts.{split}
 use Rattle.links.specs.declared.lower.Side.{Side}
 use Rattle.links.specs.declared.lower.Side.the-variants.{Previous, Next}
-use Rattle.growth.specs.Growth.{GapsSeen, Span, heaviestIn, weightTest, gapOutside, grownBy, sideOpen, prefersLeft, sideTried, came}
+use Rattle.growth.specs.Growth.{GapsSeen, Span, heaviestIn, weightTest, gapOutside, grownBy, sideOpen, prefersLeft, sideTried, came, grownOf, tried}
 use Rattle.growth.specs.Proposal.{endOf, splitCost, proposalWith}
 use Rattle.growth.specs.declared.proposal.SplitProposal.{SplitProposal}
-use Rattle.growth.specs.Columns.{spanOf, stateOf, openWith, InsideGaps, HasNeighbours, grownOf, tried, cameWith, triedWith}
+use Rattle.growth.specs.Columns.{spanOf, stateOf, openWith, InsideGaps, HasNeighbours, cameWith, triedWith}
 use Rattle.growth.specs.declared.step.Growth.{Growth}
 use Rattle.growth.specs.declared.step.Turn.{Turn}
 use Rattle.growth.specs.declared.step.Turn.the-variants.{Try, End}

@@ -9,9 +9,8 @@ use lib.ListN.{getD}
 use Rattle.numbers.specs.Weight.{zeroWeight}
 use Rattle.numbers.specs.Normal.{normalised, exceeds}
 use Rattle.links.specs.Links.{onSide}
-use Rattle.growth.specs.Growth.{GapsSeen, Span, State, ownSpan, heaviestIn, normalisedOf, gapOutside, grownBy, passes, came, cameOn, sideTried, growth}
+use Rattle.growth.specs.Growth.{GapsSeen, Span, State, ownSpan, passes, grownOf, sideTried, growth}
 use Rattle.links.specs.declared.lower.Side.{Side}
-use Rattle.links.specs.declared.lower.Side.the-variants.{Next}
 use Rattle.growth.specs.declared.step.Grown.{Grown}
 use Rattle.growth.specs.declared.step.Growth.{Growth}
 use Rattle.growth.specs.declared.step.Tried.{Tried}
@@ -55,11 +54,7 @@ stateOf growth = record { region = spanOf (growth .region); left-barred = growth
 abbrev pub openWith : Bool → Bool → Bool
 openWith barred used-up = not barred && not used-up
 
--- the code holds a region with the heaviest weight it meets
-abbrev pub grownOf : GapsSeen → Span → Grown
-grownOf seen s = record { left = s .left; right = s .right; weight = s .weight; insts = s .insts; heaviest = heaviestIn seen s }
-
--- and with it growth
+-- the code holds growth with the heaviest weight that its region meets
 abbrev pub growthOf : GapsSeen → State → Growth
 growthOf seen st = record { region = grownOf seen (st .region); «left_barred» = st .left-barred; «right_barred» = st .right-barred }
 
@@ -77,28 +72,6 @@ pub record HasNeighbours (n : ℕ) (g : Grown) : Type 0 where
 -- the live instructions of a region and of one more gap are a 32-bit number together
 abbrev pub CountFits : Grown → ℕ → Type 0
 CountFits g insts = g .insts + insts < 2 ^ 32
-
--- a try on a side of a region: the gap, the region with it and the heaviest weight that this meets, its normalised weight, and what came of it
-abbrev pub tried : Side → GapsSeen → Span → Tried
-tried side seen s =
-    record {
-      side = side;
-      gap = gapOutside side s;
-      region = grownOf seen (grownBy side seen s);
-      normalised = normalisedOf seen (grownBy side seen s);
-      came = cameOn side seen s;
-    }
-
--- the try of the own gap, from a region of no gap
-abbrev pub ownTried : GapsSeen → Tried
-ownTried seen =
-    record {
-      side = Next;
-      gap = seen .own;
-      region = grownOf seen (ownSpan seen);
-      normalised = normalisedOf seen (ownSpan seen);
-      came = came seen (seen .own) (ownSpan seen);
-    }
 
 -- the side whose turn it is; none for a region of no gap
 unfoldable pub turnOf : ℕ → (ℕ → Float) → (ℕ → ℕ) → Growth → Turn

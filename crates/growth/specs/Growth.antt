@@ -9,6 +9,8 @@ use Rattle.numbers.specs.Normal.{normalised, exceeds}
 use Rattle.links.specs.declared.lower.Side.{Side}
 use Rattle.links.specs.declared.lower.Side.the-variants.{Previous, Next}
 use Rattle.links.specs.Links.{onSide}
+use Rattle.growth.specs.declared.step.Grown.{Grown}
+use Rattle.growth.specs.declared.step.Tried.{Tried}
 use Rattle.growth.specs.declared.step.Turn.{Turn}
 use Rattle.growth.specs.declared.step.Turn.the-variants as Turn·is
 use Rattle.growth.specs.declared.step.Came.{Came}
@@ -147,6 +149,32 @@ came seen gap with-it = cond (seen .fixed gap) Came·is.Fixed (cond (weightTest 
 -- what comes of trying the gap on a side
 abbrev pub cameOn : Side → GapsSeen → Span → Came
 cameOn side seen s = came seen (gapOutside side s) (grownBy side seen s)
+
+-- a region with the heaviest weight that it meets
+abbrev pub grownOf : GapsSeen → Span → Grown
+grownOf seen s = record { left = s .left; right = s .right; weight = s .weight; insts = s .insts; heaviest = heaviestIn seen s }
+
+-- a try on a side of a region: the gap, the region with it and the heaviest weight that this meets, its normalised weight, and what came of it
+abbrev pub tried : Side → GapsSeen → Span → Tried
+tried side seen s =
+    record {
+      side = side;
+      gap = gapOutside side s;
+      region = grownOf seen (grownBy side seen s);
+      normalised = normalisedOf seen (grownBy side seen s);
+      came = cameOn side seen s;
+    }
+
+-- the try of the own gap, from a region of no gap
+abbrev pub ownTried : GapsSeen → Tried
+ownTried seen =
+    record {
+      side = Next;
+      gap = seen .own;
+      region = grownOf seen (ownSpan seen);
+      normalised = normalisedOf seen (ownSpan seen);
+      came = came seen (seen .own) (ownSpan seen);
+    }
 
 -- growth after a try on a side, by what came of it: it grows by the gap there, or the side is barred
 abbrev pub afterCame : Came → Side → GapsSeen → State → State

@@ -256,18 +256,29 @@ fn no_use() -> Use
     }
 }
 
+// A segment's flags: its value leaves it alive; its first use is a fixed def before its start.
+pub(crate) fn live_out(flags: u32) -> bool
+    ensures { λ r. ⌜ r ≡ liveOut flags ⌝ }
+{
+    flags / 2 % 2 == 1
+}
+
+pub(crate) fn fixed_def(flags: u32) -> bool
+    ensures { λ r. ⌜ r ≡ fixedDef flags ⌝ }
+{
+    flags / 8 % 2 == 1
+}
+
 impl Segment {
-    // The value leaves the segment alive.
     pub fn has_liveout(self) -> bool
         ensures { λ r. ⌜ r ≡ liveOut (self .flags) ⌝ }
     {
-        self.flags / 2 % 2 == 1
+        live_out(self.flags)
     }
 
-    // The segment's first use is a fixed def before its start.
     pub fn has_fixeddef(self) -> bool
         ensures { λ r. ⌜ r ≡ fixedDef (self .flags) ⌝ }
     {
-        self.flags / 8 % 2 == 1
+        fixed_def(self.flags)
     }
 }

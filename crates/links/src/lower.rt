@@ -114,8 +114,15 @@ pub fn link_at(links: &[u32], b: Block) -> MaybeBlock
 pub fn reaches(side: Side, last: Block, b: Block) -> bool
     ensures { λ r. ⌜ r ≡ reaches side (last .0) (b .0) ⌝ }
 {
+    not_past(side, last.0, b.0)
+}
+
+// A number that does not pass a limit.
+pub(crate) fn not_past(side: Side, limit: u32, n: u32) -> bool
+    ensures { λ r. ⌜ r ≡ reaches side limit n ⌝ }
+{
     match side {
-        Side::Previous => last.0 <= b.0,
-        Side::Next => b.0 <= last.0,
+        Side::Previous => limit <= n,
+        Side::Next => n <= limit,
     }
 }

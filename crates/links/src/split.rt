@@ -20,10 +20,7 @@ pub enum SplitPoint {
 fn reaches(side: Side, limit: Inst, place: Inst) -> bool
     ensures { λ r. ⌜ r ≡ reaches side (limit .0) (place .0) ⌝ }
 {
-    match side {
-        Side::Previous => limit.0 <= place.0,
-        Side::Next => place.0 <= limit.0,
-    }
+    lower::not_past(side, limit.0, place.0)
 }
 
 // The last place that lower links reach from block b without passing the limit, or `start`. One sweep finds the lower blocks: a

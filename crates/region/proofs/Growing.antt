@@ -29,8 +29,8 @@ use Rattle.walks.specs.Gaps.{segmentsOfGap, heaviestInGap, OrderedGaps, GapsFro
 use Rattle.overlaps.specs.GapSegments.{SegmentColumns}
 use Rattle.walks.proofs.GapWalk.{begins, gaps-found}
 use Rattle.walks.proofs.Sets.{all-weights}
-use Rattle.growth.specs.Growth.{GapsSeen, gapsIn, weightsIn, growth, isOpen}
-use Rattle.growth.specs.Columns.{numberAt, floatAt, spanOf, stateOf, InsideGaps, CountFits, turnOf, tried, ownTried, grownWith, triedWith, noGrowth}
+use Rattle.growth.specs.Growth.{GapsSeen, gapsIn, weightsIn, growth, isOpen, tried, ownTried}
+use Rattle.growth.specs.Columns.{numberAt, floatAt, spanOf, stateOf, InsideGaps, CountFits, turnOf, grownWith, triedWith, noGrowth}
 use Rattle.growth.specs.Columns.{afterWith, afterTried, Going}
 use Rattle.growth.specs.Proposal.{regionOf}
 use Rattle.growth.specs.declared.proposal.Region.the-variants.{Nothing}
