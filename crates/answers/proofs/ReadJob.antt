@@ -1,12 +1,11 @@
 -- The job of the cells is that of the sheet that was read into them
-use Prim.Native.Nat.{ℕ, _≤_, _<_}
-use mathlib.Core.Path.{_≡_, refl, sym, ap, _∙_, subst⁻¹}
+use Prim.Native.Nat.{ℕ}
+use mathlib.Core.Path.{_≡_, refl, sym, ap, _∙_}
 use native.Mathlib.Omega.{arith}
 use mathlib.Core.List.{List}
 use lib.ListN.{length, getD}
-use Rattle.sheet.specs.Kinds.{kinds}
 use Rattle.sheet.specs.Refusal.{sheetOf}
-use Rattle.sheet.specs.Cells.{cellCount, cellsAfter, Read}
+use Rattle.sheet.specs.Cells.{cellsAfter, Read}
 use Rattle.sheet.specs.declared.check.Verdict.{Verdict}
 use Rattle.sheet.specs.declared.check.Verdict.the-variants.{Sound}
 use Rattle.sheet.proofs.SoundLaws.{sound-sheet}

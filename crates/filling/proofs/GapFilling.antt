@@ -1,17 +1,17 @@
 -- The gap table and the gap segments, filled one after the other
 use mathlib.Core.Path.{_≡_, refl, sym, ap, ap₂, _∙_, subst}
 use mathlib.Core.List.{List, [], _∷_, map}
-use Prim.Native.Nat.{ℕ, zero, suc, _+_, _≤_, _<_}
-use native.Mathlib.Nat.{le-trans, le-of-eq, not-suc-le-zero, le-of-suc-le-suc}
+use Prim.Native.Nat.{ℕ, zero, suc, _≤_, _<_}
+use native.Mathlib.Nat.{le-trans, le-of-eq, le-of-suc-le-suc}
 use native.Mathlib.Omega.{arith}
 use lib.ListN.{length, getD, take, length-map}
 use Rattle.columns.specs.Table.{filled}
 use Rattle.columns.proofs.Tables.{table-length}
-use Rattle.overlaps.specs.Live.{liveInGap, liveColumn, Gaps, Uncounted}
-use Rattle.overlaps.specs.GapSegments.{Overlap, gapSegments, SegmentColumns, segmentColumns, SegmentRoom, Filled}
+use Rattle.overlaps.specs.Live.{liveInGap, liveColumn, Uncounted}
+use Rattle.overlaps.specs.GapSegments.{Overlap, gapSegments, segmentColumns, SegmentRoom, Filled}
 use Rattle.gaps.specs.Gaps.{Gap}
 use Rattle.gaps.specs.GapColumns.{GapColumns, gapColumns, GapsHeld}
-use Rattle.filling.specs.GapTables.{fromsOf, tosOf, livesOf, gapSegmentsOf, GapTables, lentTables, GapRoom, GapsFilled}
+use Rattle.filling.specs.GapTables.{fromsOf, tosOf, livesOf, GapTables, lentTables, GapRoom, GapsFilled}
 use Rattle.columns.proofs.Fillings.{filled-cut, filled-long, filled-again, filled-at}
 
 module _ (gaps : List Gap) (starts ends values : List ℕ) (lent : GapTables) (room : GapRoom gaps starts ends values lent) (now : GapColumns) (live : List ℕ)

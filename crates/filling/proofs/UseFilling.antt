@@ -1,18 +1,16 @@
 -- The use table as it is filled: its main weights, and the scales that bits give
-use mathlib.Core.Path.{_≡_, sym, ap, subst}
-use mathlib.Core.List.{List, map}
+use mathlib.Core.Path.{sym, ap, subst}
+use mathlib.Core.List.{map}
 use Prim.Native.Nat.{ℕ, _+_, _≤_}
 use native.Mathlib.Omega.{arith}
 use lib.ListN.{length, length-map}
 use Rattle.numbers.specs.declared.costs.RematScales.{RematScales}
-use Rattle.numbers.specs.Weight.{costLimit, valueOf}
 use Rattle.numbers.proofs.UseCosts.{Scales, value-cost}
 use Rattle.use_rows.specs.Uses.{Source, useTableOf}
 use Rattle.use_rows.specs.UseColumns.{UseColumns, Inside, Holds}
 use Rattle.use_rows.specs.declared.row.SplitUse.{SplitUse}
 use Rattle.uses.proofs.UseTable.{use-table-few}
 use Rattle.filling.specs.UseTables.{FromBits}
-use Rattle.numbers.specs.Cost.{scalesOf}
 use Rattle.columns.proofs.Fillings.{filled-long}
 
 pub scales-of : (scales : RematScales) → FromBits scales → Scales scales

@@ -6,8 +6,8 @@ use mathlib.Core.List.{List, [], _∷_, _++_, map}
 use Prim.Native.Nat.{ℕ, zero, suc, _+_, _-_, _≤_, _<_, zero-le}
 use native.Mathlib.Nat.{le-refl, le-trans, le-of-eq, lt-of-lt-of-le}
 use native.Mathlib.Omega.{arith}
-use mathlib.Core.Bool.{Bool, true, false, _&&_, cond, true≢false}
-use lib.Dec.{leb, ltb, lit≤}
+use mathlib.Core.Bool.{Bool, true, false, _&&_, true≢false}
+use lib.Dec.{ltb, lit≤}
 use lib.Ieee.{Float, lt}
 use lib.ListN.{length, getD, length-map}
 use borrow.Author.Tests.{ltb-true, lt-ltb, le-ltb, leb-true, leb-false}
@@ -15,14 +15,14 @@ use lib.Ieee.Bits.{is-true, is-false}
 use Rattle.numbers.specs.Weight.{finite, unitsOf, zeroWeight, frequencyLimit, valueOf}
 use Rattle.numbers.proofs.Units.{units-order}
 use Rattle.numbers.proofs.Bits.{value-finite}
-use Rattle.columns.proofs.Tests.{cond-true, cond-false, cond-both}
-use Rattle.links.specs.Blocks.{BlockRow, noBlock, blockAt, blockOf, startOf, itemLimit, SoundBlocks}
+use Rattle.columns.proofs.Tests.{cond-both}
+use Rattle.links.specs.Blocks.{BlockRow, blockAt, blockOf, startOf, SoundBlocks}
 use Rattle.links.specs.Links.{absent, beside, isLower, lowerLink, LiesBeyond, onSide}
 use Rattle.links.specs.Split.{follow, edge, preferred, home, reaches}
 use Rattle.links.specs.declared.lower.Side.{Side}
 use Rattle.links.specs.declared.lower.Side.the-variants.{Previous, Next}
 use Rattle.columns.proofs.Firsts.{split}
-use Rattle.links.proofs.Linking.{IsLink, link-nearest}
+use Rattle.links.proofs.Linking.{link-nearest}
 use Rattle.links.proofs.Following.{fuel-left}
 use Rattle.links.proofs.Rows.{row-good, ends-rise, firsts-rise}
 use Rattle.links.proofs.Columns.{last-end}

@@ -1,24 +1,23 @@
 -- Following stored links: one cut more, none left, how many there can be
 use mathlib.Core.Path.{_≡_, refl, sym, ap, _∙_, subst}
-use mathlib.Core.Logic.{_⊎_, inl, inr, ⊎-elim}
+use mathlib.Core.Logic.{⊎-elim}
 use mathlib.Core.List.{List, [], _∷_}
-use Prim.Native.Nat.{ℕ, zero, suc, _+_, _-_, _≤_, _<_, zero-le}
+use Prim.Native.Nat.{ℕ, zero, suc, _≤_, _<_, zero-le}
 use native.Mathlib.Nat.{le-refl}
 use native.Mathlib.Omega.{arith}
 use mathlib.Core.Bool.{Bool, true, false, _&&_, cond, true≢false}
 use lib.Dec.{ltb, eqb}
 use lib.ListN.{length, getD}
-use borrow.Author.Tests.{lt-ltb, le-ltb, ltb-true, eq-eqb, ne-eqb, eqb-true, eqb-false}
+use borrow.Author.Tests.{lt-ltb, le-ltb, ltb-true, eqb-true, eqb-false}
 use Rattle.numbers.specs.declared.MaybeBlock.{MaybeBlock}
 use Rattle.numbers.specs.declared.MaybeBlock.the-variants.{At, Absent}
 use Rattle.columns.proofs.Tests.{cond-true, cond-false, cond-both}
-use Rattle.links.specs.Blocks.{itemLimit}
 use Rattle.links.specs.Links.{absent, linkAnswer, beside, LiesBeyond}
 use Rattle.links.specs.Split.{reaches}
 use Rattle.links.specs.declared.lower.Side.{Side}
 use Rattle.links.specs.declared.lower.Side.the-variants.{Previous, Next}
 use Rattle.links.proofs.Following.{fuel-left}
-use Rattle.gaps.specs.Cutting.{Leads, followed, cutsIn}
+use Rattle.gaps.specs.Cutting.{Leads, followed}
 
 -- the block at whose edge the next cut stands: a link, as long as it does not lead beyond the last block
 unfoldable pub nextCut : Side → List ℕ → ℕ → ℕ → MaybeBlock

@@ -1,23 +1,19 @@
 -- The gaps of a use table: they follow one another from the first instruction to the last, each carries the least frequency it meets, and
 -- there are at most as many as uses and blocks together
-use mathlib.Core.Path.{_≡_, refl, sym, ap, _∙_, subst}
-use mathlib.Core.List.{List, [], _∷_, _++_}
+use mathlib.Core.Path.{_≡_, refl, ap, subst}
+use mathlib.Core.List.{List, _∷_}
 use Prim.Native.Nat.{ℕ, zero, suc, _+_, _-_, _≤_, _<_}
-use native.Mathlib.Nat.{le-refl}
 use native.Mathlib.Omega.{arith}
-use lib.Ieee.{lt}
 use lib.ListN.{length, length-append}
 use Rattle.links.specs.Blocks.{BlockRow, blockOf, startOf, endLimit, SoundBlocks}
 use Rattle.links.proofs.Rows.{row-good}
 use Rattle.links.proofs.Columns.{last-end}
 use Rattle.overlaps.specs.Live.{Gaps}
-use Rattle.links.specs.declared.lower.Side.{Side}
 use Rattle.links.specs.declared.lower.Side.the-variants.{Previous, Next}
-use Rattle.use_rows.specs.Uses.{frequencyAt}
 use Rattle.columns.specs.Below.{joined}
 use Rattle.use_rows.specs.declared.row.SplitUse.{SplitUse}
 use Rattle.gaps.specs.Gaps.{Gap, gapsBetween, ownGap, useOf, gapsOn, gapsOf}
-use Rattle.gaps.proofs.Homes.{home-of, blocks-rise}
+use Rattle.gaps.proofs.Homes.{home-of}
 use Rattle.gaps.proofs.Runs.{Run, run-append, run-joined, fromsOf, tosOf, run-gaps}
 use Rattle.gaps.proofs.Chains.{Each, each-append, Least, between-run, between-least, between-few, own-least}
 

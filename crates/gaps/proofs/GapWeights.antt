@@ -1,8 +1,6 @@
 -- The weights and frequencies of gaps are weights
-use mathlib.Core.Path.{_≡_, refl}
-use mathlib.Core.List.{List, [], _∷_, _++_}
-use Prim.Native.Nat.{ℕ, zero, suc, _+_, _-_, _<_}
-use native.Mathlib.Omega.{arith}
+use mathlib.Core.List.{List, [], _∷_}
+use Prim.Native.Nat.{ℕ, _+_, _-_}
 use lib.Dec.{lit≤}
 use lib.Ieee.{Float}
 use lib.ListN.{length}
@@ -16,7 +14,6 @@ use Rattle.links.specs.declared.lower.Side.{Side}
 use Rattle.links.specs.declared.lower.Side.the-variants.{Previous, Next}
 use Rattle.use_rows.specs.Uses.{frequencyAt}
 use Rattle.use_rows.specs.declared.row.SplitUse.{SplitUse}
-use Rattle.links.specs.Links.{onSide}
 use Rattle.gaps.specs.Gaps.{Gap, gapWeight, near, far, nearWeight, farWeights, farEnd, spanned, cutGaps, frequencyOf, cuts, gapsBetween, ownGap, useOf}
 use Rattle.gaps.specs.Gaps.{gapsOn, gapsOf}
 use Rattle.numbers.specs.Sum.{plus}

@@ -1,6 +1,6 @@
 -- The gaps that the columns give are the gaps of the block list: links, blocks, edges and frequencies are the same
 use mathlib.Core.Path.{_≡_, refl, sym, ap, ap₂, _∙_, subst, fun-ext}
-use mathlib.Core.Logic.{_⊎_, inl, inr, ⊎-elim}
+use mathlib.Core.Logic.{inl, inr, ⊎-elim}
 use mathlib.Core.List.{List, [], _∷_, _++_, map}
 use Prim.Native.Nat.{ℕ, zero, suc, _+_, _-_, _≤_, _<_}
 use native.Mathlib.Nat.{le-trans, le-of-eq, lt-of-lt-of-le}
@@ -11,9 +11,8 @@ use lib.Ieee.{Float}
 use lib.ListN.{length, getD}
 use borrow.Author.Tests.{ltb-true}
 use Rattle.numbers.specs.Weight.{frequencyLimit, valueOf}
-use Rattle.columns.specs.Table.{table}
-use Rattle.links.specs.Blocks.{BlockRow, blocksOf, blockAt, blockOf, startOf, itemLimit, Ends, SoundColumns}
-use Rattle.links.specs.Links.{absent, lowerLink, linkColumn, LiesBeyond, onSide}
+use Rattle.links.specs.Blocks.{BlockRow, blocksOf, blockAt, itemLimit, Ends, SoundColumns}
+use Rattle.links.specs.Links.{lowerLink, linkColumn, onSide}
 use Rattle.links.specs.Split.{follow, edge, preferred, home, reaches}
 use Rattle.links.specs.declared.lower.Side.{Side}
 use Rattle.links.specs.declared.lower.Side.the-variants.{Previous, Next}
@@ -25,12 +24,12 @@ use Rattle.use_rows.specs.Uses.{noWeights, frequencyAt}
 use Rattle.use_rows.specs.UseColumns.{UseColumns, Inside, useIn}
 use Rattle.columns.specs.Below.{joined}
 use Rattle.use_rows.specs.declared.row.SplitUse.{SplitUse}
-use Rattle.gaps.specs.Gaps.{Gap, near, far, nearWeight, farWeights, farEnd, cutGaps, frequencyOf, cuts, gapsBetween, ownGap, useOf, gapsOn, usesIn}
+use Rattle.gaps.specs.Gaps.{near, far, nearWeight, farWeights, farEnd, cutGaps, frequencyOf, cuts, gapsBetween, ownGap, useOf, gapsOn, usesIn}
 use Rattle.gaps.specs.Gaps.{Cuttable}
 use Rattle.gaps.proofs.Cuts.{and-parts}
 use Rattle.gaps.proofs.Sides.{space-inside}
 use Rattle.gaps.proofs.GapTable.{Rising}
-use Rattle.gaps.specs.Cutting.{blockIn, spaceOf, Leads, followed, cutsIn, freqIn, spaceGaps, sideGaps, ownIn, Alike, Ordered, InOrder}
+use Rattle.gaps.specs.Cutting.{blockIn, spaceOf, Leads, followed, cutsIn, freqIn, spaceGaps, sideGaps, ownIn, Alike, InOrder}
 
 cond-same : {A : Type 0} (t : Bool) (a b d : A) → (t ≡ true → a ≡ b) → cond t a d ≡ cond t b d
 cond-same true a b d h = h refl

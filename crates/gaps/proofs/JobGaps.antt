@@ -1,12 +1,9 @@
 -- The gaps of a checked job: what they rely on, and that they hold all its live instructions
-use mathlib.Core.Path.{_≡_, refl, sym, ap, ap₂, _∙_, subst}
+use mathlib.Core.Path.{_≡_, refl, sym, ap, _∙_, subst}
 use mathlib.Core.List.{List, [], _∷_, map}
 use Prim.Native.Nat.{ℕ, zero, suc, _+_, _-_, _≤_, _<_, max}
-use native.Mathlib.Nat.{le-trans, le-of-eq}
 use native.Mathlib.Omega.{arith}
-use lib.Ieee.{Float}
 use lib.ListN.{length, getD, length-map}
-use Rattle.numbers.specs.Weight.{zeroWeight}
 use Rattle.numbers.specs.Point.{instOf, roundUp}
 use Rattle.columns.specs.Table.{table, rowBefore}
 use Rattle.links.specs.Blocks.{BlockRow, blocksOf, startOf, SoundBlocks, SoundColumns}
@@ -18,10 +15,10 @@ use Rattle.use_rows.specs.Uses.{Source, noWeights, firstInst, lastInst, useTabl
 use Rattle.use_rows.specs.UseColumns.{UseColumns, useColumns, useIn}
 use Rattle.uses.specs.CheckedUses.{CheckedUses}
 use Rattle.columns.specs.Below.{sumBelow}
-use Rattle.overlaps.specs.Live.{liveFrom, liveTo, liveInGap, liveInsts, Gaps, Reach}
+use Rattle.overlaps.specs.Live.{liveInGap, liveInsts, Gaps, Reach}
 use Rattle.use_rows.specs.declared.row.SplitUse.{SplitUse}
-use Rattle.uses.proofs.UseTable.{instsOf, use-table-some, use-table-first, use-table-last, use-table-rises, use-table-inside, use-table-few}
-use Rattle.uses.proofs.CheckedJob.{first-covers, last-covers, last-in-blocks}
+use Rattle.uses.proofs.UseTable.{instsOf, use-table-first, use-table-last, use-table-rises, use-table-inside, use-table-few}
+use Rattle.uses.proofs.CheckedJob.{first-covers, last-covers}
 use Rattle.overlaps.proofs.LiveTotal.{live-total}
 use Rattle.gaps.specs.Gaps.{Gap, useOf, gapsOf, usesIn, Cuttable}
 use Rattle.gaps.proofs.Runs.{fromsOf, tosOf, run-first, run-last}

@@ -1,7 +1,7 @@
 -- Each counted weight stands in exactly one gap: whatever measures weights, with nothing for zero, the gaps' weights measure what the uses' weights measure
-use mathlib.Core.Path.{_≡_, refl, sym, ap, ap₂, _∙_, subst}
+use mathlib.Core.Path.{_≡_, refl, sym, ap, ap₂, _∙_}
 use mathlib.Core.List.{List, [], _∷_, _++_}
-use Prim.Native.Nat.{ℕ, zero, suc, _+_, _-_, _≤_, _<_}
+use Prim.Native.Nat.{ℕ, zero, suc, _+_, _-_, _<_}
 use native.Mathlib.Omega.{arith}
 use lib.Ieee.{Float}
 use lib.ListN.{length}
@@ -12,7 +12,6 @@ use Rattle.links.specs.declared.lower.Side.{Side}
 use Rattle.links.specs.declared.lower.Side.the-variants.{Previous, Next}
 use Rattle.columns.specs.Below.{sumBelow, joined}
 use Rattle.use_rows.specs.declared.row.SplitUse.{SplitUse}
-use Rattle.links.specs.Links.{onSide}
 use Rattle.gaps.specs.Gaps.{Gap, near, far, nearWeight, farWeights, farEnd, spanned, inOrder, cutGaps, frequencyOf, cuts, gapsBetween, ownGap, useOf}
 use Rattle.gaps.specs.Gaps.{gapsOn, gapsOf}
 

@@ -1,7 +1,7 @@
 -- The gaps between many uses as they are stored: those left, stored into the columns as they are, give what all of them give
 use mathlib.Core.Path.{_≡_, refl, sym, ap, _∙_, subst}
-use mathlib.Core.List.{List, [], _++_}
-use Prim.Native.Nat.{ℕ, _+_, _-_, _≤_, _<_}
+use mathlib.Core.List.{List}
+use Prim.Native.Nat.{ℕ, _+_, _≤_, _<_}
 use native.Mathlib.Omega.{arith}
 use lib.ListN.{length, length-append}
 use Rattle.columns.specs.Table.{storedIn}
@@ -9,7 +9,6 @@ use Rattle.links.specs.Blocks.{Ends}
 use Rattle.links.specs.Split.{home}
 use Rattle.links.specs.declared.lower.Side.{Side}
 use Rattle.links.specs.declared.lower.Side.the-variants.{Previous, Next}
-use Rattle.columns.specs.Below.{joined}
 use Rattle.use_rows.specs.declared.row.SplitUse.{SplitUse}
 use Rattle.links.proofs.Columns.{ends-inside}
 use Rattle.columns.proofs.Joining.{joined-next, fromOn, fromOn-end}

@@ -1,7 +1,7 @@
 -- The gaps of a space as they are stored: what is left, stored into the columns as they are, gives what all of them give
 use mathlib.Core.Path.{_≡_, refl, sym, ap, _∙_, subst}
-use mathlib.Core.List.{List, [], _∷_, _++_}
-use Prim.Native.Nat.{ℕ, zero, suc, _+_, _-_, _≤_, _<_, max}
+use mathlib.Core.List.{List, [], _∷_}
+use Prim.Native.Nat.{ℕ, suc, _+_, _-_, _≤_, _<_, max}
 use native.Mathlib.Omega.{arith}
 use lib.Ieee.{Float, binary32, add}
 use lib.ListN.{length, getD, length-set, length-append}
@@ -11,7 +11,7 @@ use Rattle.numbers.specs.declared.MaybeBlock.the-variants.{At, Absent}
 use Rattle.links.specs.Links.{beside, onSide}
 use Rattle.links.specs.declared.lower.Side.{Side}
 use Rattle.links.specs.declared.lower.Side.the-variants.{Previous, Next}
-use Rattle.gaps.specs.Gaps.{Gap, gapWeight, spanned, inOrder, cutGaps}
+use Rattle.gaps.specs.Gaps.{Gap, spanned, inOrder, cutGaps}
 use Rattle.numbers.specs.Sum.{plus}
 use Rattle.gaps.specs.GapColumns.{GapColumns, withRow, withGap, storedGaps, Rows}
 use Rattle.gaps.specs.Cutting.{Leads, followed, cutsIn, freqIn, spaceGaps, Alike}

@@ -1,15 +1,15 @@
 -- Gaps stored from a row on: in two parts, the last one first; how long the columns stay
-use mathlib.Core.Path.{_≡_, refl, sym, ap, _∙_, subst}
+use mathlib.Core.Path.{_≡_, refl, sym, ap, _∙_}
 use mathlib.Core.List.{List, [], _∷_, _++_, map}
-use Prim.Native.Nat.{ℕ, zero, suc, _+_, _-_, _≤_, _<_}
+use Prim.Native.Nat.{ℕ, suc, _+_, _≤_}
 use native.Mathlib.Omega.{arith}
 use lib.Ieee.{Float}
-use lib.ListN.{length, set, drop, length-set, length-append, length-map}
+use lib.ListN.{length, set, length-set}
 use lib.Seq.{set-comm}
 use Rattle.columns.specs.Table.{table, filled, storedIn}
 use Rattle.columns.proofs.Fillings.{stored-filled}
 use Rattle.gaps.specs.Gaps.{Gap, gapWeight}
-use Rattle.gaps.specs.GapColumns.{GapColumns, gapColumns, withRow, withGap, withNext, storedGaps, Rows, GapsHeld}
+use Rattle.gaps.specs.GapColumns.{GapColumns, withRow, withGap, withNext, storedGaps, Rows, GapsHeld}
 
 -- ---- how long the columns are
 pub rows-with : (n at from to : ℕ) (weight freq : Float) (cols : GapColumns) → Rows n cols → Rows n (withRow cols at from to weight freq)

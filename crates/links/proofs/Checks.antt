@@ -2,19 +2,19 @@
 use mathlib.Core.Path.{_≡_, refl, sym, ap, _∙_, subst}
 use mathlib.Core.Logic.{_⊎_, inl, inr}
 use mathlib.Core.List.{List}
-use Prim.Native.Nat.{ℕ, suc, _≤_, _<_, zero-le}
-use native.Mathlib.Nat.{lt-of-lt-of-le, le-refl}
+use Prim.Native.Nat.{ℕ, _≤_, _<_, zero-le}
+use native.Mathlib.Nat.{lt-of-lt-of-le}
 use native.Mathlib.Omega.{arith}
 use mathlib.Core.Bool.{Bool, true, false, _||_, cond, true≢false}
 use lib.Dec.{ltb, eqb}
 use lib.ListN.{length}
-use borrow.Author.Tests.{lt-ltb, le-ltb, ltb-true, ltb-false, eqb-true, eqb-false, ne-eqb}
+use borrow.Author.Tests.{lt-ltb, ltb-true, ltb-false, eqb-true, eqb-false}
 use Rattle.columns.specs.First.{firstBelow, FirstIn}
 use Rattle.links.specs.Blocks.{BlockRow, badBlock, itemLimit, refusal, checkOf, SoundBlocks}
 use Rattle.links.specs.declared.blocks.Refusal.{Refusal}
 use Rattle.links.specs.declared.blocks.Checked.{Checked}
 use Rattle.links.specs.declared.blocks.Checked.the-variants.{Sound, Refused}
-use Rattle.columns.proofs.Firsts.{split, first-in, first-is}
+use Rattle.columns.proofs.Firsts.{split, first-in}
 
 -- line 2: no block, or more than 4,096
 abbrev pub Broken2 : List BlockRow → Type 0

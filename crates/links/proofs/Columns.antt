@@ -1,20 +1,18 @@
 -- The columns of a block list: those of one length are the list's own; a sound list's columns serve the search; a part as long as the list holds the same list
-use mathlib.Core.Path.{_≡_, refl, sym, ap, _∙_, subst, fun-ext}
+use mathlib.Core.Path.{_≡_, sym, ap, _∙_, subst, fun-ext}
 use mathlib.Core.Logic.{⊎-elim}
 use mathlib.Core.List.{List, map}
 use Prim.Native.Nat.{ℕ, zero, suc, _+_, _-_, _≤_, _<_, zero-le, min}
-use native.Mathlib.Nat.{le-refl, le-trans, le-of-eq, lt-of-lt-of-le, lt-of-le-of-lt, not-suc-le-zero}
+use native.Mathlib.Nat.{le-trans, le-of-eq, lt-of-lt-of-le, lt-of-le-of-lt, not-suc-le-zero}
 use native.Mathlib.Omega.{arith}
-use mathlib.Core.Bool.{Bool, true, false, cond}
-use lib.Dec.{ltb, eqb}
+use lib.Dec.{ltb}
 use lib.ListN.{length, getD, take, List·getD-eq-default}
 use lib.Seq.{getD-take, length-take-le}
 use borrow.Author.Tests.{lt-ltb, eq-eqb, ne-eqb}
-use Rattle.numbers.specs.Weight.{frequencyLimit}
 use Rattle.columns.proofs.Tests.{cond-true, cond-false}
-use Rattle.columns.specs.First.{firstBelow, Searchable}
+use Rattle.columns.specs.First.{firstBelow}
 use Rattle.columns.specs.Table.{table}
-use Rattle.links.specs.Blocks.{BlockRow, noBlock, blocksOf, blockAt, startOf, itemLimit, endLimit, SoundBlocks, SoundColumns, blockOf, Ends}
+use Rattle.links.specs.Blocks.{BlockRow, noBlock, blocksOf, blockAt, startOf, endLimit, SoundBlocks, SoundColumns, blockOf, Ends}
 use Rattle.links.specs.Links.{Frequencies}
 use Rattle.links.specs.Split.{follow, lastOr, edge, preferred, home, farthest, reaches, splitPoint, Swept, lastReached, Between}
 use Rattle.links.specs.declared.lower.Side.{Side}

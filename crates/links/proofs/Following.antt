@@ -3,10 +3,10 @@ use mathlib.Core.Path.{_≡_, refl, sym, ap, _∙_, subst}
 use mathlib.Core.Logic.{_⊎_, inl, inr, ⊎-elim}
 use mathlib.Core.List.{List, [], _∷_, map}
 use Prim.Native.Nat.{ℕ, zero, suc, _+_, _-_, _≤_, _<_}
-use native.Mathlib.Nat.{le-trans, le-refl, le-of-eq, lt-of-lt-of-le, lt-of-le-of-lt, not-le-of-lt, not-suc-le-zero, le-of-suc-le-suc}
+use native.Mathlib.Nat.{le-refl, lt-of-lt-of-le, lt-of-le-of-lt, not-le-of-lt, not-suc-le-zero}
 use native.Mathlib.Omega.{arith}
 use mathlib.Core.Bool.{Bool, true, false, _&&_, cond, true≢false}
-use lib.Dec.{ltb, leb}
+use lib.Dec.{ltb}
 use lib.ListN.{length, getD}
 use borrow.Author.Tests.{lt-ltb, ltb-true, leb-false, lt-leb}
 use Rattle.links.specs.Links.{beside, beyond, absent, isLower, lowerLink, LiesBeyond}
@@ -14,7 +14,7 @@ use Rattle.links.specs.Split.{follow, lastOr, reaches, lastReached}
 use Rattle.links.specs.declared.lower.Side.{Side}
 use Rattle.links.specs.declared.lower.Side.the-variants.{Previous, Next}
 use Rattle.columns.proofs.Firsts.{split}
-use Rattle.links.proofs.Linking.{apart, not-itself, beyond-further, beyond-inside, beyond-beyond, Distance, distance, nearer, lower-through, lower-less}
+use Rattle.links.proofs.Linking.{beyond-further, beyond-inside, beyond-beyond, Distance, distance, nearer}
 use Rattle.links.proofs.Linking.{IsLink, link-nearest, link-is}
 
 -- ---- one link

@@ -1,16 +1,15 @@
 -- Lower links: the nearest block of strictly lower frequency on its side, and no other; absent exactly if none is lower. Every law takes the side
-use mathlib.Core.Path.{_≡_, refl, sym, ap, _∙_, subst}
+use mathlib.Core.Path.{_≡_, refl, sym, _∙_, subst}
 use mathlib.Core.Logic.{_⊎_, inl, inr, ⊎-elim}
 use mathlib.Core.List.{List}
-use Prim.Native.Nat.{ℕ, zero, suc, _+_, _-_, _≤_, _<_, zero-le}
-use native.Mathlib.Nat.{le-trans, le-of-eq, lt-of-lt-of-le, lt-irrefl, not-le-of-lt, le-of-suc-le-suc, not-suc-le-zero}
+use Prim.Native.Nat.{ℕ, suc, _+_, _-_, _≤_, _<_, zero-le}
+use native.Mathlib.Nat.{le-trans, lt-of-lt-of-le, lt-irrefl, not-le-of-lt}
 use native.Mathlib.Omega.{arith}
-use mathlib.Core.Bool.{Bool, true, false, not, cond, true≢false}
-use lib.Dec.{T, ltb, ltb→lt, nltb→le, lit≤}
+use mathlib.Core.Bool.{Bool, true, false, cond, true≢false}
+use lib.Dec.{ltb, ltb→lt, nltb→le, lit≤}
 use lib.ListN.{length, getD}
-use lib.Ieee.{lt}
 use borrow.Author.Tests.{ltb-true, ltb-false, lt-ltb, le-ltb}
-use Rattle.numbers.specs.Weight.{finite, unitsOf, frequencyLimit, weightLimit, valueOf}
+use Rattle.numbers.specs.Weight.{finite, unitsOf, frequencyLimit, valueOf}
 use Rattle.columns.proofs.Tests.{cond-both}
 use Rattle.numbers.proofs.Units.{units-order}
 use Rattle.numbers.proofs.Bits.{value-finite, value-order}

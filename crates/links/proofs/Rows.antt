@@ -1,17 +1,17 @@
 -- The rows of a block list, column by column; what a sound list's rows satisfy; and the block that holds an instruction
-use mathlib.Core.Path.{_≡_, refl, sym, ap, _∙_, subst}
-use mathlib.Core.Logic.{_⊎_, inl, inr}
-use mathlib.Core.List.{List, [], _∷_, map}
-use Prim.Native.Nat.{ℕ, zero, suc, _+_, _-_, _≤_, _<_, min, zero-le, suc-le-suc}
-use native.Mathlib.Nat.{le-refl, le-trans, le-of-lt, le-of-eq, lt-of-lt-of-le, lt-of-le-of-lt, le-of-suc-le-suc, not-suc-le-zero, not-le-of-lt}
+use mathlib.Core.Path.{_≡_, refl, sym, ap, _∙_}
+use mathlib.Core.Logic.{inl, inr}
+use mathlib.Core.List.{List}
+use Prim.Native.Nat.{ℕ, zero, suc, _+_, _≤_, _<_, min, zero-le}
+use native.Mathlib.Nat.{le-refl, le-trans, le-of-lt, le-of-eq, lt-of-lt-of-le, lt-of-le-of-lt, le-of-suc-le-suc}
 use native.Mathlib.Numerals.{add-one}
 use native.Mathlib.Omega.{arith}
-use mathlib.Core.Bool.{Bool, true, false, not, _&&_, _||_, cond}
-use lib.Dec.{T, leb, ltb, eqb}
-use lib.ListN.{length, getD, take}
-use borrow.Author.Tests.{ltb-false, leb-false, eqb-true, not-false, lt-ltb, le-ltb, le-leb, lt-leb}
+use mathlib.Core.Bool.{Bool, true, false, not, _&&_, _||_}
+use lib.Dec.{leb, ltb, eqb}
+use lib.ListN.{length, getD}
+use borrow.Author.Tests.{ltb-false, leb-false, eqb-true, not-false, le-leb}
 use Rattle.numbers.specs.Weight.{frequencyLimit}
-use Rattle.columns.specs.First.{firstBelow, FirstIn, Searchable}
+use Rattle.columns.specs.First.{firstBelow}
 use Rattle.links.specs.Blocks.{BlockRow, noBlock, blocksOf, blockAt, startOf, endLimit, isBad, badBlock, SoundBlocks, holds, blockOf}
 use Rattle.columns.proofs.Firsts.{split, first-in, first-is}
 use Rattle.columns.proofs.Tables.{table-length, table-at}

@@ -9,7 +9,6 @@ use Rattle.links.specs.Blocks.{BlockRow, blocksOf, blockAt, startOf, blo
 use Rattle.links.specs.Links.{lowerLink, Frequencies}
 use Rattle.links.specs.declared.lower.Side.{Side}
 use Rattle.links.specs.declared.lower.Side.the-variants.{Previous, Next}
-use Rattle.links.specs.declared.blocks.Refusal.{Refusal}
 use Rattle.links.specs.declared.blocks.Checked.{Checked}
 use Rattle.links.specs.declared.blocks.Checked.the-variants as Checked·is
 use Rattle.links.specs.declared.split.SplitPoint.{SplitPoint}

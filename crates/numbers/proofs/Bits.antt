@@ -4,16 +4,16 @@ use mathlib.Core.Logic.{_⊎_, inl, inr}
 use Prim.Native.Nat.{ℕ, zero, suc, _+_, _-_, _*_, _/_, _%_, _^_, _≤_, _<_}
 use native.Mathlib.Nat.{le-refl, le-trans, le-of-eq, le-of-lt, le-of-suc-le-suc, lt-of-lt-of-le, lt-of-le-of-lt, lt-of-not-le, not-le-of-lt, not-suc-le-zero}
 use native.Mathlib.Nat.{mod-eq-of-lt, mod-lt, mul-one, suc-inj, div-add-mod', mul-le-mul, mul-lt-mul-of-pos-right, pow-suc, eq-or-lt-of-le, add-assoc}
-use native.Mathlib.Decide.{decLe, decLt}
+use native.Mathlib.Decide.{decLt}
 use native.Mathlib.Omega.{arith}
 use mathlib.Core.Bool.{Bool, true, false, not, cond}
-use lib.Dec.{T, leb, ltb, eqb, leb→le, lt→ltb, ltb→lt, lit≤, lit<, eqb→eq}
+use lib.Dec.{T, leb, ltb, eqb, leb→le, lit≤, lit<, eqb→eq}
 use lib.Pow.{pow-pos, pow-mono}
 use lib.Ieee.{Float, nan, inf, fin, binary32, up, down, odd, size, fits, lt, isNan, nanBits, ofFields, ofBits, toBits}
 use lib.Ieee.Digits.{size-le}
 use lib.Ieee.Exact.{odd-sign}
 use lib.Ieee.Fits.{kept-lt}
-use lib.Ieee.Bits.{is-true, is-false, ofBits-fits, ofBits-toBits, toBits-ofBits, nanBits-is}
+use lib.Ieee.Bits.{ofBits-fits, ofBits-toBits, toBits-ofBits, nanBits-is}
 use borrow.Author.Tests.{lt-leb, le-leb, eq-eqb}
 use Rattle.numbers.specs.Weight.{Finite, number, Weight, infinite, finite, infiniteUnits, unitsOf, zeroWeight, weightLimit, frequencyLimit, valueFrom}
 use Rattle.numbers.specs.Weight.{valueOf, bitsFrom, bitsShown}

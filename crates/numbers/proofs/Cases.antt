@@ -2,9 +2,8 @@
 use mathlib.Core.Path.{_≡_, refl}
 use Prim.Native.Nat.{ℕ, _*_, _-_, _^_}
 use mathlib.Core.Bool.{Bool, true, false}
-use mathlib.Core.List.{List, [], _∷_, map}
-use lib.IntN.{pos}
-use lib.Ieee.{Float, nan, inf, fin, binary32, toBits, ofBits, add, sub, mul, div, round, lt, ofInt}
+use mathlib.Core.List.{[], _∷_, map}
+use lib.Ieee.{Float, binary32, toBits, ofBits, sub, mul, div, round, lt, ofInt}
 use Rattle.numbers.specs.Weight.{unitsOf, weightLimit, valueOf}
 use Rattle.numbers.specs.Cost.{reloadCost, moveCost, spillCost}
 use Rattle.numbers.specs.Normal.{normalised, fraction, exceeds}

@@ -1,17 +1,16 @@
 -- Chains of weights rise strictly, hold no weight twice, and at numerators up to 2007 have at most 9,495 members above zero
-use mathlib.Core.Path.{_≡_, refl, sym, ap, _∙_, subst, subst₂}
+use mathlib.Core.Path.{_≡_, sym, ap, _∙_}
 use mathlib.Core.List.{List, [], _∷_}
-use Prim.Native.Nat.{ℕ, zero, suc, _+_, _-_, _*_, _^_, _≤_, _<_, zero-le, suc-le-suc}
-use native.Mathlib.Nat.{le-refl, le-trans, le-of-eq, le-of-lt, le-antisymm, lt-of-lt-of-le, lt-of-le-of-lt, lt-of-not-le, not-le-of-lt, lt-irrefl, lt-trans}
+use Prim.Native.Nat.{ℕ, zero, suc, _+_, _-_, _*_, _^_, _≤_, _<_, suc-le-suc}
+use native.Mathlib.Nat.{le-trans, le-of-eq, le-of-lt, le-antisymm, lt-of-not-le, not-le-of-lt, lt-trans}
 use native.Mathlib.Nat.{le-of-suc-le-suc, not-suc-le-zero, one-mul, mul-comm, mul-assoc, mul-left-comm, mul-le-mul, mul-le-mul-left, mul-le-mul-right}
 use native.Mathlib.Nat.{mul-lt-mul-of-pos-right, pow-zero, pow-suc, pow-le-pow-left, one-le-pow}
 use native.Mathlib.Omega.{arith}
-use lib.Dec.{T, lit≤, lit<}
+use lib.Dec.{lit≤, lit<}
 use lib.Pow.{pow-add}
 use lib.ListN.{length, getD}
 use lib.Ieee.{Float, nan}
 use Rattle.numbers.specs.Weight.{Finite, finite, infiniteUnits, unitsOf}
-use Rattle.numbers.specs.Normal.{exceeds}
 use Rattle.numbers.specs.Chain.{ChainFrom, Chain, longest}
 use Rattle.numbers.proofs.Units.{units-below}
 use Rattle.numbers.proofs.Normalised.{exceeds-exact, exceeds-rises, exceeds-above-zero}

@@ -1,13 +1,12 @@
 -- The H figure from a weight's bits: the ceiling from exponent 150 on, and below that the digits times 1000, shifted
-use mathlib.Core.Path.{_≡_, refl, sym, ap, _∙_, subst}
+use mathlib.Core.Path.{_≡_, sym, ap, _∙_}
 use Prim.Native.Nat.{ℕ, zero, suc, _+_, _-_, _*_, _/_, _%_, _^_, _≤_, _<_, min}
 use native.Mathlib.Nat.{le-refl, le-trans, le-of-eq, lt-of-lt-of-le, not-suc-le-zero, le-of-suc-le-suc, mul-le-mul, mul-right-comm, mul-div-mul-right}
 use native.Mathlib.Nat.{div-lt-iff-lt-mul, le-div-iff-mul-le, one-mul}
 use native.Mathlib.Omega.{arith}
 use lib.Dec.{lit≤}
 use lib.Pow.{pow-add, pow-pos, pow-mono}
-use lib.Ieee.{binary32, ofBits}
-use Rattle.numbers.specs.Weight.{unitsOf, zeroWeight, weightLimit, valueOf}
+use Rattle.numbers.specs.Weight.{unitsOf, weightLimit, valueOf}
 use Rattle.numbers.specs.Figure.{figure, ceiling}
 use Rattle.numbers.proofs.Bits.{fieldUnits, bits-units, value-is, value-beyond}
 

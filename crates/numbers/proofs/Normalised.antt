@@ -1,14 +1,13 @@
 -- The normalised weight is finite, and the weight test gives the exact inequality over units
 use mathlib.Core.Path.{_≡_, refl, sym, ap, _∙_, subst, subst₂}
-use Prim.Native.Nat.{ℕ, suc, _+_, _*_, _^_, _≤_, _<_, zero-le}
-use native.Mathlib.Nat.{le-trans, le-of-eq, lt-of-lt-of-le, lt-of-le-of-lt, mul-comm, mul-assoc, mul-left-comm, mul-right-comm, mul-one, mul-pos}
-use native.Mathlib.Nat.{mul-lt-mul-of-pos-right, mul-le-mul-right, lt-of-mul-lt-mul-right}
-use native.Mathlib.Omega.{arith}
-use mathlib.Core.Bool.{Bool, true, false, not, cond}
+use Prim.Native.Nat.{ℕ, _+_, _*_, _^_, _≤_, _<_, zero-le}
+use native.Mathlib.Nat.{le-trans, le-of-eq, lt-of-lt-of-le, lt-of-le-of-lt, mul-comm, mul-assoc, mul-left-comm, mul-pos}
+use native.Mathlib.Nat.{mul-le-mul-right, lt-of-mul-lt-mul-right}
+use mathlib.Core.Bool.{Bool, false, not, cond}
 use lib.IntN.{pos}
-use lib.Dec.{T, ltb, nltb→le, lit<, lit≤}
+use lib.Dec.{T, nltb→le, lit<}
 use lib.Pow.{pow-pos}
-use lib.Ieee.{Float, fin, binary32, round, mul, div, lt, fits, ofInt}
+use lib.Ieee.{Float, binary32, round, div, lt, fits, ofInt}
 use lib.Ieee.Exact.{round-exact}
 use lib.Ieee.Scale.{round-same}
 use Rattle.numbers.specs.Weight.{Finite, number, Weight, finite, infiniteUnits, unitsOf}

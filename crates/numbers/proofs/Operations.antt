@@ -4,8 +4,8 @@ use Prim.Native.Nat.{ℕ, zero, suc, _+_, _-_, _*_, _/_, _^_, _≤_, _<_}
 use native.Mathlib.Nat.{le-trans, le-of-eq, le-antisymm, le-of-lt, lt-of-le-of-lt, lt-irrefl, add-comm, add-mul, mul-sub, mul-comm, mul-one, mul-assoc}
 use native.Mathlib.Nat.{mul-right-comm, mul-mul-mul-comm, mul-pos, mul-div-cancel, mul-le-mul-right, le-of-mul-le-mul-right}
 use native.Mathlib.Omega.{arith}
-use mathlib.Core.Bool.{Bool, true, false, not, _&&_, cond}
-use lib.IntN.{ℤ, pos, negsuc}
+use mathlib.Core.Bool.{true, false, cond}
+use lib.IntN.{ℤ, pos}
 use lib.Dec.{T, ltb, eqb, eqb·suc-zero, lit<}
 use lib.Arith.{le→nltb}
 use lib.Pow.{pow-pos}

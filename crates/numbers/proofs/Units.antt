@@ -1,16 +1,15 @@
 -- Weights in units of 2 to the power -149: whole numbers, exactly; in the same order; and each number is one weight's
 use mathlib.Core.Path.{_≡_, refl, sym, ap, _∙_, subst, subst₂}
-use mathlib.Core.Logic.{_⊎_, inl, inr}
 use Prim.Native.Nat.{ℕ, zero, suc, _+_, _-_, _*_, _/_, _%_, _^_, _≤_, _<_}
-use native.Mathlib.Nat.{le-refl, le-trans, le-of-eq, le-of-lt, le-of-suc-le-suc, lt-of-not-le, not-le-of-lt, lt-irrefl, mul-one, one-mul, zero-mul, mul-assoc}
+use native.Mathlib.Nat.{le-trans, le-of-eq, le-of-lt, le-of-suc-le-suc, lt-of-not-le, not-le-of-lt, lt-irrefl, mul-one, one-mul, zero-mul, mul-assoc}
 use native.Mathlib.Nat.{mul-right-comm, mul-pos, mul-div-cancel, mul-le-mul-right, mul-lt-mul-of-pos-right, lt-of-mul-lt-mul-right}
 use native.Mathlib.Omega.{arith}
-use mathlib.Core.Bool.{Bool, true, false, not, _&&_}
+use mathlib.Core.Bool.{false}
 use lib.IntN.{ℤ, pos, negsuc}
 use lib.Dec.{T, leb, ltb, eqb, leb→le, ltb→lt, eqb→eq, lt→ltb, lit≤, lit<}
 use lib.Arith.{le→nltb}
 use lib.Pow.{pow-add, pow-pos, pow-lt}
-use lib.Ieee.{Float, nan, inf, fin, binary32, up, down, size, fits, lt, toBits, ofBits}
+use lib.Ieee.{Float, inf, fin, binary32, up, down, size, fits, lt, toBits, ofBits}
 use lib.Ieee.Fits.{up-pos, down-pos}
 use lib.Ieee.Bits.{is-true, is-false, ofBits-toBits}
 use Rattle.numbers.specs.Weight.{Finite, number, Weight, infinite, finite, infiniteUnits, unitsOf, zeroWeight}

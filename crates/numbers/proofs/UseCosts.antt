@@ -1,13 +1,13 @@
 -- Use costs are weights of at most 65536.0 before they are scaled, and finite after it; a cost may be picked as bits
-use mathlib.Core.Path.{_≡_, refl, sym, ap, _∙_, subst}
-use Prim.Native.Nat.{ℕ, _*_, _^_, _≤_, _<_, zero-le}
-use native.Mathlib.Nat.{le-refl, le-trans, le-of-eq, lt-of-le-of-lt, mul-pos, mul-le-mul, mul-le-mul-right}
-use mathlib.Core.Bool.{Bool, true, false, not, cond}
-use lib.Dec.{T, leb, ltb, eqb, leb→le, lit≤, lit<}
+use mathlib.Core.Path.{_≡_, refl, sym, ap, _∙_}
+use Prim.Native.Nat.{ℕ, _*_, _^_, _≤_, zero-le}
+use native.Mathlib.Nat.{le-trans, le-of-eq, lt-of-le-of-lt, mul-pos, mul-le-mul, mul-le-mul-right}
+use mathlib.Core.Bool.{Bool, true, false, cond}
+use lib.Dec.{leb, ltb, eqb, leb→le, lit≤}
 use lib.Pow.{pow-pos}
 use lib.Ieee.{Float, fin, binary32, fits, sub, mul, ofBits}
 use Rattle.numbers.specs.declared.costs.RematScales.{RematScales}
-use Rattle.numbers.specs.Weight.{Finite, number, Weight, finite, infiniteUnits, unitsOf, zeroWeight, costLimit, valueOf}
+use Rattle.numbers.specs.Weight.{Finite, number, finite, unitsOf, zeroWeight, costLimit, valueOf}
 use Rattle.numbers.specs.Cost.{reloadCost, moveCost, spillCost, scaled, costBits}
 use Rattle.columns.proofs.Tests.{cond-both, halved, two-four}
 use Rattle.numbers.proofs.Units.{units-below, finite-of-units, zero-finite, zero-units}

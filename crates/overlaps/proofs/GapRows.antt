@@ -3,13 +3,13 @@ use mathlib.Core.Path.{_≡_, refl, sym, ap, _∙_, subst}
 use Prim.Native.Nat.{ℕ, zero, suc, _+_, _-_, _*_, _≤_, _<_, min, max}
 use native.Mathlib.Nat.{le-trans}
 use native.Mathlib.Omega.{arith}
-use mathlib.Core.List.{List, [], _∷_, _++_, map}
-use lib.ListN.{length, getD, set, drop, length-set, length-append, length-map}
+use mathlib.Core.List.{List, [], _∷_, _++_}
+use lib.ListN.{length, getD, length-set, length-append}
 use borrow.Author.Tests.{lt-ltb, le-ltb}
 use Rattle.columns.proofs.Tests.{cond-true, cond-false}
-use Rattle.columns.specs.Table.{filled, storedIn}
+use Rattle.columns.specs.Table.{storedIn}
 use Rattle.columns.proofs.Fillings.{stored-filled}
-use Rattle.columns.proofs.Joining.{joined-none, joined-skip, joined-next, fromOn, fromOn-all, fromOn-end}
+use Rattle.columns.proofs.Joining.{joined-none, joined-skip, joined-next, fromOn}
 use Rattle.overlaps.specs.Live.{Gaps}
 use Rattle.overlaps.specs.GapSegments.{Overlap, nonempty, overlapWith, overlapsOf, EndedBy, SegmentColumns, putOne, put, SegmentRoom, Filled}
 use Rattle.columns.specs.Below.{joined}

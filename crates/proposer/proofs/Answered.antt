@@ -3,24 +3,20 @@ use mathlib.Core.Path.{_≡_, refl, sym, ap, ap₂, _∙_, subst}
 use mathlib.Core.Logic.{_⊎_, _↔_}
 use mathlib.Core.Bool.{not}
 use mathlib.Core.List.{List, [], _∷_, map}
-use Prim.Native.Nat.{ℕ, _+_, _≤_, _<_}
+use Prim.Native.Nat.{ℕ, _≤_, _<_}
 use native.Mathlib.Omega.{arith}
 use lib.Dec.{T}
 use lib.ListN.{length, getD}
 use Rattle.numbers.specs.Weight.{unitsOf, zeroWeight}
-use Rattle.numbers.specs.Normal.{normalised, exceeds}
-use Rattle.links.specs.declared.lower.Side.{Side}
 use Rattle.links.specs.declared.blocks.Checked.{Checked}
 use Rattle.links.specs.declared.blocks.Checked.the-variants as Checked·is
 use Rattle.links.specs.declared.blocks.Refusal.{Refusal}
 use Rattle.use_rows.specs.declared.row.BestUse.{BestUse}
 use Rattle.use_rows.specs.declared.row.BestUse.the-variants as BestUse·is
-use Rattle.walks.specs.Meeting.{spillWeight}
 use Rattle.gaps.specs.Gaps.{initialGap}
 use Rattle.filling.specs.UseTables.{bestOf}
-use Rattle.growth.specs.Growth.{ownSpan, usedUp, weightTest, growth}
+use Rattle.growth.specs.Growth.{ownSpan, weightTest}
 use Rattle.growth.specs.Proposal.{regionOf}
-use Rattle.growth.specs.Demand.{Around, Ended, FailedBefore, Demand3, sumOver, addedTo, gapsBeside, gapsGrown}
 use Rattle.growth.specs.Evictions.{Each}
 use Rattle.growth.specs.declared.proposal.SplitProposal.{SplitProposal}
 use Rattle.growth.specs.declared.proposal.Region.{Region}
@@ -36,7 +32,6 @@ use Rattle.proposer.specs.Answer.{ofBest, ofChecked, answerOf}
 use Rattle.proposer.specs.Demand.{mainsOf, numberOf, bestNumber, AnswerDemand3}
 use Rattle.views.specs.Met.{FixedMet}
 use Rattle.proposer.specs.Evictions.{Entry, Evictions, JobEvictionsEnd, AnsweredJob, entryOf}
-use Rattle.outcome.specs.declared.grow.Answer.{Answer}
 use Rattle.outcome.specs.declared.grow.Answer.the-variants as Answer·is
 use Rattle.proposer.proofs.JobTheorems.{ProposalOf, job-best, job-no-best-exactly, job-nothing-exactly, job-around, job-ended, job-side-ends}
 use Rattle.proposer.proofs.JobTheorems.{job-demand3, job-use-weight, job-live-insts, job-strict, region-no-fixed, region-none-heavier}

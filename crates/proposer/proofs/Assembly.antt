@@ -1,11 +1,10 @@
 -- The parts of the call joined: of tables that are filled growth gives what the definition says
-use mathlib.Core.Path.{_≡_, refl, sym, ap, _∙_, subst}
+use mathlib.Core.Path.{_≡_, sym, ap, _∙_, subst}
 use Prim.Native.Nat.{ℕ, _<_}
 use lib.ListN.{length}
 use Rattle.links.specs.declared.blocks.Checked.{Checked}
 use Rattle.links.specs.declared.blocks.Checked.the-variants as Checked·is
 use Rattle.links.specs.declared.blocks.Refusal.{Refusal}
-use Rattle.use_rows.specs.declared.row.BestUse.{BestUse}
 use Rattle.use_rows.specs.declared.row.BestUse.the-variants as BestUse·is
 use Rattle.uses.proofs.Best.{best-inside}
 use Rattle.filling.specs.UseTables.{bestOf}
@@ -16,7 +15,7 @@ use Rattle.refusals.proofs.Accepted.{Accepted}
 use Rattle.rooms.specs.Rooms.{refusalOf}
 use Rattle.rooms.proofs.Refused.{job-accepted, job-roomy}
 use Rattle.tables.specs.JobTables.{usesOfJob, gapsOfJob, ownOfJob, segmentsOfJob, noTables, ifAccepted, tablesOf}
-use Rattle.tables.specs.Filled.{filledOf, IsFilled}
+use Rattle.tables.specs.Filled.{IsFilled}
 use Rattle.work.specs.declared.fill.ReadyTables.{ReadyTables}
 use Rattle.work.specs.declared.fill.FilledTables.{FilledTables}
 use Rattle.work.specs.declared.fill.FilledTables.the-variants as FilledTables·is
@@ -24,11 +23,9 @@ use Rattle.tables.proofs.Answers.{filled-refused, filled-none, filled-ready}
 use Rattle.views.specs.View.{seenOfJob}
 use Rattle.views.proofs.FilledView.{seen-is, cut-walkable, cut-in-table, cut-rows}
 use Rattle.outcome.specs.Outcome.{ofRegion}
-use Rattle.proposer.specs.Answer.{ofBest, ofChecked, answerOf, IsProposed}
+use Rattle.proposer.specs.Answer.{ofBest, ofChecked, IsProposed}
 use Rattle.outcome.specs.Growing.{GrowthColumns, growthColumns, seenReady, Growable, GrowableIf, grownFrom}
-use Rattle.outcome.specs.declared.grow.Answer.{Answer}
 use Rattle.outcome.specs.declared.grow.Answer.the-variants as Answer·is
-use Rattle.outcome.specs.declared.grow.Proposed.{Proposed}
 
 module _ (job : Job) (lent now : WorkColumns) where
   -- the columns that growth reads

@@ -1,29 +1,22 @@
 -- What holds of every accepted job that is answered a proposal, or none of either kind; and the ring and chain law over every list of proposals
-use mathlib.Core.Path.{_≡_, refl, sym, ap, _∙_, subst}
+use mathlib.Core.Path.{_≡_, sym, ap, _∙_, subst}
 use mathlib.Core.Logic.{_⊎_, inl, inr, ⊎-elim, _↔_}
-use mathlib.Core.Bool.{Bool, true, false, not, cond}
+use mathlib.Core.Bool.{not}
 use mathlib.Core.List.{List, [], _∷_, map}
-use Prim.Native.Nat.{ℕ, zero, suc, _+_, _*_, _/_, _≤_, _<_, zero-le}
-use native.Mathlib.Nat.{le-refl, le-trans, le-of-eq, lt-trans, lt-of-lt-of-le, lt-irrefl, not-suc-le-zero, le-of-suc-le-suc, eq-or-lt-of-le}
+use Prim.Native.Nat.{ℕ, zero, suc, _+_, _*_, _/_, _≤_, _<_}
+use native.Mathlib.Nat.{le-refl, le-trans, le-of-eq}
 use native.Mathlib.Omega.{arith}
-use lib.Dec.{T, leb, leb→le, nleb→lt, nltb→le, lit≤}
-use lib.Ieee.{Float, binary32, lt, toBits}
+use lib.Dec.{T, lit≤}
+use lib.Ieee.{Float, binary32, toBits}
 use lib.ListN.{length, getD, length-map, List·getD-eq-default}
-use borrow.Author.Tests.{le-ltb, le-leb}
-use Rattle.numbers.specs.Weight.{Weight, finite, unitsOf, zeroWeight, heaviest, Weights, Among}
+use Rattle.numbers.specs.Weight.{unitsOf, zeroWeight, Among}
 use Rattle.numbers.specs.Point.{instOf}
 use Rattle.numbers.specs.Normal.{normalised, exceeds}
 use Rattle.numbers.specs.Chain.{longest}
-use Rattle.columns.proofs.Tests.{cond-true, cond-false}
-use Rattle.numbers.proofs.Units.{units-order, units-lt, zero-finite, zero-units}
-use Rattle.numbers.proofs.Heaviest.{heaviest-weight, heaviest-among, heaviest-above}
-use Rattle.columns.specs.First.{firstBelow, FirstIn}
 use Rattle.links.specs.declared.lower.Side.{Side}
-use Rattle.columns.proofs.Firsts.{split, first-in}
-use Rattle.use_rows.specs.Uses.{AllWeights, isLargest, bestUse, IsBest}
+use Rattle.columns.proofs.Firsts.{split}
+use Rattle.use_rows.specs.Uses.{bestUse, IsBest}
 use Rattle.overlaps.specs.Live.{Gaps}
-use Rattle.use_rows.specs.declared.row.SplitUse.{SplitUse}
-use Rattle.use_rows.specs.declared.row.BestUse.{BestUse}
 use Rattle.use_rows.specs.declared.row.BestUse.the-variants.{At, Nothing}
 use Rattle.uses.proofs.Best.{best-is, no-best-exactly, best-inside}
 use Rattle.uses.proofs.UseTable.{use-table-weights}
@@ -31,7 +24,7 @@ use Rattle.walks.specs.Meeting.{spillWeight}
 use Rattle.gaps.specs.Gaps.{initialGap}
 use Rattle.filling.specs.GapTables.{fromsOf, tosOf}
 use Rattle.growth.specs.Growth.{GapsSeen, Span, ownSpan, weightsIn, heaviestIn, weightTest, usedUp, growth}
-use Rattle.growth.specs.Proposal.{regionOf, covers, gapsCovered}
+use Rattle.growth.specs.Proposal.{regionOf, gapsCovered}
 use Rattle.growth.specs.Demand.{Around, Ended, In, FailedBefore, MeetsFixed, SoundGaps, Demand3, sumOver, addedTo, gapsBeside, gapsGrown}
 use Rattle.growth.specs.Evictions.{Promise, Each, EvictsAfter, Evicts, EvictionsEnd, MeetsCarrier, member, promiseOf, Given, IsFound, promised}
 use Rattle.growth.specs.declared.proposal.SplitProposal.{SplitProposal}

@@ -13,8 +13,7 @@ use Rattle.links.specs.declared.blocks.Checked.the-variants.{Sound, Refused}
 use Rattle.columns.proofs.Firsts.{split}
 use Rattle.links.proofs.Checks.{check-refuses, check-accepts, check-sound}
 use Rattle.links.proofs.Answers.{in-ends, last-column}
-use Rattle.links.proofs.Columns.{last-end, last-limited}
-use Rattle.links.proofs.Rows.{row-good}
+use Rattle.links.proofs.Columns.{last-limited}
 use Rattle.jobs.specs.declared.rows.Limits.{Limits}
 use Rattle.refusals.specs.declared.job.Sizes.{Sizes}
 use Rattle.refusals.specs.Job.{Job, sizesOf, limitsOf}

@@ -1,7 +1,7 @@
 -- The longest sheet has 47,417 bytes, and a line more decides any text: a longer text has the verdict of its front.
 -- Assumes nothing.
 use Prim.Native.Nat.{ℕ, zero, suc, _+_, _*_, _≤_, _<_}
-use mathlib.Core.Path.{_≡_, refl, sym, ap, _∙_, subst}
+use mathlib.Core.Path.{_≡_, refl, sym, ap, _∙_}
 use mathlib.Core.List.{List, [], _∷_}
 use mathlib.Core.Logic.{_⊎_, inl, inr, ⊎-elim}
 use native.Mathlib.Omega.{arith}
@@ -19,7 +19,7 @@ use Rattle.sheet.specs.declared.check.Next.the-variants.{Line, Bad}
 use Rattle.sheet.proofs.KindLaws.{fields-few, table-past}
 use Rattle.sheet.proofs.SoundLaws.{sound-sheet}
 use Rattle.sheet.proofs.FillLaws.{lines-length}
-use Rattle.sheet.proofs.CheckLaws.{Upto, upto-none, Good, good-moved, next-good, next-bad, next-many, next-pass, good-kind}
+use Rattle.sheet.proofs.CheckLaws.{Upto, upto-none, good-moved, next-good, next-bad, next-many, next-pass, good-kind}
 
 split : (a b : ℕ) → (a < b) ⊎ (b ≤ a)
 split a b = by (decLt a b)

@@ -2,7 +2,6 @@
 use mathlib.Core.Path.{_≡_, refl, sym, ap, _∙_, subst}
 use Prim.Native.Nat.{ℕ}
 use native.Mathlib.Omega.{arith}
-use mathlib.Core.List.{List}
 use lib.ListN.{length, take}
 use Rattle.numbers.specs.Cost.{scalesOf}
 use Rattle.numbers.specs.declared.costs.RematScales.{RematScales}
@@ -19,11 +18,11 @@ use Rattle.filling.specs.UseTables.{FromBits, bestOf}
 use Rattle.filling.specs.SourceTables.{sourceColumns, sourceIn, Tables, tablesOfBest, WorkColumns, roomsOf, Roomy, FilledBy}
 use Rattle.filling.specs.declared.lent.Rooms.{Rooms}
 use Rattle.refusals.specs.declared.job.Parameters.{Parameters}
-use Rattle.refusals.specs.Job.{Job, JobColumns, jobOf, scalesOfJob, sourceOfJob}
+use Rattle.refusals.specs.Job.{Job, JobColumns, jobOf, sourceOfJob}
 use Rattle.refusals.proofs.Accepted.{Accepted, cut-columns}
 use Rattle.rooms.specs.Rooms.{refusalOf}
 use Rattle.rooms.proofs.Refused.{job-accepted, job-roomy}
-use Rattle.tables.specs.JobTables.{usesOfJob, gapsOfJob, ownOfJob, segmentsOfJob, noTables, ifAccepted, tablesOf}
+use Rattle.tables.specs.JobTables.{usesOfJob, gapsOfJob, ownOfJob, segmentsOfJob, noTables, ifAccepted}
 use Rattle.work.specs.FilledFrom.{filledOfBest, IsFilledFrom}
 use Rattle.tables.specs.Filled.{filledIf, filledOf, IsFilled}
 use Rattle.work.specs.declared.fill.ReadyTables.{ReadyTables}

@@ -21,7 +21,7 @@ use Rattle.jobs.specs.declared.rows.Segment.{Segment}
 use Rattle.use_rows.specs.declared.row.Part.{Part}
 use Rattle.use_rows.specs.declared.row.SplitUse.{SplitUse}
 use Rattle.use_rows.specs.Uses.{noWeights, addedToRow, partOf}
-use Rattle.use_rows.specs.UseColumns.{UseColumns, Inside, withUse, useIn}
+use Rattle.use_rows.specs.UseColumns.{UseColumns, withUse, useIn}
 use Rattle.use_lists.specs.Collecting.{Collecting, isStored, addedBefore, added, weightAt, counted, countedList, countedLists, RowsLeft}
 
 -- the same lengths

@@ -1,8 +1,7 @@
 -- What is done to the columns while the use table is collected. It follows the code, for contracts below `collect_uses` alone: the table is
 -- that of use_rows/specs/Uses, and uses/proofs/OneList leads from here to there.
 use Prim.Native.Nat.{ℕ, zero, suc, _+_, _-_, _≤_, _<_}
-use mathlib.Core.Path.{_≡_}
-use mathlib.Core.Bool.{Bool, true, false, cond}
+use mathlib.Core.Bool.{Bool, false, cond}
 use mathlib.Core.List.{List}
 use lib.Dec.{ltb, eqb}
 use lib.Ieee.{Float, binary32, mul, eq}
@@ -12,7 +11,7 @@ use Rattle.numbers.specs.Cost.{reloadCost, moveCost, spillCost, scaled}
 use Rattle.numbers.specs.declared.costs.RematScales.{RematScales}
 use Rattle.columns.specs.First.{firstBelow}
 use Rattle.links.specs.Blocks.{Ends}
-use Rattle.jobs.specs.Rows.{noUse, noSegment, liveOut, fixedDef}
+use Rattle.jobs.specs.Rows.{noUse, noSegment}
 use Rattle.jobs.specs.Lines.{Lists}
 use Rattle.jobs.specs.declared.rows.Use.{Use}
 use Rattle.jobs.specs.declared.rows.Segment.{Segment}

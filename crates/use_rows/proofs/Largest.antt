@@ -1,18 +1,18 @@
 -- The largest of a list of weights, found by going through it: what is known after i of them, and the best use at the end
 use mathlib.Core.Path.{_≡_, refl, sym, ap, _∙_, subst}
-use mathlib.Core.Bool.{Bool, true, false, not}
+use mathlib.Core.Bool.{true, false, not}
 use mathlib.Core.Logic.{_⊎_, inl, inr}
 use mathlib.Core.List.{List, [], _∷_}
-use Prim.Native.Nat.{ℕ, zero, suc, _+_, _≤_, _<_, zero-le}
-use native.Mathlib.Nat.{le-refl, le-trans, le-of-eq, not-suc-le-zero, lt-of-lt-of-le}
+use Prim.Native.Nat.{ℕ, zero, suc, _+_, _≤_, _<_}
+use native.Mathlib.Nat.{le-of-eq, not-suc-le-zero}
 use native.Mathlib.Omega.{arith}
-use lib.Dec.{T, ltb, nltb→le}
+use lib.Dec.{T, ltb}
 use lib.Ieee.{Float, lt}
 use lib.ListN.{length, getD}
 use borrow.Author.Tests.{le-ltb, lt-ltb, ltb-false, le-leb, lt-leb}
 use Rattle.numbers.specs.Weight.{Weight, finite, unitsOf, zeroWeight, heaviest, Weights, Among}
-use Rattle.numbers.proofs.Heaviest.{heaviest-only, heaviest-weight}
-use Rattle.numbers.proofs.Units.{units-order, units-lt, units-inj, zero-finite, zero-units}
+use Rattle.numbers.proofs.Heaviest.{heaviest-only}
+use Rattle.numbers.proofs.Units.{units-order, units-lt, zero-finite}
 use Rattle.columns.proofs.Firsts.{split, first-found}
 use Rattle.columns.specs.First.{firstBelow}
 use Rattle.use_rows.specs.Uses.{AllWeights, isLargest, bestUse}

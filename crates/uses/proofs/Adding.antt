@@ -1,13 +1,13 @@
 -- One more use, from the columns to the table: what `added` leaves in the columns is the table of one use more, all but its latest row
 use mathlib.Core.Path.{_≡_, refl, sym, ap, ap₂, _∙_, subst}
-use mathlib.Core.Bool.{Bool, true, false, _||_, cond, true≢false}
+use mathlib.Core.Bool.{Bool, true, false, cond}
 use mathlib.Core.Logic.{_⊎_, inl, inr}
 use mathlib.Core.List.{List, [], _∷_, _++_, append-nil}
 use Prim.Native.Nat.{ℕ, zero, suc, _+_, _-_, _≤_, _<_}
 use native.Mathlib.Nat.{le-refl, le-antisymm}
 use native.Mathlib.Omega.{arith}
 use lib.Dec.{ltb, eqb}
-use lib.ListN.{length, getD, length-append}
+use lib.ListN.{length, length-append}
 use borrow.Author.Tests.{lt-ltb, le-ltb, eq-eqb, ne-eqb}
 use Rattle.columns.proofs.Tests.{cond-true, cond-false}
 use Rattle.columns.proofs.Firsts.{split}
@@ -16,7 +16,6 @@ use Rattle.use_rows.specs.Uses.{noWeights, addedToRow, Seen, splitUse, hasRow, 
 use Rattle.use_rows.specs.UseColumns.{UseColumns, Inside, withUse, useIn, filledWith}
 use Rattle.use_rows.proofs.Rows.{inside-less}
 use Rattle.use_lists.specs.Collecting.{Collecting, isStored, addedBefore, added}
-use Rattle.uses.proofs.UseRows.{rows-none}
 use Rattle.uses.proofs.Pending.{Pending, pending-first, pending-skipped, pending-same, pending-later, pending-before, pending-own, written-own}
 use Rattle.uses.proofs.Pending.{written-front, row-inst}
 use Rattle.uses.proofs.Fills.{fill-more, fill-changed, fill-inst, fill-read}

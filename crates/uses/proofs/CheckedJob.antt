@@ -13,7 +13,6 @@ use Rattle.columns.specs.First.{firstBelow}
 use Rattle.columns.proofs.Firsts.{first-all}
 use Rattle.links.proofs.Columns.{ends-of-sound, last-of-sound}
 use Rattle.jobs.specs.declared.rows.Segment.{Segment}
-use Rattle.jobs.specs.declared.rows.Use.{Use}
 use Rattle.jobs.specs.declared.rows.Limits.{Limits}
 use Rattle.jobs.specs.Rows.{noSegment, noUse, liveOut, fixedDef}
 use Rattle.columns.specs.Table.{rowBefore}

@@ -1,11 +1,10 @@
 -- The four columns of the use table: one row more, the last row changed, the last row read
-use mathlib.Core.Path.{_≡_, refl, sym, ap, ap₂, _∙_, subst}
-use mathlib.Core.List.{List, [], _∷_, _++_, map}
-use Prim.Native.Nat.{ℕ, zero, suc, _+_, _≤_, _<_}
-use native.Mathlib.Nat.{not-suc-le-zero, le-of-lt}
-use native.Mathlib.Omega.{arith}
+use mathlib.Core.Path.{_≡_, sym, ap₂, _∙_, subst}
+use mathlib.Core.List.{List, [], _∷_, _++_}
+use Prim.Native.Nat.{ℕ, _<_}
+use native.Mathlib.Nat.{le-of-lt}
 use lib.Ieee.{Float}
-use lib.ListN.{length, getD, set, drop}
+use lib.ListN.{length, getD}
 use Rattle.numbers.specs.Weight.{zeroWeight}
 use Rattle.columns.proofs.Fillings.{filled-more, filled-changed, filled-read, filled-field-long}
 use Rattle.use_rows.specs.declared.row.SplitUse.{SplitUse}

@@ -1,19 +1,17 @@
 -- The lists of uses, from the columns to the table: what `countedLists` leaves is the table of all uses, all but its latest row
-use mathlib.Core.Path.{_≡_, refl, sym, ap, ap₂, _∙_, subst}
+use mathlib.Core.Path.{_≡_, refl, sym, ap, _∙_, subst}
 use mathlib.Core.Bool.{Bool, true, false, not, _&&_, _||_, cond, true≢false}
-use mathlib.Core.Logic.{_⊎_, inl, inr, ⊎-elim}
 use mathlib.Core.List.{List}
 use Prim.Native.Nat.{ℕ, zero, suc, _+_, _-_, _≤_, _<_}
 use native.Mathlib.Nat.{le-refl, add-zero, add-suc}
 use native.Mathlib.Omega.{arith}
-use lib.Dec.{ltb, eqb}
+use lib.Dec.{eqb}
 use lib.Ieee.{Float, binary32, eq, mul}
 use lib.ListN.{length, getD}
 use borrow.Author.Tests.{eqb-true}
 use Rattle.numbers.specs.Weight.{zeroWeight, frequencyLimit, valueOf}
 use Rattle.columns.proofs.Tests.{cond-true, cond-false}
-use Rattle.columns.specs.First.{firstBelow}
-use Rattle.links.specs.Blocks.{BlockRow, blocksOf, blockAt, blockOf, SoundBlocks}
+use Rattle.links.specs.Blocks.{BlockRow, blocksOf, blockOf, SoundBlocks}
 use Rattle.links.proofs.Columns.{row-at, block-of-sound}
 use Rattle.numbers.specs.Cost.{reloadCost, moveCost, spillCost, scaled}
 use Rattle.jobs.specs.declared.rows.Segment.{Segment}

@@ -1,17 +1,16 @@
 -- The use table: at most two rows more than uses; the instructions of a checked job's rise from the first to the last one, inside the blocks; weights
 use mathlib.Core.Path.{_≡_, refl, sym, ap, ap₂, _∙_, subst}
-use mathlib.Core.Bool.{Bool, true, false, not, _||_, cond}
+use mathlib.Core.Bool.{Bool, true, false, _||_, cond}
 use mathlib.Core.Logic.{_⊎_, inl, inr}
 use mathlib.Core.List.{List, [], _∷_, _++_, map}
 use Prim.Native.Nat.{ℕ, zero, suc, _+_, _-_, _≤_, _<_, zero-le}
-use native.Mathlib.Nat.{not-suc-le-zero, le-refl, le-trans, lt-of-le-of-lt, le-antisymm}
+use native.Mathlib.Nat.{not-suc-le-zero, le-refl, le-antisymm}
 use native.Mathlib.Omega.{arith}
 use lib.Dec.{eqb}
 use lib.Ieee.{Float}
 use lib.ListN.{length, getD, take, length-append, length-map}
 use borrow.Author.Tests.{eq-eqb, ne-eqb}
 use Rattle.numbers.specs.Weight.{Weight, finite, zeroWeight, frequencyLimit}
-use Rattle.numbers.specs.Cost.{reloadCost, moveCost}
 use Rattle.columns.proofs.Tests.{cond-true, cond-false}
 use Rattle.numbers.proofs.Units.{zero-finite}
 use Rattle.numbers.proofs.Bits.{value-finite}

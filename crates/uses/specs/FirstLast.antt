@@ -1,5 +1,5 @@
 -- For contracts of private functions: what the first and the last instruction of a job rely on
-use Prim.Native.Nat.{ℕ, _≤_}
+use Prim.Native.Nat.{_≤_}
 use mathlib.Core.Path.{_≡_}
 use mathlib.Core.Bool.{true, false}
 use mathlib.Core.List.{List}

@@ -26,7 +26,8 @@ use Rattle.walks.proofs.Ways.{row-inside, row-is-ahead, row-first, some
 use Rattle.walks.proofs.Ways.{near-other, far-other, far-passed, far-ahead, ahead-later}
 use Rattle.walks.proofs.OneUnit.{stands-later}
 use Rattle.walks.proofs.Sets.{met-weights}
-use Rattle.walks.proofs.Seen.{Seen, Passed, OfGap, metAt, also-joins, seen-only, seen-none, walk-more, walk-all, gap-seen}
+use Rattle.walks.proofs.Seen.{Seen, Passed, also-joins, seen-only, seen-none, walk-more, walk-all}
+use Rattle.walks.proofs.Counted.{OfGap, metAt, gap-seen}
 
 -- ---- a walk carried on to a later point
 pub later : (side : Side) {p : Register} {rows : List Reservation} {a b : ℕ} {w : Walk} → Upto side a b → StandsInUnits side p rows a w

@@ -6,6 +6,7 @@ pub mod Ways
 pub mod Uses
 pub mod Sets
 pub mod Seen
+pub mod Counted
 pub mod OneUnit
 pub mod AllUnits
 pub mod Begin

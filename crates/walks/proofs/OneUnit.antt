@@ -19,8 +19,8 @@ use Rattle.walks.specs.Meeting.{Reserved, meets, looked, alsoMet, oneUni
 use Rattle.walks.specs.Ways.{Upto, Before, firstEnd, lastEnd, Ahead, AnyAhead, rowAhead, placeBehind}
 use Rattle.walks.specs.Standing.{OrderedRows, StandsIn, Sound, segmentBegin, segmentEnd, reachesPast}
 use Rattle.walks.proofs.Ways.{upto-trans, upto-between, near-far, row-inside, row-is-ahead, row-first, some-ahead, passed-only, ahead-before, row-before}
-use Rattle.walks.proofs.Seen.{Seen, Passed, OfRegister, Nothing, rowOf, counted, seen-only, seen-none, walk-more, walk-all, unmet, looked-joins}
-use Rattle.walks.proofs.Seen.{met-seen}
+use Rattle.walks.proofs.Seen.{Seen, Passed, Nothing, seen-only, seen-none, walk-more, walk-all}
+use Rattle.walks.proofs.Counted.{OfRegister, rowOf, counted, unmet, looked-joins, met-seen}
 
 -- where a row begins and ends, on the way to a side
 abbrev rowBegin : Side → Reservation → ℕ

@@ -9,7 +9,7 @@ use Rattle.columns.specs.Table.{filled, table, shortest}
 use Rattle.columns.proofs.Tables.{table-length, table-map, table-same, shortest-at-most}
 use Rattle.columns.proofs.Fillings.{filled-cut, filled-long, cut-table}
 use Rattle.numbers.specs.declared.costs.RematScales.{RematScales}
-use Rattle.links.specs.Blocks.{SoundBlocks, SoundColumns}
+use Rattle.links.specs.Blocks.{SoundColumns}
 use Rattle.links.specs.Links.{linkColumn, lowerLink}
 use Rattle.links.specs.declared.lower.Side.{Side}
 use Rattle.links.specs.declared.lower.Side.the-variants.{Previous, Next}
@@ -24,17 +24,16 @@ use Rattle.use_rows.specs.declared.row.BestUse.{BestUse}
 use Rattle.use_rows.specs.declared.row.BestUse.the-variants as BestUse·is
 use Rattle.uses.proofs.UseTable.{use-table-few, held-insts, held-mains, held-lefts, held-rights}
 use Rattle.uses.proofs.Best.{best-inside}
-use Rattle.overlaps.specs.GapSegments.{Overlap, Valued}
+use Rattle.overlaps.specs.GapSegments.{Valued}
 use Rattle.gaps.specs.Gaps.{Gap, gapsOf, initialGap, usesIn, Cuttable}
 use Rattle.gaps.proofs.JobGaps.{tableColumns, uses-in, job-cuttable}
 use Rattle.filling.specs.UseTables.{FromBits, bestOf, UsesFilled}
 use Rattle.filling.specs.GapTables.{GapTables, lentTables, GapRoom, GapsFilled, CutInside}
-use Rattle.filling.specs.SourceTables.{SourceColumns, blocksIn, sourceIn, startsOf, stopsOf, valuesOf, gapsFrom, segmentsFrom, freqsOf, Tables, tablesOfBest}
+use Rattle.filling.specs.SourceTables.{SourceColumns, blocksIn, sourceIn, startsOf, stopsOf, valuesOf, gapsFrom, freqsOf, Tables, tablesOfBest}
 use Rattle.filling.specs.SourceTables.{WorkColumns, workColumns, roomsOf, Roomy, FilledBy}
 use Rattle.filling.proofs.UseFilling.{scales-of}
 use Rattle.filling.proofs.SourceTables.{source-valued, source-gap-room}
 use Rattle.work.specs.FilledFrom.{filledOfBest, IsFilledFrom}
-use Rattle.work.specs.declared.fill.FilledTables.{FilledTables}
 use Rattle.work.specs.declared.fill.FilledTables.the-variants as FilledTables·is
 
 -- ---- the columns of a checked job

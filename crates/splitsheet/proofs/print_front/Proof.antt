@@ -1,5 +1,4 @@
 -- `print_front` writes no byte past the text
-use native.Mathlib.Omega.{arith}
 use mathlib.Core.Path.{sym}
 use lib.Seq.{length-take-le}
 use borrow.Author.Needs.{needs}

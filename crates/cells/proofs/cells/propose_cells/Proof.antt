@@ -1,6 +1,5 @@
 -- `cells::propose_cells` meets its contract: the columns that are lent are those in the cells
 use mathlib.Core.Path.{refl}
-use borrow.Author.Needs.{needs}
 use Rattle.refusals.specs.Job.{jobOf, jobColumns}
 use Rattle.cells.proofs.CellColumns.{is-column, proposed-as}
 use Rattle.cells.proofs.cells.propose_cells.Statement.{statement}

@@ -1,6 +1,5 @@
 -- `shown_of` answers case by case
 use mathlib.Core.Path.{ap, sym, _∙_}
-use Rattle.growth.specs.declared.proposal.SplitProposal.{SplitProposal}
 use Rattle.sheet.specs.declared.write.Figures.{Figures}
 use Rattle.sheet.specs.declared.write.Answer.the-variants as Shown·is
 use Rattle.figures.specs.Figures.{shownOf}

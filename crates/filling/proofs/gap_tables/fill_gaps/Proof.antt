@@ -1,5 +1,5 @@
 -- `fill_gaps` stores the gaps, counts their live instructions and stores their gap segments
-use mathlib.Core.Path.{_≡_, refl, sym, ap, _∙_, subst}
+use mathlib.Core.Path.{sym, subst}
 use mathlib.Core.List.{List}
 use Prim.Native.Nat.{ℕ, _≤_, _<_}
 use borrow.Author.Needs.{needs}
@@ -13,7 +13,7 @@ use Rattle.gaps.specs.Gaps.{Gap, gapsOf, usesIn}
 use Rattle.gaps.specs.GapColumns.{GapColumns, gapColumns}
 use Rattle.gaps.proofs.InColumns.{cut-rising}
 use Rattle.gaps.proofs.GapTable.{gaps-tile}
-use Rattle.filling.specs.GapTables.{fromsOf, tosOf, GapTables, lentTables}
+use Rattle.filling.specs.GapTables.{fromsOf, GapTables, lentTables}
 use Rattle.filling.proofs.GapFilling.{froms-cut, tos-cut, froms-inside, tos-inside, none-counted, segments-room, all-filled}
 use Rattle.filling.proofs.gap_tables.fill_gaps.Statement.{statement}
 use Rattle.filling.proofs.gap_tables.fill_gaps.Tie as tie

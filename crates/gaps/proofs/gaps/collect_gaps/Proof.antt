@@ -1,10 +1,10 @@
 -- `collect_gaps` stores the gaps on the left, the own one and those on the right, and clears the live column
-use mathlib.Core.Path.{_≡_, refl, sym, ap, _∙_, subst}
-use Prim.Native.Nat.{ℕ, _+_, _-_}
+use mathlib.Core.Path.{_≡_, sym, ap, _∙_, subst}
+use Prim.Native.Nat.{_-_}
 use native.Mathlib.Omega.{arith}
 use borrow.Author.Needs.{needs}
 use lib.ListN.{length}
-use Rattle.links.specs.Blocks.{Ends, blocksOf}
+use Rattle.links.specs.Blocks.{Ends}
 use Rattle.links.specs.declared.lower.Side.the-variants.{Previous, Next}
 use Rattle.use_rows.specs.UseColumns.{useColumns, useIn}
 use Rattle.use_rows.specs.declared.row.SplitUse.{SplitUse}

@@ -1,13 +1,12 @@
 -- `count_cuts` counts: what it has counted and the cuts left are all cuts
-use mathlib.Core.Path.{_≡_, refl, sym, ap, _∙_, subst}
+use mathlib.Core.Path.{_≡_, refl, sym, ap, _∙_}
 use mathlib.Core.List.{List, []}
-use Prim.Native.Nat.{ℕ, suc, _+_, _≤_, _<_}
+use Prim.Native.Nat.{ℕ, _+_, _≤_, _<_}
 use native.Mathlib.Omega.{arith}
 use borrow.Author.Needs.{needs}
 use borrow.Author.Tests.{not-true, not-false}
 use lib.ListN.{length}
 use Rattle.numbers.specs.declared.MaybeBlock.the-variants.{At, Absent}
-use Rattle.links.specs.Blocks.{itemLimit}
 use Rattle.links.specs.Links.{beside}
 use Rattle.links.specs.declared.lower.Side.{Side}
 use Rattle.gaps.specs.Cutting.{Leads, followed, cutsIn}

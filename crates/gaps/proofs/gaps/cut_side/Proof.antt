@@ -1,17 +1,15 @@
 -- `cut_side` stores the gaps between one pair of uses after the other
-use mathlib.Core.Path.{_≡_, refl, sym, ap, ap₂, _∙_, subst}
+use mathlib.Core.Path.{_≡_, sym, ap, ap₂, _∙_, subst}
 use mathlib.Core.List.{List}
-use Prim.Native.Nat.{ℕ, _+_, _-_, _≤_, _<_}
+use Prim.Native.Nat.{ℕ, _+_, _-_, _≤_}
 use native.Mathlib.Omega.{arith}
-use borrow.Author.Needs.{needs}
 use lib.ListN.{length}
 use Rattle.links.specs.declared.lower.Side.{Side}
 use Rattle.use_rows.specs.UseColumns.{UseColumns, useColumns, Inside, useIn}
 use Rattle.gaps.specs.Gaps.{Gap}
-use Rattle.gaps.specs.GapColumns.{GapColumns, gapColumns, storedGaps, Rows}
+use Rattle.gaps.specs.GapColumns.{gapColumns, storedGaps, Rows}
 use Rattle.gaps.specs.Cutting.{spaceOf, spaceGaps, Ordered}
 use Rattle.gaps.specs.declared.gaps.Space.{Space}
-use Rattle.gaps.proofs.Spaces.{Same}
 use Rattle.gaps.proofs.Sides.{Siding, siding-starts, siding-room, siding-next, siding-ends, space-inside}
 use Rattle.gaps.proofs.gaps.cut_side.Statement.{statement}
 use Rattle.gaps.proofs.gaps.cut_side.Tie as tie

@@ -1,6 +1,6 @@
 -- `next_row` goes one row away from the best use
 use mathlib.Core.Path.{sym, ap, subst}
-use Prim.Native.Nat.{ℕ, _+_, _-_, _≤_}
+use Prim.Native.Nat.{_+_, _-_, _≤_}
 use native.Mathlib.Omega.{arith}
 use Rattle.links.specs.declared.lower.Side.{Side}
 use borrow.Author.Needs.{needs}

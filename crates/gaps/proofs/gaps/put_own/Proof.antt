@@ -2,9 +2,8 @@
 use mathlib.Core.Path.{ap, _∙_}
 use native.Mathlib.Omega.{arith}
 use borrow.Author.Needs.{needs}
-use lib.Ieee.{Float}
 use lib.ListN.{length}
-use Prim.Native.Nat.{ℕ, _+_}
+use Prim.Native.Nat.{_+_}
 use Rattle.links.proofs.Columns.{ends-inside}
 use Rattle.numbers.specs.Sum.{plus}
 use Rattle.gaps.specs.GapColumns.{gapColumns, withRow}

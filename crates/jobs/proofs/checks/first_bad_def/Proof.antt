@@ -1,15 +1,15 @@
 -- `first_bad_def` finds the first bad fixed def: no segment before i is bad
-use mathlib.Core.Path.{_≡_, refl, sym, ap, ap₂, _∙_}
+use mathlib.Core.Path.{_≡_, sym, ap, _∙_}
 use mathlib.Core.Bool.{Bool, true, false}
-use mathlib.Core.List.{List, [], _∷_}
-use Prim.Native.Nat.{ℕ, _+_, _-_, _≤_, _<_, zero-le}
+use mathlib.Core.List.{List}
+use Prim.Native.Nat.{ℕ, _-_, _≤_, _<_, zero-le}
 use native.Mathlib.Nat.{lt-of-lt-of-le, not-suc-le-zero, le-of-eq}
 use native.Mathlib.Omega.{arith}
 use borrow.Author.Count.{below-more}
 use lib.ListN.{length, getD}
 use Rattle.columns.proofs.Firsts.{first-found, first-none}
 use Rattle.jobs.specs.declared.rows.Segment.{Segment}
-use Rattle.jobs.specs.Rows.{segmentRow, segmentsOf, noSegment, usesOf}
+use Rattle.jobs.specs.Rows.{segmentsOf, noSegment, usesOf}
 use Rattle.jobs.specs.Lines.{badDef, badDefAt}
 use Rattle.jobs.proofs.Reading.{own-segment}
 use borrow.Author.Needs.{needs}

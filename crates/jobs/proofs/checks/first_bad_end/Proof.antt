@@ -1,16 +1,16 @@
 -- `first_bad_end` finds the first bad end: no segment before i is bad
-use mathlib.Core.Path.{_≡_, refl, sym, ap, _∙_}
+use mathlib.Core.Path.{_≡_, sym, ap, _∙_}
 use mathlib.Core.Bool.{Bool, true, false}
-use mathlib.Core.List.{List, [], _∷_}
+use mathlib.Core.List.{List}
 use Prim.Native.Nat.{ℕ, _+_, _-_, _≤_, _<_, zero-le}
 use native.Mathlib.Nat.{lt-of-lt-of-le, not-suc-le-zero, le-of-eq}
 use native.Mathlib.Omega.{arith}
 use borrow.Author.Count.{below-more}
 use lib.Dec.{eqb}
-use lib.ListN.{length, getD}
+use lib.ListN.{length}
 use Rattle.columns.proofs.Firsts.{first-found, first-none}
 use Rattle.jobs.specs.declared.rows.Segment.{Segment}
-use Rattle.jobs.specs.Rows.{segmentRow, segmentsOf, noSegment, usesOf}
+use Rattle.jobs.specs.Rows.{segmentsOf, usesOf}
 use Rattle.jobs.specs.Lines.{badEnd, badEndAt}
 use Rattle.jobs.proofs.Reading.{own-segment}
 use borrow.Author.Needs.{needs}

@@ -1,15 +1,15 @@
 -- `first_bad_fixed_use` finds the first bad fixed use: `last` is the row before, and no row before i is bad
-use mathlib.Core.Path.{_≡_, refl, sym, ap, ap₂, _∙_}
+use mathlib.Core.Path.{_≡_, sym, ap₂, _∙_}
 use mathlib.Core.Bool.{Bool, true, false}
-use mathlib.Core.List.{List, [], _∷_}
-use Prim.Native.Nat.{ℕ, _+_, _-_, _≤_, _<_, zero-le}
+use mathlib.Core.List.{List}
+use Prim.Native.Nat.{ℕ, _-_, _≤_, _<_, zero-le}
 use native.Mathlib.Nat.{lt-of-lt-of-le, not-suc-le-zero, le-of-eq}
 use native.Mathlib.Omega.{arith}
 use borrow.Author.Count.{below-more}
 use lib.ListN.{length, getD}
 use Rattle.columns.proofs.Firsts.{first-found, first-none}
 use Rattle.jobs.specs.declared.rows.FixedUse.{FixedUse}
-use Rattle.jobs.specs.Rows.{fixedUseRow, fixedUsesOf, noFixedUse}
+use Rattle.jobs.specs.Rows.{fixedUsesOf, noFixedUse}
 use Rattle.columns.specs.Table.{rowBefore}
 use Rattle.jobs.specs.Lines.{badFixedUse, badFixedUseAt}
 use Rattle.jobs.proofs.Walk.{before-next}

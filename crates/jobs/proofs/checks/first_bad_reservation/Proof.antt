@@ -1,5 +1,5 @@
 -- `first_bad_reservation` finds the first bad reservation: `last` is the row before, `have` counts its unit's fixed uses, and no row before i is bad
-use mathlib.Core.Path.{_≡_, refl, sym, ap, ap₂, _∙_}
+use mathlib.Core.Path.{_≡_, sym, ap, ap₂, _∙_}
 use mathlib.Core.Logic.{⊎-elim}
 use mathlib.Core.Bool.{Bool, true, false}
 use mathlib.Core.List.{List, [], _∷_}

@@ -1,7 +1,7 @@
 -- `first_bad_segment` finds the first bad segment: `last` is the segment before, and no segment before i is bad
-use mathlib.Core.Path.{_≡_, refl, sym, ap, ap₂, _∙_}
+use mathlib.Core.Path.{_≡_, sym, ap, ap₂, _∙_}
 use mathlib.Core.Bool.{Bool, true, false}
-use mathlib.Core.List.{List, [], _∷_}
+use mathlib.Core.List.{List}
 use Prim.Native.Nat.{ℕ, _+_, _-_, _≤_, _<_, zero-le}
 use native.Mathlib.Nat.{lt-of-lt-of-le, not-suc-le-zero, le-of-eq}
 use native.Mathlib.Omega.{arith}
@@ -10,7 +10,7 @@ use lib.Dec.{eqb}
 use lib.ListN.{length, getD}
 use Rattle.columns.proofs.Firsts.{first-found, first-none}
 use Rattle.jobs.specs.declared.rows.Segment.{Segment}
-use Rattle.jobs.specs.Rows.{segmentRow, segmentsOf, noSegment}
+use Rattle.jobs.specs.Rows.{segmentsOf, noSegment}
 use Rattle.columns.specs.Table.{rowBefore}
 use Rattle.jobs.specs.Lines.{badBounds, badList, badSegment}
 use Rattle.jobs.proofs.Walk.{before-next, or-first, or-second}

@@ -1,5 +1,4 @@
 -- `segment_at` reads the row: a row's number is inside each column
-use mathlib.Core.Path.{_≡_}
 use mathlib.Core.List.{List, [], _∷_}
 use Prim.Native.Nat.{ℕ, _<_}
 use lib.Dec.{lit<}

@@ -1,7 +1,7 @@
 -- `segment_count` is the shortest column's length
-use mathlib.Core.Path.{_≡_, sym, ap, _∙_}
-use mathlib.Core.List.{List, [], _∷_}
-use Prim.Native.Nat.{ℕ, min}
+use mathlib.Core.Path.{sym, ap, _∙_}
+use mathlib.Core.List.{[], _∷_}
+use Prim.Native.Nat.{min}
 use lib.ListN.{length}
 use Rattle.columns.specs.Table.{shortest}
 use Rattle.columns.proofs.Tables.{table-length}

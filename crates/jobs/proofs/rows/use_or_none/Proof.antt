@@ -1,7 +1,6 @@
 -- `use_or_none` reads the row where there is one
 use mathlib.Core.Path.{sym, _∙_}
 use mathlib.Core.List.{[], _∷_}
-use Prim.Native.Nat.{ℕ, _<_, _≤_}
 use native.Mathlib.Nat.{lt-of-lt-of-le, le-trans, le-of-eq}
 use lib.ListN.{length}
 use Rattle.columns.specs.Table.{shortest}

@@ -1,5 +1,4 @@
 -- `is_bad` finds the first part of its definition that holds
-use mathlib.Core.Path.{_≡_}
 use borrow.Author.Tests.{lt-ltb, le-ltb, le-leb, lt-leb, eq-eqb, ne-eqb}
 use Rattle.links.specs.Blocks.{isBad}
 use Rattle.links.proofs.blocks.is_bad.Statement.{statement}

@@ -1,5 +1,5 @@
 -- `lies_before` looks at the end of the block before
-use mathlib.Core.Path.{_≡_, sym, ap}
+use mathlib.Core.Path.{sym, ap}
 use mathlib.Core.Bool.{Bool, false, cond}
 use Prim.Native.Nat.{_-_}
 use lib.Dec.{ltb}

@@ -1,11 +1,11 @@
 -- `lower_link` finds the link: every block between b and j is passed, and a block that is not lower is passed together with all that its own link passes
 use mathlib.Core.Path.{_≡_, refl, sym, ap, _∙_, subst}
-use mathlib.Core.Bool.{Bool, true, false, cond}
+use mathlib.Core.Bool.{false, cond}
 use mathlib.Core.List.{List}
 use Prim.Native.Nat.{ℕ, _+_, _-_, _≤_, _<_}
 use native.Mathlib.Nat.{le-trans, lt-of-lt-of-le, not-le-of-lt, not-suc-le-zero}
 use native.Mathlib.Omega.{arith}
-use borrow.Author.Needs.{needs, scaled-fits}
+use borrow.Author.Needs.{scaled-fits}
 use borrow.Author.Tests.{lt-ltb, le-ltb}
 use lib.Dec.{ltb, lit≤}
 use lib.ListN.{length, getD}
@@ -14,7 +14,7 @@ use Rattle.links.specs.Links.{beside, beyond, absent, isLower, lowerLink
 use Rattle.links.specs.declared.lower.Side.{Side}
 use Rattle.links.specs.declared.lower.Side.the-variants.{Previous, Next}
 use Rattle.links.proofs.Linking.{IsLink, link-nearest, link-is, link-jump, lower-bits, distance, beyond-inside, beyond-beyond, beyond-further}
-use Rattle.links.proofs.Linking.{not-itself, nearer, remaining, fewer}
+use Rattle.links.proofs.Linking.{nearer, remaining, fewer}
 use Rattle.links.proofs.lower.lower_link.Statement.{statement}
 use Rattle.links.proofs.lower.lower_link.Tie as tie
 

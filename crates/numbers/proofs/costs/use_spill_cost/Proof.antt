@@ -1,5 +1,5 @@
 -- `use_spill_cost` scales what `spill_cost` returns as its definition picks by the same tests
-use mathlib.Core.Path.{_≡_, ap}
+use mathlib.Core.Path.{ap}
 use borrow.Author.Needs.{needs}
 use borrow.Author.Tests.{eq-eqb, ne-eqb}
 use lib.Ieee.{Float, binary32, mul}

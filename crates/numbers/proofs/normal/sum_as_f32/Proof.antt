@@ -1,5 +1,5 @@
 -- `sum_as_f32` rounds the sum once: a cast is exact up to 2 to the power 24, and above that the two parts are
-use Prim.Native.Nat.{_+_, _/_, _%_, _≤_}
+use Prim.Native.Nat.{_+_, _/_, _%_}
 use native.Mathlib.Nat.{div-add-mod'}
 use native.Mathlib.Omega.{arith}
 use borrow.Author.Needs.{needs}

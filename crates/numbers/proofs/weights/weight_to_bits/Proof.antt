@@ -1,6 +1,6 @@
 -- `weight_to_bits` answers a weight's bits: only a NaN differs from itself, and only what is no weight has bits above infinity's
-use mathlib.Core.Path.{_≡_, refl, sym, ap, _∙_}
-use mathlib.Core.Bool.{Bool, true, false, not, true≢false}
+use mathlib.Core.Path.{_≡_, sym, ap, _∙_}
+use mathlib.Core.Bool.{false, not, true≢false}
 use Rattle.numbers.specs.declared.weights.MaybeBits.the-variants.{Absent}
 use lib.Dec.{T}
 use lib.Ieee.{Float, nan, inf, fin, ne, isNan}

@@ -1,5 +1,5 @@
 -- `grow_filled` answers by what came of filling, and grows a region where tables are ready
-use mathlib.Core.Path.{_≡_, ap, sym, _∙_, subst}
+use mathlib.Core.Path.{ap, sym, _∙_, subst}
 use Rattle.walks.specs.Meeting.{Reserved, reservedOf}
 use Rattle.work.specs.declared.fill.ReadyTables.{ReadyTables}
 use Rattle.work.specs.declared.fill.FilledTables.{FilledTables}

@@ -1,5 +1,5 @@
 -- `propose_split` fills the tables and grows a region in them; proofs/Assembly says why that is the answer
-use mathlib.Core.Path.{_≡_, sym, subst}
+use mathlib.Core.Path.{sym, subst}
 use denote.Ref.{now}
 use Rattle.filling.specs.SourceTables.{WorkColumns, workColumns}
 use Rattle.refusals.specs.Job.{Job, JobColumns, jobOf}

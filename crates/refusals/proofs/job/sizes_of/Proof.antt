@@ -1,6 +1,5 @@
 -- `sizes_of` counts each table
 use mathlib.Core.Path.{refl}
-use Rattle.refusals.specs.declared.job.Sizes.{Sizes}
 use Rattle.refusals.proofs.Sizes.{sizes-by}
 use borrow.Author.Needs.{needs}
 use Rattle.refusals.proofs.job.sizes_of.Statement.{statement}

@@ -2,7 +2,6 @@
 use mathlib.Core.Path.{_≡_, refl, sym, ap, _∙_, subst}
 use mathlib.Core.List.{[], _∷_}
 use Rattle.links.specs.Blocks.{checkOf}
-use Rattle.links.specs.declared.blocks.Checked.{Checked}
 use Rattle.links.specs.declared.blocks.Checked.the-variants.{Sound}
 use Rattle.jobs.specs.declared.rows.Limits.{Limits}
 use Rattle.refusals.specs.declared.job.Sizes.{Sizes}

@@ -1,6 +1,4 @@
 -- `remat_scales` takes each scale from its bits
-use mathlib.Core.Path.{_≡_}
-use borrow.Author.Needs.{needs}
 use Rattle.tables.proofs.fill.remat_scales.Statement.{statement}
 use Rattle.tables.proofs.fill.remat_scales.Tie as tie
 

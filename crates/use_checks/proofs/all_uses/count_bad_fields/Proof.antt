@@ -3,7 +3,7 @@ use mathlib.Core.Path.{_≡_, sym, ap, _∙_}
 use mathlib.Core.Logic.{⊎-elim}
 use mathlib.Core.Bool.{Bool, true, false}
 use mathlib.Core.List.{List}
-use Prim.Native.Nat.{ℕ, _+_, _-_, _≤_, _<_, zero-le}
+use Prim.Native.Nat.{_-_, _≤_, _<_, zero-le}
 use native.Mathlib.Nat.{lt-of-lt-of-le, le-trans, le-of-eq, add-zero}
 use native.Mathlib.Omega.{arith}
 use borrow.Author.Needs.{needs}

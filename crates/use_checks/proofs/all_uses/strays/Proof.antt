@@ -12,7 +12,7 @@ use lib.ListN.{length, getD}
 use Rattle.columns.specs.Table.{shortest}
 use Rattle.columns.proofs.Tables.{table-length, shortest-at-most}
 use Rattle.jobs.specs.declared.rows.Use.{Use}
-use Rattle.jobs.specs.Rows.{useRow, usesOf, noUse, fixedDef}
+use Rattle.jobs.specs.Rows.{useRow, usesOf, noUse}
 use Rattle.jobs.specs.Lines.{liesOutside}
 use Rattle.use_checks.specs.AllUses.{heldFrom, strays}
 use Rattle.jobs.proofs.Walk.{or-first, or-second, and-both, and-first}

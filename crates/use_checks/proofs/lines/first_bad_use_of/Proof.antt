@@ -1,16 +1,15 @@
 -- `first_bad_use_of` finds the first bad use of the list: none from its first to before i is bad
-use mathlib.Core.Path.{_≡_, refl, sym, ap, ap₂, _∙_}
+use mathlib.Core.Path.{_≡_, sym, ap, ap₂, _∙_}
 use mathlib.Core.Logic.{⊎-elim}
 use mathlib.Core.Bool.{Bool, true, false}
-use mathlib.Core.List.{[], _∷_}
 use Prim.Native.Nat.{ℕ, _+_, _-_, _≤_, _<_}
-use native.Mathlib.Nat.{le-refl, le-trans, lt-of-lt-of-le, not-le-of-lt}
+use native.Mathlib.Nat.{le-refl, lt-of-lt-of-le, not-le-of-lt}
 use native.Mathlib.Omega.{arith}
 use lib.Dec.{eqb}
-use lib.ListN.{length, getD}
+use lib.ListN.{length}
 use Rattle.columns.proofs.Firsts.{split}
 use Rattle.jobs.specs.declared.rows.Use.{Use}
-use Rattle.jobs.specs.Rows.{useRow, usesOf, noUse}
+use Rattle.jobs.specs.Rows.{usesOf}
 use Rattle.jobs.specs.Lines.{badUse, badUseOf}
 use Rattle.jobs.proofs.Reading.{own-use}
 use borrow.Author.Needs.{needs}

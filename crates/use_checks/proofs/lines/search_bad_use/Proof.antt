@@ -1,7 +1,7 @@
 -- `search_bad_use` finds the first bad use, list by list: no use of a list before i is bad
-use mathlib.Core.Path.{_≡_, refl, sym, ap, _∙_, subst}
-use mathlib.Core.Bool.{Bool, true, false}
-use mathlib.Core.List.{List, [], _∷_}
+use mathlib.Core.Path.{_≡_, sym, ap, _∙_, subst}
+use mathlib.Core.Bool.{false}
+use mathlib.Core.List.{List}
 use Prim.Native.Nat.{ℕ, _-_, _≤_, _<_, zero-le}
 use native.Mathlib.Nat.{lt-of-lt-of-le, le-trans, le-of-eq, le-antisymm, not-suc-le-zero}
 use native.Mathlib.Omega.{arith}
@@ -10,7 +10,7 @@ use Rattle.columns.specs.First.{FirstIn}
 use Rattle.columns.proofs.Firsts.{first-none}
 use Rattle.jobs.specs.declared.rows.Segment.{Segment}
 use Rattle.jobs.specs.declared.rows.Use.{Use}
-use Rattle.jobs.specs.Rows.{segmentRow, segmentsOf, noSegment, usesOf}
+use Rattle.jobs.specs.Rows.{segmentsOf, noSegment, usesOf}
 use Rattle.columns.specs.Table.{rowBefore}
 use Rattle.jobs.specs.Lines.{badUseOf, badUseAt}
 use Rattle.jobs.proofs.Reading.{own-segment}

@@ -1,12 +1,12 @@
 -- `add_before` stores the row that the definition names, where it names it
-use mathlib.Core.Path.{_≡_, sym, ap, _∙_}
-use Prim.Native.Nat.{ℕ, _+_, _-_, _≤_}
+use mathlib.Core.Path.{sym, ap, _∙_}
+use Prim.Native.Nat.{_+_, _-_}
 use native.Mathlib.Omega.{arith}
 use Rattle.columns.proofs.Tests.{cond-true, cond-false}
 use Rattle.use_rows.specs.declared.row.SplitUse.{SplitUse}
 use Rattle.use_rows.specs.Uses.{addedToRow}
 use Rattle.use_rows.specs.UseColumns.{UseColumns, useColumns, withUse}
-use Rattle.use_lists.specs.Collecting.{Collecting, addedBefore}
+use Rattle.use_lists.specs.Collecting.{addedBefore}
 use Rattle.use_lists.proofs.Storing.{stored-some}
 use borrow.Author.Needs.{needs}
 use Rattle.use_lists.proofs.lists.add_before.Statement.{statement}

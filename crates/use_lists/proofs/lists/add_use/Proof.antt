@@ -1,13 +1,13 @@
 -- `add_use` picks by the same two comparisons
-use mathlib.Core.Path.{_≡_, sym, ap, ap₂, _∙_}
-use Prim.Native.Nat.{ℕ, _+_}
+use mathlib.Core.Path.{sym, ap, ap₂, _∙_}
+use Prim.Native.Nat.{_+_}
 use native.Mathlib.Omega.{arith}
 use borrow.Author.Tests.{lt-ltb, le-ltb, eq-eqb, ne-eqb}
 use Rattle.columns.proofs.Tests.{cond-true, cond-false}
 use Rattle.use_rows.specs.declared.row.SplitUse.{SplitUse}
 use Rattle.use_rows.specs.Uses.{addedToRow}
-use Rattle.use_rows.specs.UseColumns.{UseColumns, useColumns, withUse}
-use Rattle.use_lists.specs.Collecting.{Collecting, added}
+use Rattle.use_rows.specs.UseColumns.{UseColumns, useColumns}
+use Rattle.use_lists.specs.Collecting.{added}
 use borrow.Author.Needs.{needs}
 use Rattle.use_lists.proofs.lists.add_use.Statement.{statement}
 use Rattle.use_lists.proofs.lists.add_use.Tie as tie

@@ -1,7 +1,7 @@
 -- `collect_list` adds the uses of a list one by one, in order
-use mathlib.Core.Path.{_≡_, refl, sym, ap, ap₂, _∙_, subst}
+use mathlib.Core.Path.{_≡_, sym, ap, _∙_, subst}
 use mathlib.Core.List.{List, [], _∷_}
-use Prim.Native.Nat.{ℕ, _+_, _-_, _≤_, _<_}
+use Prim.Native.Nat.{ℕ, _-_, _<_}
 use native.Mathlib.Nat.{lt-of-lt-of-le, le-antisymm}
 use native.Mathlib.Omega.{arith}
 use borrow.Author.Needs.{needs}
@@ -15,7 +15,7 @@ use Rattle.jobs.specs.Checked.{plainSegment, plainUse}
 use Rattle.jobs.specs.declared.rows.Use.{Use}
 use Rattle.jobs.proofs.Walk.{own-row}
 use Rattle.use_rows.specs.UseColumns.{useColumns}
-use Rattle.use_lists.specs.Collecting.{collecting, Collecting, counted, countedList}
+use Rattle.use_lists.specs.Collecting.{collecting, counted, countedList}
 use Rattle.use_rows.proofs.Rows.{inside-less}
 use Rattle.use_lists.proofs.ListWalk.{Along, along-first, along-next}
 use Rattle.use_lists.proofs.lists.collect_list.Statement.{statement}

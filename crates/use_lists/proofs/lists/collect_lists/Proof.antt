@@ -1,7 +1,7 @@
 -- `collect_lists` adds the lists one by one, in order
-use mathlib.Core.Path.{_≡_, refl, sym, ap, ap₂, _∙_, subst}
+use mathlib.Core.Path.{_≡_, sym, ap, _∙_, subst}
 use mathlib.Core.List.{List, [], _∷_}
-use Prim.Native.Nat.{ℕ, _+_, _-_, _≤_, _<_}
+use Prim.Native.Nat.{ℕ, _-_, _<_}
 use native.Mathlib.Nat.{lt-of-lt-of-le, le-antisymm, le-of-eq, le-trans}
 use native.Mathlib.Omega.{arith}
 use borrow.Author.Needs.{needs}
@@ -13,7 +13,7 @@ use Rattle.jobs.specs.declared.rows.Segment.{Segment}
 use Rattle.jobs.specs.declared.rows.Use.{Use}
 use Rattle.jobs.proofs.Walk.{own-row}
 use Rattle.use_rows.specs.UseColumns.{useColumns}
-use Rattle.use_lists.specs.Collecting.{collecting, Collecting, Listing, RowsLeft, countedList, countedLists}
+use Rattle.use_lists.specs.Collecting.{collecting, Listing, RowsLeft, countedList, countedLists}
 use Rattle.use_lists.proofs.ListWalk.{AlongAll, along-all-first, along-all-next, list-room}
 use Rattle.use_lists.proofs.lists.collect_lists.Statement.{statement}
 use Rattle.use_lists.proofs.lists.collect_lists.Tie as tie

@@ -1,5 +1,5 @@
 -- `count_use` adds what costs something, weighed in the block that the search finds
-use mathlib.Core.Path.{_≡_, sym, ap, ap₂, _∙_}
+use mathlib.Core.Path.{sym, ap, ap₂, _∙_}
 use Prim.Native.Nat.{ℕ}
 use native.Mathlib.Nat.{lt-of-le-of-lt, le-of-eq}
 use lib.Ieee.{Float, binary32, mul, ofBits}

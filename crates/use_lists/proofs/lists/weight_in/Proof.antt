@@ -1,5 +1,5 @@
 -- `weight_in` multiplies by the frequency of the block
-use mathlib.Core.Path.{_≡_, ap}
+use mathlib.Core.Path.{ap}
 use lib.Ieee.{binary32, mul}
 use borrow.Author.Needs.{needs}
 use Rattle.use_lists.proofs.lists.weight_in.Statement.{statement}

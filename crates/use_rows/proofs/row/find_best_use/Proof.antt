@@ -1,17 +1,14 @@
 -- `find_best_use` goes through the main weights with the largest so far and its first row
-use mathlib.Core.Path.{_≡_, refl, sym, ap, ap₂, _∙_, subst}
-use mathlib.Core.Bool.{Bool, cond}
-use mathlib.Core.Logic.{_⊎_, ⊎-elim}
-use Prim.Native.Nat.{ℕ, _+_, _-_, _≤_, _<_, zero-le}
+use mathlib.Core.Path.{_≡_, sym, ap, _∙_, subst}
+use mathlib.Core.Logic.{⊎-elim}
+use Prim.Native.Nat.{ℕ, _-_, _≤_, zero-le}
 use native.Mathlib.Nat.{le-antisymm}
 use native.Mathlib.Omega.{arith}
 use borrow.Author.Needs.{needs}
-use lib.Dec.{T, leb}
-use lib.Ieee.{Float, lt, ofBits, nan}
+use lib.Ieee.{lt, ofBits, nan}
 use lib.ListN.{length, getD}
-use Rattle.numbers.specs.Weight.{zeroWeight, heaviest}
-use Rattle.use_rows.specs.Uses.{bestUse}
-use Rattle.use_rows.proofs.Largest.{row-any, Largest, largest-none, largest-as, largest-new, largest-same, largest-is, largest-first, best-short}
+use Rattle.numbers.specs.Weight.{zeroWeight}
+use Rattle.use_rows.proofs.Largest.{row-any, Largest, largest-none, largest-as, largest-new, largest-same, best-short}
 use Rattle.use_rows.proofs.Largest.{best-found, best-none}
 use Rattle.use_rows.proofs.row.find_best_use.Statement.{statement}
 use Rattle.use_rows.proofs.row.find_best_use.Tie as tie

@@ -1,8 +1,7 @@
 -- `use_at` reads each column; what stands past them does not matter inside
-use mathlib.Core.Path.{_≡_, ap, ap₂, _∙_}
+use mathlib.Core.Path.{ap, ap₂, _∙_}
 use lib.Ieee.{Float, nan}
 use Rattle.numbers.specs.Weight.{zeroWeight}
-use Rattle.use_rows.specs.declared.row.SplitUse.{SplitUse}
 use Rattle.use_rows.proofs.Largest.{row-any}
 use lib.ListN.{getD}
 use borrow.Author.Needs.{needs}

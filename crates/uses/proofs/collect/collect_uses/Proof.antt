@@ -2,7 +2,6 @@
 use mathlib.Core.Path.{_≡_, refl, sym, ap, ap₂, _∙_, subst}
 use mathlib.Core.List.{List, [], _∷_}
 use Prim.Native.Nat.{ℕ, _+_, _-_, _≤_, _<_}
-use native.Mathlib.Nat.{lt-of-lt-of-le, le-of-eq}
 use native.Mathlib.Omega.{arith}
 use lib.ListN.{length, getD}
 use Rattle.links.specs.Blocks.{blocksOf}
@@ -13,8 +12,7 @@ use Rattle.jobs.specs.declared.rows.Segment.{Segment}
 use Rattle.jobs.proofs.Walk.{own-row}
 use Rattle.use_rows.specs.declared.row.SplitUse.{SplitUse}
 use Rattle.use_rows.specs.Uses.{Source, sourceOf, noWeights, startInst, endInst, firstInst, lastInst, useTableOf}
-use Rattle.use_rows.specs.UseColumns.{UseColumns, useColumns, Inside, Holds}
-use Rattle.uses.specs.CheckedUses.{CheckedUses}
+use Rattle.use_rows.specs.UseColumns.{UseColumns, useColumns, Holds}
 use Rattle.use_lists.specs.Collecting.{Collecting, countedLists, RowsLeft, StoredUses, withLast}
 use Rattle.uses.specs.FirstLast.{Starting, Ending}
 use Rattle.use_rows.proofs.Rows.{inside-less}

@@ -1,28 +1,15 @@
 -- `row_ahead` is the row beside a place, on the way to the side
-use mathlib.Core.Path.{sym, ap, subst}
-use Prim.Native.Nat.{_≤_}
 use native.Mathlib.Omega.{arith}
 use borrow.Author.Needs.{needs}
-use Rattle.links.specs.declared.lower.Side.{Side}
-use Rattle.links.specs.Links.{onSide}
-use Rattle.walks.specs.Ways.{rowAhead}
 use Rattle.walks.proofs.places.row_ahead.Statement.{statement}
 use Rattle.walks.proofs.places.row_ahead.Tie as tie
 
-enum-told : tie.Need-enum-told
-enum-told c = search needs
-
-sub-result : tie.Need-sub-result
-sub-result c = let b = c .before .before in let p = subst (λ (s : Side). onSide s 1 0 ≤ b .args .i) (c .enum-told .given .1) (b .pre) in omega (arith, p)
-
-enum-told-2 : tie.Need-enum-told-2
-enum-told-2 c = search needs
-
-returns : tie.Need-returns
-returns c = let a = c .before .before .args in ap (λ (s : Side). rowAhead s (a .i)) (sym (c .enum-told .given .1))
-
-returns-2 : tie.Need-returns-2
-returns-2 c = let a = c .before .before .args in ap (λ (s : Side). rowAhead s (a .i)) (sym (c .enum-told2 .given .1))
-
 pub row-ahead-spec : {M : Type 1} → statement M
-row-ahead-spec = tie.close (tie.spec enum-told sub-result enum-told-2 returns returns-2)
+row-ahead-spec =
+    tie.close
+    (tie.spec
+    (λ c. search needs)
+    (λ c. let p = rw (c .enum-told .given .1) at (c .before .before .pre) in omega (arith, p))
+    (λ c. search needs)
+    (λ c. rw (c .enum-told .given .1))
+    (λ c. rw (c .enum-told2 .given .1)))

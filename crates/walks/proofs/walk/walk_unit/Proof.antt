@@ -19,7 +19,7 @@ use Rattle.walks.specs.Meeting.{Reserved, reservedOf, looked}
 use Rattle.walks.specs.Ways.{AnyAhead, rowAhead, aheadIs}
 use Rattle.walks.specs.Standing.{OrderedUses, StandsIn, Sound, segmentBegin, reachesPast}
 use Rattle.walks.proofs.Ways.{row-inside, behind-inside, some-row, fewer-ahead, ahead-is-T}
-use Rattle.walks.proofs.Seen.{rowOf}
+use Rattle.walks.proofs.Counted.{rowOf}
 use Rattle.walks.proofs.Begin.{Holds, holds-unit}
 use Rattle.walks.proofs.OneUnit.{Walking, Answers, walking-first, walking-out, walking-past, walking-next}
 use Rattle.walks.proofs.walk.walk_unit.Statement.{statement}

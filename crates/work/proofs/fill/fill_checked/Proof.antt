@@ -1,9 +1,6 @@
 -- `fill_checked` fills the uses, then the gaps: what each call relies on, and what is left in the end, is said in proofs/Assembly
-use mathlib.Core.Path.{_≡_}
-use Prim.Native.Nat.{ℕ}
-use Rattle.numbers.specs.declared.costs.RematScales.{RematScales}
 use Rattle.use_rows.specs.UseColumns.{UseColumns, useColumns}
-use Rattle.filling.specs.GapTables.{GapTables, lentTables}
+use Rattle.filling.specs.GapTables.{lentTables}
 use Rattle.filling.specs.SourceTables.{SourceColumns, sourceColumns, WorkColumns, workColumns}
 use Rattle.work.proofs.Assembly.{prevs-room, nexts-room, uses-room, none-filled, cut-inside, cut-cuttable, cut-valued, cut-room, all-filled}
 use borrow.Author.Needs.{needs}

@@ -15,7 +15,8 @@ use Rattle.walks.specs.declared.walk.Walk.{Walk}
 use Rattle.walks.specs.Meeting.{Reserved, reservedOf, alsoMet}
 use Rattle.walks.specs.Standing.{StandsIn, StandsInUnits, PlacesInside, Sound, segmentBegin, segmentEnd}
 use Rattle.walks.proofs.Taken.{reservedTaken, reserved-taken}
-use Rattle.walks.proofs.Seen.{Seen, RowsOf, counted, firstUnits, units-none, units-more, seen-only, met-seen}
+use Rattle.walks.proofs.Seen.{Seen, seen-only}
+use Rattle.walks.proofs.Counted.{RowsOf, counted, firstUnits, units-none, units-more, met-seen}
 use Rattle.walks.proofs.AllUnits.{Walked, walked-none, walked-more}
 use Rattle.walks.proofs.walk.Walk.take_segment.Statement.{statement}
 use Rattle.walks.proofs.walk.Walk.take_segment.Tie as tie
