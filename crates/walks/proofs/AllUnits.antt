@@ -1,5 +1,5 @@
 -- The units of a register, one after the other: those before v have been walked, the others wait
-use mathlib.Core.Path.{_≡_, subst⁻¹}
+use mathlib.Core.Path.{_≡_}
 use mathlib.Core.Logic.{⊎-elim}
 use mathlib.Core.List.{List}
 use Prim.Native.Nat.{ℕ, _+_, _≤_, _<_}
@@ -7,7 +7,6 @@ use native.Mathlib.Omega.{arith}
 use lib.ListN.{length, getD, set, length-set}
 use lib.Seq.{getD-set-same, getD-set-other}
 use Rattle.columns.proofs.Firsts.{split}
-use Rattle.walks.proofs.Steps.{next-only, past-next, below-ne, past-ne}
 
 -- Before and After say where a unit's walk may stand before the segment and behind it
 pub record Walked (units : ℕ) (Before After : ℕ → ℕ → Type 0) (at : List ℕ) (v : ℕ) : Type 0 where
@@ -17,19 +16,14 @@ pub record Walked (units : ℕ) (Before After : ℕ → ℕ → Type 0) (at : Li
 
 pub walked-none : (units : ℕ) (Before After : ℕ → ℕ → Type 0) (at : List ℕ) → length at ≡ 8 → ((w : ℕ) → w < units → Before w (getD at w 0))
     → Walked units Before After at 0
-walked-none units Before After at e f = record { eight = e; walked = λ w l. absurd (omega (arith, l)); waiting = λ w _ l. f w l }
+walked-none units Before After at e f = record { eight = e; walked = λ w l. absurd (omega arith); waiting = λ w _ l. f w l }
 
 pub walked-more : {units : ℕ} {Before After : ℕ → ℕ → Type 0} {at : List ℕ} {v : ℕ} (x : ℕ) → v < units → units ≤ 8 → After v x → Walked units Before After at v
     → Walked units Before After (set at v x) (v + 1)
 walked-more {units} {Before} {After} {at} {v} x h few a k =
     record {
       eight = simp length-set (k .eight);
-      walked = λ w l. ⊎-elim
-          (λ y. subst⁻¹ (λ (z : ℕ). After w z) (getD-set-other at v w x 0 (below-ne w v y)) (k .walked w y))
-          (λ y. subst⁻¹ (λ (i : ℕ). After i (getD (set at v x) i 0)) (next-only w v l y) (subst⁻¹ (λ (z : ℕ). After v z) (getD-set-same at v x 0 inside) a))
-          (split w v);
-      waiting = λ w y l. subst⁻¹ (λ (z : ℕ). Before w z) (getD-set-other at v w x 0 (past-ne w v y)) (k .waiting w (past-next v w y) l);
+      walked = λ w l. ⊎-elim (λ y. rw (getD-set-other at v w x 0 (omega arith)) (k .walked w y))
+          (λ y. let e : w ≡ v = omega arith in rw (e, getD-set-same at v x 0 (omega arith)) a) (split w v);
+      waiting = λ w y l. rw (getD-set-other at v w x 0 (omega arith)) (k .waiting w (omega arith) l);
     }
-  where
-    inside : v < length at
-    inside = omega (arith, k .eight, h, few)

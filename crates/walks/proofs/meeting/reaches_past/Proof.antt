@@ -7,7 +7,7 @@ pub reaches-past-spec : {M : Type 1} → statement M
 reaches-past-spec =
     tie.close
     (tie.spec
-    (λ c. search needs)
-    (λ c. search needs)
+    (search needs)
+    (search needs)
     (λ c. rw (c .before .before .enum-told .given .1))
     (λ c. rw (c .before .before .enum-told2 .given .1)))

@@ -37,7 +37,7 @@ pub ahead-is-spec : {M : Type 1} → statement M
 ahead-is-spec =
     tie.close
     (tie.spec
-    (λ c κs. search needs)
+    (search needs)
     (λ c. sym (and-first _ _ (sym (c .before .any-ahead .ensures) ∙ not-true _ (c .if1 .taken))))
     (λ c κs. some-row (c .before .before .before .args .side) (any c))
     (λ c. scaled-fits _ _ 4 (inside c) (c .before .before .before .before .good .1 .0 .1))

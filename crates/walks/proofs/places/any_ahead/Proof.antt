@@ -6,4 +6,4 @@ use Rattle.walks.proofs.places.any_ahead.Tie as tie
 pub any-ahead-spec : {M : Type 1} → statement M
 any-ahead-spec =
     tie.close
-    (tie.spec (λ c. search needs) (λ c. search needs) (λ c. rw (c .enum-told .given .1)) (λ c. rw (c .enum-told2 .given .1)))
+    (tie.spec (search needs) (search needs) (λ c. rw (c .enum-told .given .1)) (λ c. rw (c .enum-told2 .given .1)))

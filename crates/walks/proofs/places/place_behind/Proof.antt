@@ -8,9 +8,9 @@ pub place-behind-spec : {M : Type 1} → statement M
 place-behind-spec =
     tie.close
     (tie.spec
-    (λ c. search needs)
+    (search needs)
     (λ c. let p = rw (c .enum-told .given .1) at (c .before .before .pre .0) in omega (arith, p))
-    (λ c. search needs)
-    (λ c. search needs)
+    (search needs)
+    (search needs)
     (λ c. rw (c .enum-told .given .1))
     (λ c. rw (c .enum-told2 .given .1)))

@@ -8,8 +8,8 @@ pub row-ahead-spec : {M : Type 1} → statement M
 row-ahead-spec =
     tie.close
     (tie.spec
-    (λ c. search needs)
+    (search needs)
     (λ c. let p = rw (c .enum-told .given .1) at (c .before .before .pre) in omega (arith, p))
-    (λ c. search needs)
+    (search needs)
     (λ c. rw (c .enum-told .given .1))
     (λ c. rw (c .enum-told2 .given .1)))

@@ -161,15 +161,15 @@ pub walk-unit-spec : {M : Type 1} → statement M
 walk-unit-spec =
     tie.close
     (tie.spec Inv-loop μ-loop
-    (λ c κs. search needs)
+    (search needs)
     (λ c. let b = c .before .before .before .before .before .before .before .before .before .before .before in
     let a = b .args in (b .pre, λ sound st. walking-first (a .side) (table b) (a .s) (a .u .0) (a .met) sound (a .at) st))
     (λ c κs. let e = c .before .reservation-count .ensures in
     let long = units (begin c) .long in (omega (arith, e, long), omega (arith, e, c .loop .inv .0)))
     (λ c κs. some-row (begin (c .before .before) .args .side) (ahead c .0))
     (λ c κs. subst (λ (x : ℕ). x < length (table (begin (c .before .before .before)) .rows)) (sym (c .row-ahead .ensures)) (ahead (c .before) .1))
-    (λ c κs. search needs)
-    (λ c κs. search needs)
+    (search needs)
+    (search needs)
     (λ c κs. let d = c .before .before .before .before .before in
     let b = begin (d .before .before) in
     let i = d .before .before .loop .inv .0 in

@@ -162,7 +162,7 @@ pub take-gap-spec : {M : Type 1} → statement M
 take-gap-spec =
     tie.close
     (tie.spec Inv-loop μ-loop
-    (λ c. search needs) (λ c. search needs) (λ c. search needs) (λ c. search needs)
+    (search needs) (search needs) (search needs) (search needs)
     loop-holds
     (λ c κs. (fits (begin c) .long .gap-long, c .loop .inv .0))
     (λ c κs. some-row (begin (c .before .before) .args .side) (ahead c .0))

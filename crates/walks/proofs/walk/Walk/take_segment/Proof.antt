@@ -126,10 +126,10 @@ pub take-segment-spec : {M : Type 1} → statement M
 take-segment-spec =
     tie.close
     (tie.spec Inv-loop μ-loop
-    (λ c. search needs) (λ c. search needs) (λ c. search needs) (λ c. search needs) (λ c. search needs)
-    (λ c. search needs) (λ c. search needs) (λ c. search needs) (λ c. search needs) (λ c. search needs)
+    (search needs) (search needs) (search needs) (search needs) (search needs)
+    (search needs) (search needs) (search needs) (search needs) (search needs)
     loop-holds
-    (λ c. search needs)
+    (search needs)
     (λ c. let fits = begin (c .before .before .before) .pre .0 .fits in omega (arith, fits, c .before .if1 .taken))
     (λ c. omega (arith, one-of-eight (c .before)))
     (λ c. omega (arith, one-of-eight (c .before), c .before .before .before .loop .inv .2 .eight))
