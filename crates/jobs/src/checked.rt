@@ -122,12 +122,14 @@ pub fn held_use_at(unit: &[u32], point: &[u32], value: &[u32], i: usize) -> Held
 }
 
 impl LiveSegment {
+    // The value leaves the segment alive.
     pub fn has_liveout(self) -> bool
         ensures { λ r. ⌜ r ≡ liveOut (self .flags) ⌝ }
     {
         rows::live_out(self.flags)
     }
 
+    // Its first use is a fixed def before its start.
     pub fn has_fixeddef(self) -> bool
         ensures { λ r. ⌜ r ≡ fixedDef (self .flags) ⌝ }
     {

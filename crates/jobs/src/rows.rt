@@ -256,13 +256,14 @@ fn no_use() -> Use
     }
 }
 
-// A segment's flags: its value leaves it alive; its first use is a fixed def before its start.
+// Of a segment's flags: the value leaves it alive.
 pub(crate) fn live_out(flags: u32) -> bool
     ensures { λ r. ⌜ r ≡ liveOut flags ⌝ }
 {
     flags / 2 % 2 == 1
 }
 
+// Its first use is a fixed def before its start.
 pub(crate) fn fixed_def(flags: u32) -> bool
     ensures { λ r. ⌜ r ≡ fixedDef flags ⌝ }
 {
@@ -270,12 +271,14 @@ pub(crate) fn fixed_def(flags: u32) -> bool
 }
 
 impl Segment {
+    // The value leaves the segment alive.
     pub fn has_liveout(self) -> bool
         ensures { λ r. ⌜ r ≡ liveOut (self .flags) ⌝ }
     {
         live_out(self.flags)
     }
 
+    // Its first use is a fixed def before its start.
     pub fn has_fixeddef(self) -> bool
         ensures { λ r. ⌜ r ≡ fixedDef (self .flags) ⌝ }
     {

@@ -152,6 +152,6 @@ pub zero-units : unitsOf zeroWeight ≡ 0
 unfolding unitsOf
 zero-units = refl
 
--- no weight is below zero
-pub zero-least : {x : Float} → Weight x → unitsOf zeroWeight ≤ unitsOf x
-zero-least {x} p = subst (λ (u : ℕ). u ≤ unitsOf x) (sym zero-units) Prim.Native.Nat.zero-le
+-- nothing is lighter than zero
+pub zero-least : (x : Float) → unitsOf zeroWeight ≤ unitsOf x
+zero-least x = subst (λ (u : ℕ). u ≤ unitsOf x) (sym zero-units) Prim.Native.Nat.zero-le

@@ -2,7 +2,7 @@
 use mathlib.Core.Path.{_≡_, refl, sym, ap, _∙_, subst}
 use mathlib.Core.Logic.{inl, inr, ⊎-elim}
 use mathlib.Core.Bool.{Bool, true, false, _&&_, _||_, cond}
-use Prim.Native.Nat.{ℕ, _+_, _≤_, _<_, max, zero-le}
+use Prim.Native.Nat.{ℕ, _+_, _≤_, _<_, max}
 use native.Mathlib.Nat.{le-trans, le-of-eq}
 use native.Mathlib.Omega.{arith}
 use lib.Dec.{T, leb, ltb, eqb, leb→le, le→leb, ltb→lt, lt→ltb, eqb→eq, eqb-refl}
@@ -13,7 +13,7 @@ use Rattle.columns.proofs.Tests.{cond-both, cond-true, and-T}
 use Rattle.columns.proofs.Firsts.{split}
 use Rattle.columns.proofs.OneOf.{any-one, one-some, some-one, picked-some, some-picked}
 use Rattle.numbers.specs.Weight.{Weight, unitsOf, zeroWeight, heavier, heaviest}
-use Rattle.numbers.proofs.Units.{zero-units}
+use Rattle.numbers.proofs.Units.{zero-units, zero-least}
 use Rattle.numbers.proofs.Heaviest.{heavier-weight, heavier-units, heaviest-weight, heaviest-above, heaviest-least}
 use Rattle.jobs.specs.Rows.{noReservation}
 use Rattle.jobs.specs.declared.rows.Reservation.{Reservation}
@@ -48,9 +48,6 @@ RowsOf p t = Rows (length (t .rows)) (OfRegister p t)
 abbrev pub metBy : Register → Reserved → GapSegment → Met
 metBy p t s = record { fixed = fixedMet p t s; heaviest = heaviest (weightsMet p t s) }
 
-none-lighter : (x : Float) → unitsOf zeroWeight ≤ unitsOf x
-none-lighter x = le-trans (le-of-eq zero-units) zero-le
-
 module _ (t : Reserved) (s : GapSegment) where
   -- a row that does not meet the segment counts nothing
   pub unmet : (k : ℕ) → (T (meets s (rowOf t k)) → ⊥) → Nothing (counted t s k)
@@ -59,7 +56,7 @@ module _ (t : Reserved) (s : GapSegment) where
       record {
         fixed = λ c. absurd (h (and-T (meets s r) (countsAsFixed (t .fixedUses) s r) .0 c .0));
         heaviest = cond-both (λ (x : Float). unitsOf x ≤ unitsOf (m .heaviest)) (meets s r && eqb (r .kind) 0) (spillWeight (t .weights) r) zeroWeight
-            (λ c. absurd (h (and-T (meets s r) (eqb (r .kind) 0) .0 c .0))) (λ _. none-lighter (m .heaviest));
+            (λ c. absurd (h (and-T (meets s r) (eqb (r .kind) 0) .0 c .0))) (λ _. zero-least (m .heaviest));
       }
 
   -- a row looked at
@@ -105,7 +102,7 @@ module _ (t : Reserved) (s : GapSegment) where
                 (λ c. heaviest-above (weightsMet p t s) (met-weights p t s) (spillWeight (t .weights) r)
                 (some-one (where-one (weighsAgainst p s) (t .weights) (spillWeight (t .weights) r)) noReservation (t .rows) k (o .0)
                 (and-T (ofRegister p r) (meets s r && eqb (r .kind) 0) .1 (of, c), refl)))
-                (λ _. none-lighter (heaviest (weightsMet p t s)));
+                (λ _. zero-least (heaviest (weightsMet p t s)));
           };
           least = λ n f. record {
             fixed = λ c.

@@ -51,17 +51,17 @@ pub record Seen (count : ℕ → Met) (P : ℕ → Type 0) (m₀ m : Met) : Type
   pub above : (k : ℕ) → P k → Covers m (count k)
   pub least : (n : Met) → Covers n m₀ → ((k : ℕ) → P k → Covers n (count k)) → Covers n m
 
-unfoldable made : Bool → Float → Met
-made b x = record { fixed = b; heaviest = x }
+-- what was met, by its two parts
+abbrev pub met : Bool → Float → Met
+met fixed heaviest = record { fixed = fixed; heaviest = heaviest }
 
 module _ {count : ℕ → Met} where
   -- there is only one
   pub seen-only : {P : ℕ → Type 0} {m₀ m n : Met} → Seen count P m₀ m → Seen count P m₀ n → m ≡ n
-  unfolding made
   seen-only {m = m} {n} s t =
       let a = t .least m (s .kept) (s .above) in
       let b = s .least n (t .kept) (t .above) in
-      ap₂ made (test-same (m .fixed) (n .fixed) (b .fixed) (a .fixed)) (units-inj (s .weight) (t .weight) (le-antisymm (b .heaviest) (a .heaviest)))
+      ap₂ met (test-same (m .fixed) (n .fixed) (b .fixed) (a .fixed)) (units-inj (s .weight) (t .weight) (le-antisymm (b .heaviest) (a .heaviest)))
 
   -- rows that count nothing more
   pub seen-none : {P : ℕ → Type 0} {m : Met} → Weight (m .heaviest) → ((k : ℕ) → P k → Covers m (count k)) → Seen count P m m

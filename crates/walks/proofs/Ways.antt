@@ -82,10 +82,6 @@ pub fewer-ahead : (side : Side) {i n x : ℕ} → AnyAhead side i n → x ≡ pl
 fewer-ahead Previous h e = omega arith
 fewer-ahead Next h e = omega arith
 
--- with no row ahead all are passed
-pub none-ahead : (side : Side) {i n k : ℕ} → (AnyAhead side i n → ⊥) → k < n → Behind side i k
-none-ahead side {i} {n} {k} none h = ⊎-elim (λ p. p) (λ a. absurd (none (some-ahead side a h))) (passed-or-ahead side i k)
-
 -- ---- as code tests it
 pub any-T : (side : Side) (i n : ℕ) → T (anyAhead side i n) ↔ AnyAhead side i n
 any-T Previous i n = (λ t. record { is = ltb→lt 0 i t }, λ h. lt→ltb 0 i (h .is))

@@ -50,6 +50,6 @@ rowAhead side i = onSide side (i - 1) i
 abbrev pub placeBehind : Side → ℕ → ℕ
 placeBehind side i = onSide side (i - 1) (i + 1)
 
--- one lies ahead, and the first has x in a column
+-- one of n rows lies ahead, and the first has the number x in a column
 abbrev pub aheadIs : Side → List ℕ → ℕ → ℕ → ℕ → Bool
 aheadIs side column n i x = anyAhead side i n && eqb (getD column (rowAhead side i) 0) x

@@ -2,8 +2,8 @@
 use links::lower::Side;
 ghost use mathlib.Core.Path.{_≡_};
 ghost use Prim.Native.Nat.{_≤_, _<_};
-ghost use Rattle.links.specs.Links.{onSide};
 ghost use lib.ListN.{length};
+ghost use Rattle.links.specs.Links.{onSide};
 ghost use Rattle.walks.specs.Ways.{anyAhead, rowAhead, aheadIs, placeBehind};
 
 // One of n rows lies ahead on the way to a side.
@@ -27,7 +27,7 @@ pub(crate) fn row_ahead(side: Side, i: usize) -> usize
     }
 }
 
-// One lies ahead, and it has the number x in a column.
+// One of n rows lies ahead, and the first has the number x in a column.
 pub(crate) fn ahead_is(side: Side, column: &[u32], n: usize, i: usize, x: u32) -> bool
     requires { ⌜ (n ≤ length (now column)) × (i ≤ n) ⌝ }
     ensures { λ r. ⌜ r ≡ aheadIs side (now (column .entry)) n i x ⌝ }
@@ -39,7 +39,7 @@ pub(crate) fn ahead_is(side: Side, column: &[u32], n: usize, i: usize, x: u32) -
     column[row] == x
 }
 
-// The place behind it.
+// The place behind the first row ahead.
 pub(crate) fn place_behind(side: Side, i: usize) -> usize
     requires { ⌜ (onSide side 1 0 ≤ i) × (i < 18446744073709551615) ⌝ }
     ensures { λ r. ⌜ r ≡ placeBehind side i ⌝ }

@@ -6,7 +6,6 @@ use Prim.Native.Nat.{ℕ, _-_, _≤_, _<_}
 use native.Mathlib.Omega.{arith}
 use borrow.Author.Needs.{needs}
 use lib.Dec.{T}
-use lib.Ieee.{Float}
 use lib.ListN.{length}
 use Rattle.columns.specs.Table.{shortest}
 use Rattle.links.specs.Links.{onSide}
@@ -21,13 +20,10 @@ use Rattle.walks.specs.Standing.{OrderedUses, StandsIn, Sound, segmentBe
 use Rattle.walks.proofs.Ways.{row-inside, behind-inside, some-row, fewer-ahead, ahead-is-T}
 use Rattle.walks.proofs.Counted.{rowOf}
 use Rattle.walks.proofs.Begin.{Holds, holds-unit}
+use Rattle.walks.proofs.Seen.{met}
 use Rattle.walks.proofs.OneUnit.{Walking, Answers, walking-first, walking-out, walking-past, walking-next}
 use Rattle.walks.proofs.walk.walk_unit.Statement.{statement}
 use Rattle.walks.proofs.walk.walk_unit.Tie as tie
-
--- what was met, as the loop holds it
-abbrev met : Bool → Float → Met
-met fixed heaviest = record { fixed = fixed; heaviest = heaviest }
 
 abbrev Inv-loop : tie.InvT-loop
 Inv-loop side unit start end kind index fixed f-unit f-point f-value weight u at s n i₀ counts₀ heaviest₀ i counts heaviest =

@@ -1,6 +1,5 @@
 -- `take_gap` takes the gap segments of the gap one after the other: what is known is what those passed meet
 use mathlib.Core.Path.{_≡_, sym, ap, subst, _∙_}
-use mathlib.Core.Bool.{Bool}
 use mathlib.Core.List.{map}
 use Prim.Native.Nat.{ℕ, _+_, _-_, _≤_, _<_}
 use native.Mathlib.Nat.{lt-of-lt-of-le}
@@ -24,13 +23,10 @@ use Rattle.walks.specs.Standing.{StandsInUnits, PlacesInside, Sound, seg
 use Rattle.walks.specs.Gaps.{segmentIn, At, metBefore, Fits, Walkable, Takes}
 use Rattle.walks.proofs.Ways.{row-inside, behind-inside, some-row, fewer-ahead, ahead-is-T}
 use Rattle.walks.proofs.Taken.{segmentsTaken, segments-taken}
+use Rattle.walks.proofs.Seen.{met}
 use Rattle.walks.proofs.GapWalk.{Going, going-first, going-next, going-out}
 use Rattle.walks.proofs.walk.Walk.take_gap.Statement.{statement}
 use Rattle.walks.proofs.walk.Walk.take_gap.Tie as tie
-
--- what was met, as the loop holds it
-abbrev met : Bool → Float → Met
-met fixed heaviest = record { fixed = fixed; heaviest = heaviest }
 
 -- what the walk relies on
 pub record Relies (side : Side) (p : Register) (t : Reserved) (g : SegmentColumns) (gap : ℕ) (w : Float) (walk : Walk) : Type 0 where

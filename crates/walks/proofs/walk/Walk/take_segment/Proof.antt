@@ -1,11 +1,9 @@
 -- `take_segment` walks the register's units one after the other: what is known is what the units before v count
 use mathlib.Core.Path.{_≡_, refl, sym, subst}
-use mathlib.Core.Bool.{Bool}
 use Prim.Native.Nat.{ℕ, _+_, _-_, _≤_, _<_, zero-le}
 use native.Mathlib.Nat.{le-refl, le-antisymm, lt-of-lt-of-le}
 use native.Mathlib.Omega.{arith}
 use borrow.Author.Needs.{needs}
-use lib.Ieee.{Float}
 use lib.ListN.{length}
 use Rattle.links.specs.declared.lower.Side.{Side}
 use Rattle.walks.specs.declared.meeting.Met.{Met}
@@ -15,15 +13,11 @@ use Rattle.walks.specs.declared.walk.Walk.{Walk}
 use Rattle.walks.specs.Meeting.{Reserved, reservedOf, alsoMet}
 use Rattle.walks.specs.Standing.{StandsIn, StandsInUnits, PlacesInside, Sound, segmentBegin, segmentEnd}
 use Rattle.walks.proofs.Taken.{reservedTaken, reserved-taken}
-use Rattle.walks.proofs.Seen.{Seen, seen-only}
+use Rattle.walks.proofs.Seen.{met, Seen, seen-only}
 use Rattle.walks.proofs.Counted.{RowsOf, counted, firstUnits, units-none, units-more, met-seen}
 use Rattle.walks.proofs.AllUnits.{Walked, walked-none, walked-more}
 use Rattle.walks.proofs.walk.Walk.take_segment.Statement.{statement}
 use Rattle.walks.proofs.walk.Walk.take_segment.Tie as tie
-
--- what was met, as the loop holds it
-abbrev met : Bool → Float → Met
-met fixed heaviest = record { fixed = fixed; heaviest = heaviest }
 
 -- a place within the rows
 abbrev Inside : Reserved → ℕ → ℕ → Type 0
