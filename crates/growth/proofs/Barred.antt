@@ -9,9 +9,10 @@ use lib.Dec.{T, T-not}
 use Rattle.links.specs.declared.lower.Side.{Side}
 use Rattle.links.specs.declared.lower.Side.the-variants.{Previous, Next}
 use Rattle.links.specs.Links.{onSide}
-use Rattle.growth.specs.Growth.{GapsSeen, Span, State, ownSpan, gapOutside, usedUp, grownBy, passesOn, start, sideOpen, isOpen, barred, growth}
+use Rattle.growth.specs.Growth.{GapsSeen, Span, State, ownSpan, gapOutside, usedUp, grownBy, passesOn, start, sideOpen, isOpen, barred, turn, growth}
+use Rattle.growth.specs.declared.step.Turn.the-variants.{Try}
 use Rattle.growth.specs.Demand.{FailedBefore}
-use Rattle.growth.proofs.Tries.{open-free, try-cases}
+use Rattle.growth.proofs.Tries.{open-free, try-told}
 
 module _ (seen : GapsSeen) where
   -- a side is barred
@@ -19,7 +20,8 @@ module _ (seen : GapsSeen) where
   Barred side st = T (onSide side (st .left-barred) (st .right-barred))
 
   later : (side : Side) (n : ℕ) (s t : Span) → gapOutside side s ≡ gapOutside side t → FailedBefore seen side n s → FailedBefore seen side (suc n) t
-  later side n s t e f = (f .0, le-trans (f .1) (more n), f .2 ∙ e, f .3)
+  later side n s t e f =
+      record { after = f .after; before = le-trans (f .before) (more n); tried = f .tried; gap = f .gap ∙ e; failed = f .failed }
     where
       more : (n : ℕ) → n ≤ suc n
       more n = omega arith
@@ -40,19 +42,19 @@ module _ (seen : GapsSeen) where
       none Previous b = absurd b
       none Next b = absurd b
   barred-failed side (suc n) =
-      try-cases seen (λ (t : State). Barred side t → FailedBefore seen side (suc n) (t .region)) (growth seen n)
+      try-told seen (λ (t : State). Barred side t → FailedBefore seen side (suc n) (t .region)) (growth seen n)
       (λ other o _ b. later side n (growth seen n .region) (grownBy other seen (growth seen n .region)) (same-outside (growth seen n) side other o b)
       (barred-failed side n b))
-      (λ other o f b. by-bar other side f (barred-failed side n) b)
+      (λ other o w f b. by-bar other side w f (barred-failed side n) b)
       (λ _ b. later side n (growth seen n .region) (growth seen n .region) refl (barred-failed side n b))
     where
-      by-bar : (other side : Side) → T (not (passesOn other seen (growth seen n .region)))
+      by-bar : (other side : Side) → turn seen (growth seen n) ≡ Try other → T (not (passesOn other seen (growth seen n .region)))
           → (Barred side (growth seen n) → FailedBefore seen side n (growth seen n .region)) → Barred side (barred other (growth seen n))
           → FailedBefore seen side (suc n) (growth seen n .region)
-      by-bar Previous Previous f before b = (n, le-refl (suc n), refl, f)
-      by-bar Next Next f before b = (n, le-refl (suc n), refl, f)
-      by-bar Previous Next f before b = later Next n (growth seen n .region) (growth seen n .region) refl (before b)
-      by-bar Next Previous f before b = later Previous n (growth seen n .region) (growth seen n .region) refl (before b)
+      by-bar Previous Previous w f before b = record { after = n; before = le-refl (suc n); tried = w; gap = refl; failed = f }
+      by-bar Next Next w f before b = record { after = n; before = le-refl (suc n); tried = w; gap = refl; failed = f }
+      by-bar Previous Next w f before b = later Next n (growth seen n .region) (growth seen n .region) refl (before b)
+      by-bar Next Previous w f before b = later Previous n (growth seen n .region) (growth seen n .region) refl (before b)
 
   -- a side that is not open is used up, or the gap just outside failed when it was tried
   pub shut-why : (side : Side) (n : ℕ) → T (not (isOpen side seen (growth seen n)))

@@ -16,15 +16,15 @@ use Rattle.numbers.specs.Chain.{Chain, ChainFrom, longest}
 use Rattle.numbers.proofs.Units.{units-lt, lt-units, finite-of-units}
 use Rattle.numbers.proofs.Rounding.{rounded, round-weight, round-monotone, round-at-most}
 use Rattle.numbers.proofs.Operations.{product-round, product-weight, whole-number, whole-finite}
-use Rattle.numbers.proofs.Normalised.{exceeds-rises, exceeds-lighter}
+use Rattle.numbers.proofs.Normalised.{exceeds-rises, exceeds-above-zero, exceeds-lighter}
 use Rattle.numbers.proofs.Heaviest.{heaviest-weight, heaviest-above, among-weight}
 use Rattle.numbers.proofs.Bits.{weight-back, bits-back, value-is}
-use Rattle.numbers.proofs.Chain.{chain-rises, chain-few, chain-bound}
+use Rattle.numbers.proofs.Chain.{chain-rises, chain-few}
 use Rattle.growth.specs.Growth.{GapsSeen, ownSpan, passes, growth, weightsIn}
 use Rattle.growth.specs.Proposal.{proposalWith, proposalOf}
 use Rattle.growth.specs.Demand.{SoundGaps}
-use Rattle.growth.specs.Evictions.{Promise, Kept, MeetsCarrier, EvictsAfter, Evicts, Each, member, EvictionsEnd, promiseOf, Given, AfterTries, IsFound}
-use Rattle.growth.specs.Evictions.{promised}
+use Rattle.growth.specs.Evictions.{Promise, Kept, MeetsCarrier, EvictsAfter, Evicts, Each, EachAfter, member, EvictionsEnd, promiseOf, Given, AfterTries}
+use Rattle.growth.specs.Evictions.{IsFound, promised}
 use Rattle.growth.specs.declared.proposal.SplitProposal.{SplitProposal}
 use Rattle.growth.proofs.Proposals.{growth-met, early-demand3, found-own-passes, found-is-grown}
 
@@ -102,9 +102,13 @@ chain-after n h p [] k ks ns e = tt
 chain-after n h p (q ∷ qs) k ks ns e =
     (ks .0 .finite, carried-exceeded q (ks .0) n (ns .0) h (p .weight) (finite (k .finite)) (e .0), chain-after n h q qs (ks .0) (ks .1) (ns .1) (e .1))
 
-chain-of : (n : ℕ) → n ≤ 2048 → (ps : List Promise) → Each Kept ps → AtMost n ps → Evicts ps → Chain n (weightsOf ps)
+-- nothing is asked of the first one's numerator
+abbrev LaterAtMost : ℕ → List Promise → Type 0
+LaterAtMost n ps = EachAfter (λ (p : Promise). p .numerator ≤ n) ps
+
+chain-of : (n : ℕ) → n ≤ 2048 → (ps : List Promise) → Each Kept ps → LaterAtMost n ps → Evicts ps → Chain n (weightsOf ps)
 chain-of n h [] ks ns e = tt
-chain-of n h (p ∷ ps) ks ns e = (ks .0 .finite, chain-after n h p ps (ks .0) (ks .1) (ns .1) e)
+chain-of n h (p ∷ ps) ks ns e = (ks .0 .finite, chain-after n h p ps (ks .0) (ks .1) ns e)
 
 -- ---- members by their place
 each-at : (P : Promise → Type 0) (ps : List Promise) (i : ℕ) → Each P ps → i < length ps → P (member ps i)
@@ -125,6 +129,10 @@ each-fraction : (ps : List Promise) → Each Kept ps → AtMost 2048 ps
 each-fraction [] ks = tt
 each-fraction (p ∷ ps) ks = (ks .0 .fraction, each-fraction ps (ks .1))
 
+later-fraction : (ps : List Promise) → Each Kept ps → LaterAtMost 2048 ps
+later-fraction [] ks = tt
+later-fraction (p ∷ ps) ks = each-fraction ps (ks .1)
+
 -- ---- the law
 module _ (ps : List Promise) (kept : Each Kept ps) (evicts : Evicts ps) where
   rising : (i j : ℕ) → i ≤ j → j < length ps → unitsOf (member ps i .weight) ≤ unitsOf (member ps j .weight)
@@ -136,7 +144,7 @@ module _ (ps : List Promise) (kept : Each Kept ps) (evicts : Evicts ps) where
       ]
     where
       chain : Chain 2048 (weightsOf ps)
-      chain = chain-of 2048 (lit≤ tt) ps kept (each-fraction ps kept) evicts
+      chain = chain-of 2048 (lit≤ tt) ps kept (later-fraction ps kept) evicts
 
   no-ring-of : (i j : ℕ) → i ≤ j → j < length ps → MeetsCarrier (member ps i) (member ps j .weight) → ⊥
   no-ring-of i j h l m =
@@ -144,22 +152,24 @@ module _ (ps : List Promise) (kept : Each Kept ps) (evicts : Evicts ps) where
       (lt-of-le-of-lt (rising i j h l)
       (carried-lighter (member ps i) (each-at Kept ps i kept (lt-of-le-of-lt h l)) (member ps j .weight) (finite (each-at Kept ps j kept l .finite)) m))
 
--- at numerators up to 2007
-chain-2007 : (ps : List Promise) → Each Kept ps → Evicts ps → AtMost 2007 ps → Chain 2007 (weightsOf ps)
-chain-2007 ps kept evicts ns = chain-of 2007 (lit≤ tt) ps kept ns evicts
+-- a kept promise's weight is above zero, as it passes over its interference weight
+kept-above-zero : (p : Promise) → Kept p → 0 < unitsOf (p .weight)
+kept-above-zero p kept = exceeds-above-zero (p .numerator) (kept .fraction) (kept .finite) (heaviest-is p kept) (kept .strict)
 
-above-zero : (ps : List Promise) → Each Kept ps → Evicts ps → AtMost 2007 ps → 0 < unitsOf (member ps 0 .weight) → length ps ≤ longest
-above-zero [] kept evicts ns z = lit≤ tt
-above-zero (p ∷ ps) kept evicts ns z =
-    subst (λ (n : ℕ). n ≤ longest) (weights-long (p ∷ ps)) (chain-few 2007 (lit≤ tt) (p .weight) (weightsOf ps) z (chain-2007 (p ∷ ps) kept evicts ns))
+-- so, at numerators up to 2007 after the first, the estimate bounds every list
+at-2007 : (ps : List Promise) → Each Kept ps → Evicts ps → LaterAtMost 2007 ps → length ps ≤ longest
+at-2007 [] kept evicts ns = lit≤ tt
+at-2007 (p ∷ ps) kept evicts ns =
+    subst (λ (n : ℕ). n ≤ longest) (weights-long (p ∷ ps))
+    (chain-few 2007 (lit≤ tt) (p .weight) (weightsOf ps) (kept-above-zero p (kept .0)) (chain-of 2007 (lit≤ tt) (p ∷ ps) kept ns evicts))
 
 -- the ring and chain law, of every list of kept promises
 pub evictions-end : (ps : List Promise) → Each Kept ps → Evicts ps → EvictionsEnd ps
 evictions-end ps kept evicts =
     record {
       no-ring = no-ring-of ps kept evicts;
-      few = λ ns. subst (λ (n : ℕ). n ≤ 10000) (weights-long ps) (chain-bound 2007 (lit≤ tt) (weightsOf ps) (chain-2007 ps kept evicts ns));
-      few-above-zero = above-zero ps kept evicts;
+      few = λ ns. le-trans (at-2007 ps kept evicts ns) (lit≤ tt);
+      fewer = at-2007 ps kept evicts;
     }
 
 -- ---- the promises of growth are kept: of each proposal before growth is finished, and of what is found

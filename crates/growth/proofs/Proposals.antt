@@ -18,7 +18,7 @@ use Rattle.numbers.proofs.Heaviest.{heaviest-weight, heaviest-among, heaviest-a
 use Rattle.links.specs.declared.lower.Side.{Side}
 use Rattle.links.specs.declared.lower.Side.the-variants.{Previous, Next}
 use Rattle.growth.specs.Growth.{GapsSeen, State, ownSpan, gapsIn, weightsIn, heaviestIn, normalisedOf, weightTest, gapOutside, usedUp, grownBy, passes}
-use Rattle.growth.specs.Growth.{passesOn, isOpen, growth, grown}
+use Rattle.growth.specs.Growth.{passesOn, isOpen, growth, endOfGrowth, grown}
 use Rattle.growth.specs.Proposal.{freqOutside, splitCost, proposalWith, proposalOf, regionOf}
 use Rattle.growth.specs.Demand.{Around, Ended, In, MeetsFixed, sumOver, addedTo, gapsBeside, gapsGrown, FailedBefore, SoundGaps, Demand3}
 use Rattle.growth.specs.declared.proposal.SplitProposal.{SplitProposal}
@@ -187,27 +187,27 @@ module _ (seen : GapsSeen) where
     found-own-passes = parts .0
 
     -- it is the proposal of the region with which growth ends
-    pub found-is-grown : p ≡ proposalOf seen (growth seen (seen .count + 1) .region)
+    pub found-is-grown : p ≡ proposalOf seen (endOfGrowth seen .region)
     unfolding grown
     found-is-grown = parts .1
 
     module _ (sound : SoundGaps seen) where
       -- no side is open there
-      pub found-ended : Ended seen (growth seen (seen .count + 1))
+      pub found-ended : Ended seen (endOfGrowth seen)
       found-ended = growth-ends seen (sound .inside) (seen .count + 1) (le-refl (seen .count + 1))
 
       -- on each side the table is used up, or the gap just outside failed when it was tried
-      pub found-side-ends : (side : Side) → T (usedUp side (seen .count) (growth seen (seen .count + 1) .region))
-          ⊎ FailedBefore seen side (seen .count + 1) (growth seen (seen .count + 1) .region)
+      pub found-side-ends : (side : Side) → T (usedUp side (seen .count) (endOfGrowth seen .region))
+          ⊎ FailedBefore seen side (seen .count + 1) (endOfGrowth seen .region)
       found-side-ends Previous = shut-why seen Previous (seen .count + 1) (found-ended .left)
       found-side-ends Next = shut-why seen Next (seen .count + 1) (found-ended .right)
 
       -- demand 3 of what is found
-      pub found-demand3 : Demand3 seen (growth seen (seen .count + 1)) p
-      found-demand3 = subst (Demand3 seen (growth seen (seen .count + 1))) (sym found-is-grown) (early-demand3 seen sound (seen .count + 1) found-own-passes)
+      pub found-demand3 : Demand3 seen (endOfGrowth seen) p
+      found-demand3 = subst (Demand3 seen (endOfGrowth seen)) (sym found-is-grown) (early-demand3 seen sound (seen .count + 1) found-own-passes)
 
       -- its region holds the own gap, inside the table
-      pub found-around : Around seen (growth seen (seen .count + 1) .region)
+      pub found-around : Around seen (endOfGrowth seen .region)
       found-around = growth-around seen (sound .inside) (seen .count + 1)
 
       -- its use weight is the own gap's, and then those of the gaps grown, added in the order grown
@@ -216,16 +216,16 @@ module _ (seen : GapsSeen) where
       found-use-weight = ap (λ (q : SplitProposal). q .«use_weight») found-is-grown ∙ weight-in-order seen (sound .inside) (seen .count + 1)
 
       -- its instructions are 1 and the live instructions of the region's other gaps
-      pub found-live-insts : p .«live_insts» ≡ 1 + sumOver (seen .live) (gapsBeside (ownSpan seen) (growth seen (seen .count + 1) .region))
+      pub found-live-insts : p .«live_insts» ≡ 1 + sumOver (seen .live) (gapsBeside (ownSpan seen) (endOfGrowth seen .region))
       unfolding proposalWith
       found-live-insts = ap (λ (q : SplitProposal). q .«live_insts») found-is-grown ∙ insts-of-gaps seen (sound .inside) (seen .count + 1)
 
       -- its region meets nothing that counts as fixed
-      pub found-no-fixed : MeetsFixed seen (growth seen (seen .count + 1) .region) → ⊥
+      pub found-no-fixed : MeetsFixed seen (endOfGrowth seen .region) → ⊥
       found-no-fixed = found-demand3 .no-fixed
 
       -- its interference weight is the heaviest of all weights that its region meets
-      pub found-heaviest : p .«interference_weight» ≡ heaviestIn seen (growth seen (seen .count + 1) .region)
+      pub found-heaviest : p .«interference_weight» ≡ heaviestIn seen (endOfGrowth seen .region)
       unfolding proposalWith
       found-heaviest = ap (λ (q : SplitProposal). q .«interference_weight») found-is-grown
 

@@ -8,12 +8,13 @@ use mathlib.Core.Bool.{Bool, true, false, not, _&&_, cond}
 use lib.Dec.{T, leb, eqb, nleb→lt}
 use lib.Ieee.Fits.{and-l, and-r}
 use Rattle.columns.proofs.Tests.{cond-both, cond-false}
+use Rattle.columns.proofs.Firsts.{split}
 use Rattle.links.specs.declared.lower.Side.{Side}
 use Rattle.links.specs.declared.lower.Side.the-variants.{Previous, Next}
 use Rattle.links.specs.Links.{onSide}
 use Rattle.growth.specs.Growth.{GapsSeen, State, gapOutside, weightTest, usedUp, grownBy, passes, passesOn, start, sideOpen, isOpen, prefersLeft}
 use Rattle.growth.specs.Growth.{sideTried}
-use Rattle.growth.specs.Growth.{barred, grows, came, afterCame, tryOn, tryAt, try, growth}
+use Rattle.growth.specs.Growth.{barred, grows, came, afterCame, tryOn, tryAt, turn, try, growth, endOfGrowth}
 use Rattle.growth.specs.Demand.{Around, Ended}
 use Rattle.growth.specs.declared.step.Came.the-variants.{Grown, Fixed, Weight}
 use Rattle.growth.specs.declared.step.Turn.{Turn}
@@ -68,17 +69,25 @@ module _ (seen : GapsSeen) where
       by false true = refl
       by false false = refl
 
-  -- a try grows by a gap on an open side that passes, or bars an open side on which none passes, or there is none and nothing changes
+  -- a try grows by a gap on an open side that passes, or bars an open side whose turn it is and on which none passes, or there is none and
+  -- nothing changes
+  pub try-told : (P : State → Type 0) (st : State)
+      → ((side : Side) → T (isOpen side seen st) → T (passesOn side seen (st .region)) → P (grows side seen st))
+      → ((side : Side) → T (isOpen side seen st) → turn seen st ≡ Try side → T (not (passesOn side seen (st .region))) → P (barred side st))
+      → (Ended seen st → P st)
+      → P (try seen st)
+  unfolding try
+  try-told P st g b e =
+      turn-cases (λ (t : Turn). turn seen st ≡ t → P (tryAt t seen st)) st
+      (λ side o w. subst P (sym (try-on side st))
+      (cond-both P (passesOn side seen (st .region)) (grows side seen st) (barred side st) (g side o) (b side o w))) (λ x _. e x) refl
+
   pub try-cases : (P : State → Type 0) (st : State)
       → ((side : Side) → T (isOpen side seen st) → T (passesOn side seen (st .region)) → P (grows side seen st))
       → ((side : Side) → T (isOpen side seen st) → T (not (passesOn side seen (st .region))) → P (barred side st))
       → (Ended seen st → P st)
       → P (try seen st)
-  unfolding try
-  try-cases P st g b e =
-      turn-cases (λ (t : Turn). P (tryAt t seen st)) st
-      (λ side o. subst P (sym (try-on side st))
-      (cond-both P (passesOn side seen (st .region)) (grows side seen st) (barred side st) (g side o) (b side o))) e
+  try-cases P st g b e = try-told P st g (λ side o _ f. b side o f) e
 
   -- what holds at the start and is kept by each growing and each barring holds of growth
   pub growth-keeps : (P : State → Type 0) → P (start seen)
@@ -232,3 +241,28 @@ module _ (seen : GapsSeen) where
 
       more : (a b : ℕ) → a ≤ a + b
       more a b = omega arith
+
+  -- ---- growth has one end
+  -- growth that has ended stays the same
+  pub ended-same : (n m : ℕ) → n ≤ m → Ended seen (growth seen n) → growth seen m ≡ growth seen n
+  unfolding growth
+  ended-same n m h e = ap (growth seen) (whole n m h) ∙ by (m - n)
+    where
+      whole : (n m : ℕ) → n ≤ m → m ≡ m - n + n
+      whole n m h = omega (arith, h)
+
+      next : (a b : ℕ) → suc a + b ≡ suc (a + b)
+      next a b = omega arith
+
+      by : (d : ℕ) → growth seen (d + n) ≡ growth seen n
+      by zero = ap (growth seen) (let z : 0 + n ≡ n = omega arith in z)
+      by (suc d) = ap (growth seen) (next d n) ∙ ap (try seen) (by d) ∙ ended-stays (growth seen n) e
+
+  -- whatever the number of tries after which no side is open, it is the same state
+  pub ends-once : seen .own < seen .count → (n : ℕ) → Ended seen (growth seen n) → growth seen n ≡ endOfGrowth seen
+  ends-once h n e =
+      ⊎-elim (λ l. sym (ended-same n (seen .count + 1) (less n (seen .count + 1) l) e))
+      (λ l. ended-same (seen .count + 1) n l (growth-ends h (seen .count + 1) (le-refl (seen .count + 1)))) (split n (seen .count + 1))
+    where
+      less : (n m : ℕ) → n < m → n ≤ m
+      less n m h = omega (arith, h)

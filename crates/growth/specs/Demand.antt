@@ -12,7 +12,8 @@ use Rattle.numbers.specs.Normal.{normalised, exceeds}
 use Rattle.links.specs.declared.lower.Side.{Side}
 use Rattle.links.specs.declared.lower.Side.the-variants.{Previous, Next}
 use Rattle.growth.specs.declared.proposal.SplitProposal.{SplitProposal}
-use Rattle.growth.specs.Growth.{GapsSeen, Span, between, gapsIn, gapOutside, State, isOpen, passesOn, growth}
+use Rattle.growth.specs.Growth.{GapsSeen, Span, between, gapsIn, gapOutside, State, isOpen, passesOn, turn, growth}
+use Rattle.growth.specs.declared.step.Turn.the-variants.{Try}
 use Rattle.growth.specs.Proposal.{proposalOf, gapsCovered}
 
 -- a region around the best use's own gap, inside the table
@@ -26,10 +27,13 @@ pub record Ended (seen : GapsSeen) (st : State) : Type 0 where
   pub left : T (not (isOpen Previous seen st))
   pub right : T (not (isOpen Next seen st))
 
--- the gap just outside a region failed in one of the first n tries
-abbrev pub FailedBefore : GapsSeen → Side → ℕ → Span → Type 0
-FailedBefore seen side n s =
-    (m : ℕ) × (m < n) × (gapOutside side (growth seen m .region) ≡ gapOutside side s) × T (not (passesOn side seen (growth seen m .region)))
+-- one of the first n tries was on a side, of the gap just outside a region there, and that gap failed at that try
+pub record FailedBefore (seen : GapsSeen) (side : Side) (n : ℕ) (s : Span) : Type 0 where
+  pub after : ℕ
+  pub before : after < n
+  pub tried : turn seen (growth seen after) ≡ Try side
+  pub gap : gapOutside side (growth seen after .region) ≡ gapOutside side s
+  pub failed : T (not (passesOn side seen (growth seen after .region)))
 
 -- a gap of a region
 abbrev pub In : Span → ℕ → Type 0

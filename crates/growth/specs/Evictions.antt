@@ -48,6 +48,11 @@ abbrev pub Each : {A : Type 0} → (A → Type 0) → List A → Type 0
 Each P [] = Unit {0}
 Each P (x ∷ xs) = P x × Each P xs
 
+-- each member after the first
+abbrev pub EachAfter : {A : Type 0} → (A → Type 0) → List A → Type 0
+EachAfter P [] = Unit {0}
+EachAfter P (x ∷ xs) = Each P xs
+
 -- member i
 abbrev pub member : List Promise → ℕ → Promise
 member ps i = getD ps i (record { weight = zeroWeight; interference = zeroWeight; met = []; numerator = 0 })
@@ -56,9 +61,9 @@ member ps i = getD ps i (record { weight = zeroWeight; interference = zeroWeight
 pub record EvictionsEnd (ps : List Promise) : Type 0 where
   -- no member meets a reservation that carries its own or a later one's weight
   pub no-ring : (i j : ℕ) → i ≤ j → j < length ps → MeetsCarrier (member ps i) (member ps j .weight) → ⊥
-  -- with numerators up to 2007 there are at most 10,000 members, 9,495 if the first weight is above zero
-  pub few : Each (λ (p : Promise). p .numerator ≤ 2007) ps → length ps ≤ 10000
-  pub few-above-zero : Each (λ (p : Promise). p .numerator ≤ 2007) ps → 0 < unitsOf (member ps 0 .weight) → length ps ≤ longest
+  -- with numerators up to 2007 after the first there are at most 10,000 members, and by the estimate at most 9,495
+  pub few : EachAfter (λ (p : Promise). p .numerator ≤ 2007) ps → length ps ≤ 10000
+  pub fewer : EachAfter (λ (p : Promise). p .numerator ≤ 2007) ps → length ps ≤ longest
 
 -- what a proposal promises, in what growth sees of its job
 abbrev pub promiseOf : GapsSeen → SplitProposal → Promise

@@ -191,15 +191,23 @@ abbrev pub tryAt : Turn → GapsSeen → State → State
 tryAt (Turn·is.Try side) seen st = tryOn side seen st
 tryAt Turn·is.End seen st = st
 
+-- the side whose turn it is among the gaps seen
+abbrev pub turn : GapsSeen → State → Turn
+turn seen st = sideTried (seen .count) (seen .freq) (seen .live) st
+
 -- one try
 unfoldable pub try : GapsSeen → State → State
-try seen st = tryAt (sideTried (seen .count) (seen .freq) (seen .live) st) seen st
+try seen st = tryAt (turn seen st) seen st
 
 -- growth after n tries
 unfoldable pub growth : GapsSeen → ℕ → State
 growth seen zero = start seen
 growth seen (suc n) = try seen (growth seen n)
 
--- the region with which growth ends: each gap is grown or bars a side at most once, so these tries suffice
+-- growth where it ends: each gap is grown or bars a side at most once, so these tries suffice
+abbrev pub endOfGrowth : GapsSeen → State
+endOfGrowth seen = growth seen (seen .count + 1)
+
+-- the region with which growth ends
 unfoldable pub grown : GapsSeen → Span
-grown seen = growth seen (seen .count + 1) .region
+grown seen = endOfGrowth seen .region

@@ -3,10 +3,11 @@ use mathlib.Core.Path.{_≡_, refl, sym, ap, _∙_, subst, subst₂}
 use mathlib.Core.Logic.{_⊎_, inl, inr}
 use Prim.Native.Nat.{ℕ, zero, suc, _+_, _-_, _*_, _/_, _%_, _^_, _≤_, _<_}
 use native.Mathlib.Nat.{le-refl, le-trans, le-of-eq, le-of-lt, le-of-suc-le-suc, lt-of-lt-of-le, lt-of-le-of-lt, lt-of-not-le, not-le-of-lt, not-suc-le-zero}
-use native.Mathlib.Nat.{mod-eq-of-lt, mod-lt, mul-one, suc-inj, div-add-mod', mul-le-mul, mul-lt-mul-of-pos-right, pow-suc, eq-or-lt-of-le, add-assoc}
+use native.Mathlib.Nat.{mod-eq-of-lt, mod-lt, mul-one, suc-inj, div-add-mod', mul-le-mul, mul-lt-mul-of-pos-right, pow-suc, eq-or-lt-of-le}
 use native.Mathlib.Decide.{decLt}
 use native.Mathlib.Omega.{arith}
 use mathlib.Core.Bool.{Bool, true, false, not, cond}
+use lib.IntN.{ℤ}
 use lib.Dec.{T, leb, ltb, eqb, leb→le, lit≤, lit<, eqb→eq}
 use lib.Pow.{pow-pos, pow-mono}
 use lib.Ieee.{Float, nan, inf, fin, binary32, up, down, odd, size, fits, lt, isNan, nanBits, ofFields, ofBits, toBits}
@@ -16,8 +17,7 @@ use lib.Ieee.Fits.{kept-lt}
 use lib.Ieee.Bits.{ofBits-fits, ofBits-toBits, toBits-ofBits, nanBits-is}
 use borrow.Author.Tests.{lt-leb, le-leb, eq-eqb}
 use Rattle.numbers.specs.Weight.{Finite, number, Weight, infinite, finite, infiniteUnits, unitsOf, zeroWeight, weightLimit, frequencyLimit, valueFrom}
-use Rattle.numbers.specs.Weight.{valueOf, bitsFrom, bitsShown}
-use Rattle.numbers.specs.declared.weights.MaybeBits.the-variants.{At, Absent}
+use Rattle.numbers.specs.Weight.{valueOf}
 use Rattle.numbers.specs.declared.weights.MaybeWeight.the-variants as MaybeWeight·is
 use Rattle.columns.proofs.Tests.{cond-both, cond-true, cond-false, ltb-same}
 use Rattle.numbers.proofs.Units.{bitsOfUnits, bits-from-units, weight-fits, units-order, units-infinite, units-below, finite-of-units, zero-finite}
@@ -179,30 +179,6 @@ pub weight-bits : {x : Float} → Weight x → toBits binary32 x ≤ weightLimit
 weight-bits infinite = unfold toBits in le-refl weightLimit
 weight-bits {x} (finite f) = subst (λ (n : ℕ). n ≤ weightLimit) (sym (bits-from-units (finite f))) (units-bits (unitsOf x) (units-below f))
 
--- ---- the answer to a weight's bits
--- a negative value's bits are above infinity's
-signed : (q : ℕ) → 2 ^ 31 + q ≤ weightLimit → ⊥
-signed q h = omega arith
-
-pub bits-from-within : (x : Float) → T (not (isNan x)) → toBits binary32 x ≤ weightLimit → At (toBits binary32 x) ≡ bitsFrom x
-unfolding isNan bitsFrom toBits
-bits-from-within nan n h = absurd n
-bits-from-within (inf true) n h = absurd (signed 2139095040 h)
-bits-from-within (inf false) n h = refl
-bits-from-within (fin true m e) n h =
-    let k = size (m * up e * 2 ^ 149 / down e) - 24 in
-    absurd (signed (k * 2 ^ 23 + m * up e * 2 ^ 149 / down e / 2 ^ k)
-    (le-trans (le-of-eq (sym (add-assoc (2 ^ 31) (k * 2 ^ 23) (m * up e * 2 ^ 149 / down e / 2 ^ k)))) h))
-bits-from-within (fin false m e) n h = refl
-
-pub bits-from-beyond : (x : Float) → T (fits binary32 x) → weightLimit < toBits binary32 x → Absent ≡ bitsFrom x
-unfolding bitsFrom
-bits-from-beyond nan f h = refl
-bits-from-beyond (inf true) f h = refl
-bits-from-beyond (inf false) f h = absurd (not-le-of-lt h (weight-bits infinite))
-bits-from-beyond (fin true m e) f h = refl
-bits-from-beyond (fin false m e) f h = absurd (not-le-of-lt h (weight-bits (finite (number f))))
-
 -- ---- values read from bits
 pub value-weight : (limit bits : ℕ) → limit ≤ weightLimit → Weight (valueOf limit bits)
 unfolding valueOf
@@ -256,13 +232,28 @@ value-absent limit bits e = go (leb bits limit) e
     go true e = cc
     go false e = refl
 
--- ---- a weight as bits, as an answer shows it
--- a weight's bits
-pub bits-shown : {w : Float} → Weight w → bitsShown w ≡ toBits binary32 w
-unfolding bitsFrom
-bits-shown infinite = refl
-bits-shown (finite (number f)) = refl
+-- the value of a weight's bits is the weight
+pub value-back : {w : Float} → Weight w → valueOf weightLimit (toBits binary32 w) ≡ w
+value-back {w} p = value-is weightLimit (toBits binary32 w) (weight-bits p) ∙ weight-back p
 
--- their value is the weight again
-pub shown-back : {w : Float} → Weight w → valueOf weightLimit (bitsShown w) ≡ w
-shown-back {w} p = ap (valueOf weightLimit) (bits-shown p) ∙ value-is weightLimit (toBits binary32 w) (weight-bits p) ∙ weight-back p
+-- ---- what is no weight has bits too
+-- a NaN's
+pub nan-bits : (x : Float) → x ≡ nan → 2143289344 ≡ toBits binary32 x
+unfolding toBits
+nan-bits x e = ap (toBits binary32) (sym e)
+
+-- without its sign a value is a weight
+pub fits-unsigned : (m : ℕ) (e : ℤ) → T (fits binary32 (fin true m e)) → T (fits binary32 (fin false m e))
+unfolding fits
+fits-unsigned zero e f = f
+fits-unsigned (suc m) e f = f
+
+-- whose bits are its own but for the sign's
+pub bits-unsigned : (m : ℕ) (e : ℤ) → T (fits binary32 (fin true m e)) → toBits binary32 (fin true m e) % 2 ^ 31 ≡ toBits binary32 (fin false m e)
+unfolding toBits
+bits-unsigned m e f =
+    let k = size (m * up e * 2 ^ 149 / down e) - 24 in
+    unsigned (k * 2 ^ 23) (m * up e * 2 ^ 149 / down e / 2 ^ k) (weight-bits (finite (number (fits-unsigned m e f))))
+  where
+    unsigned : (a b : ℕ) → 0 + a + b ≤ weightLimit → (2 ^ 31 + a + b) % 2 ^ 31 ≡ 0 + a + b
+    unsigned a b h = omega arith

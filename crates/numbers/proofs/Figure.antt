@@ -1,14 +1,16 @@
 -- The H figure from a weight's bits: the ceiling from exponent 150 on, and below that the digits times 1000, shifted
-use mathlib.Core.Path.{_≡_, sym, ap, _∙_}
+use mathlib.Core.Path.{_≡_, refl, sym, ap, _∙_}
 use Prim.Native.Nat.{ℕ, zero, suc, _+_, _-_, _*_, _/_, _%_, _^_, _≤_, _<_, min}
-use native.Mathlib.Nat.{le-refl, le-trans, le-of-eq, lt-of-lt-of-le, not-suc-le-zero, le-of-suc-le-suc, mul-le-mul, mul-right-comm, mul-div-mul-right}
-use native.Mathlib.Nat.{div-lt-iff-lt-mul, le-div-iff-mul-le, one-mul}
+use native.Mathlib.Nat.{le-refl, le-trans, le-of-eq, lt-of-lt-of-le, lt-of-le-of-lt, not-suc-le-zero, le-of-suc-le-suc, mul-le-mul, mul-right-comm}
+use native.Mathlib.Nat.{div-lt-iff-lt-mul, le-div-iff-mul-le, one-mul, mul-div-mul-right, mod-eq-of-lt}
 use native.Mathlib.Omega.{arith}
-use lib.Dec.{lit≤}
+use mathlib.Core.Bool.{true, false}
+use lib.Dec.{T, lit≤, lit<}
+use lib.Ieee.{Float, nan, inf, fin, binary32, fits, ofBits, toBits}
 use lib.Pow.{pow-add, pow-pos, pow-mono}
-use Rattle.numbers.specs.Weight.{unitsOf, weightLimit, valueOf}
+use Rattle.numbers.specs.Weight.{number, finite, unitsOf, weightLimit, valueOf}
 use Rattle.numbers.specs.Figure.{figure, ceiling}
-use Rattle.numbers.proofs.Bits.{fieldUnits, bits-units, value-is, value-beyond}
+use Rattle.numbers.proofs.Bits.{fieldUnits, bits-units, value-is, value-beyond, value-back, weight-bits, fits-unsigned, bits-unsigned}
 
 -- a figure from the exponent and the digits of the bits
 abbrev pub fieldFigure : ℕ → ℕ → ℕ
@@ -58,3 +60,15 @@ figure-shifted (suc y) t p h =
     (sym (ap (λ (z : ℕ). z / 2 ^ 149) (mul-right-comm (2 ^ 23 + t) (2 ^ y) 1000)
     ∙ ap (λ (z : ℕ). (2 ^ 23 + t) * 1000 * 2 ^ y / z) (ap (λ (z : ℕ). 2 ^ z) (sym (left-over y h)) ∙ pow-add 2 (150 - suc y) y)
     ∙ mul-div-mul-right ((2 ^ 23 + t) * 1000) (2 ^ (150 - suc y)) (pow-pos y)))
+
+-- ---- the figure of a value, from its bits without their sign
+pub figure-unsigned : (w : Float) → T (fits binary32 w) → figure (valueOf weightLimit (toBits binary32 w % 2 ^ 31)) ≡ figure w
+unfolding toBits figure unitsOf valueOf ofBits
+figure-unsigned nan f = refl
+figure-unsigned (inf true) f = refl
+figure-unsigned (inf false) f = refl
+figure-unsigned (fin true m e) f =
+    ap (λ (b : ℕ). figure (valueOf weightLimit b)) (bits-unsigned m e f) ∙ ap figure (value-back (finite (number (fits-unsigned m e f))))
+figure-unsigned (fin false m e) f =
+    let p = finite (number f) in
+    ap (λ (b : ℕ). figure (valueOf weightLimit b)) (mod-eq-of-lt (lt-of-le-of-lt (weight-bits p) (lit< tt))) ∙ ap figure (value-back p)

@@ -6,11 +6,9 @@ use mathlib.Core.Bool.{false, cond}
 use mathlib.Core.List.{List, [], _∷_}
 use lib.IntN.{ℤ, pos}
 use lib.Dec.{T, leb}
-use lib.Ieee.{Float, nan, inf, fin, binary32, fits, up, down, lt, ofBits, toBits}
+use lib.Ieee.{Float, nan, inf, fin, binary32, fits, up, down, lt, ofBits}
 use Rattle.numbers.specs.declared.weights.MaybeWeight.{MaybeWeight}
 use Rattle.numbers.specs.declared.weights.MaybeWeight.the-variants as MaybeWeight·is
-use Rattle.numbers.specs.declared.weights.MaybeBits.{MaybeBits}
-use Rattle.numbers.specs.declared.weights.MaybeBits.the-variants as MaybeBits·is
 
 -- a finite weight
 pub data Finite : Float → Type 0 where
@@ -53,12 +51,6 @@ valueFrom limit bits = cond (leb bits limit) (MaybeWeight·is.At (ofBits binary3
 unfoldable pub valueOf : ℕ → ℕ → Float
 valueOf limit bits = cond (leb bits limit) (ofBits binary32 bits) zeroWeight
 
--- a weight's bits
-unfoldable pub bitsFrom : Float → MaybeBits
-bitsFrom nan = MaybeBits·is.Absent
-bitsFrom (inf s) = cond s MaybeBits·is.Absent (MaybeBits·is.At (toBits binary32 (inf s)))
-bitsFrom (fin s m e) = cond s MaybeBits·is.Absent (MaybeBits·is.At (toBits binary32 (fin s m e)))
-
 -- the heavier of two weights
 abbrev pub heavier : Float → Float → Float
 heavier a b = cond (lt a b) b a
@@ -77,12 +69,3 @@ Weights (w ∷ ws) = Weight w × Weights ws
 abbrev pub Among : Float → List Float → Type 0
 Among w [] = ⊥
 Among w (v ∷ vs) = (w ≡ v) ⊎ Among w vs
-
--- bits that are there; 0 where they are absent, which those of a weight are not
-abbrev pub bitsOr0 : MaybeBits → ℕ
-bitsOr0 (MaybeBits·is.At bits) = bits
-bitsOr0 MaybeBits·is.Absent = 0
-
--- the bits of a weight
-abbrev pub bitsShown : Float → ℕ
-bitsShown w = bitsOr0 (bitsFrom w)

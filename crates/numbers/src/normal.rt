@@ -11,6 +11,9 @@ use crate::weights;
 // The weight test's factor. It leaves room for the rounding of weights that are added again in another order.
 const FLOAT_PRECISION_ADJUST: f32 = 2007.0 / 2048.0;
 
+// The sign's bit.
+const SIGN: u32 = 2147483648;
+
 // The largest finite f32.
 const LARGEST: f32 = 340282346638528859811704183484516925440.0;
 
@@ -58,8 +61,8 @@ fn shifted_figure(digits: u32, places: u32) -> u32
     q as u32
 }
 
-// The H figure of a weight, from its bits: the weight times 1000, cut off, at most 999999999.
-pub fn h_figure(bits: u32) -> u32
+// The H figure of a weight, from its bits; of bits that are no weight's, 0.
+fn figure_of_bits(bits: u32) -> u32
     ensures { λ r. ⌜ r ≡ figure (valueOf weightLimit bits) ⌝ }
 {
     if bits > weights::WEIGHT_LIMIT {
@@ -75,4 +78,11 @@ pub fn h_figure(bits: u32) -> u32
         return shifted_figure(fraction, 149);
     }
     shifted_figure(8388608 + fraction, 150 - exponent)
+}
+
+// The H figure of a weight: the weight times 1000, cut off, at most 999999999. The sign's bit is left out, which no weight has.
+pub fn h_figure(weight: f32) -> u32
+    ensures { λ r. ⌜ r ≡ figure weight ⌝ }
+{
+    figure_of_bits(weights::bits_of(weight) % SIGN)
 }

@@ -1,7 +1,8 @@
 // Weights, from their bits and back.
 ghost use mathlib.Core.Path.{_≡_};
-ghost use Rattle.numbers.specs.Weight.{weightLimit, frequencyLimit, costLimit, valueFrom, valueOf, bitsFrom, bitsShown, heavier};
+ghost use Rattle.numbers.specs.Weight.{weightLimit, frequencyLimit, costLimit, valueFrom, valueOf, heavier};
 ghost use Prim.Native.Nat.{_≤_};
+ghost use lib.Ieee.{binary32, toBits};
 
 // The bits of infinity: no weight has higher ones.
 pub const WEIGHT_LIMIT: u32 = 2139095040;
@@ -12,15 +13,12 @@ pub const FREQUENCY_LIMIT: u32 = 2139095039;
 // The bits of 65536.0: no class cost and no scale has higher ones.
 pub const COST_LIMIT: u32 = 1199570944;
 
+// The bits of a NaN: IEEE 754's quiet one without a payload.
+const NAN_BITS: u32 = 2143289344;
+
 // A weight that may be absent, where bits are above their limit.
 pub enum MaybeWeight {
     At(f32),
-    Absent,
-}
-
-// A weight's bits, absent for what is no weight.
-pub enum MaybeBits {
-    At(u32),
     Absent,
 }
 
@@ -86,20 +84,6 @@ pub fn cost_of(bits: u32) -> f32
     value_of(bits, COST_LIMIT)
 }
 
-// The bits of a weight.
-fn weight_to_bits(w: f32) -> MaybeBits
-    ensures { λ r. ⌜ r ≡ bitsFrom w ⌝ }
-{
-    if w != w {
-        return MaybeBits::Absent;
-    }
-    let bits = f32::to_bits(w);
-    if bits <= WEIGHT_LIMIT {
-        return MaybeBits::At(bits);
-    }
-    MaybeBits::Absent
-}
-
 // The heavier of two weights.
 pub fn heavier(a: f32, b: f32) -> f32
     ensures { λ r. ⌜ r ≡ heavier a b ⌝ }
@@ -107,13 +91,12 @@ pub fn heavier(a: f32, b: f32) -> f32
     if a < b { b } else { a }
 }
 
-// The bits of a weight, 0 for what is none.
-pub fn bits_shown(w: f32) -> u32
-    ensures { λ r. ⌜ r ≡ bitsShown w ⌝ }
+// The bits of a weight. A NaN, which no answer and no table has, shows one pattern whatever its own is.
+pub fn bits_of(w: f32) -> u32
+    ensures { λ r. ⌜ r ≡ toBits binary32 w ⌝ }
 {
-    let b = weight_to_bits(w);
-    let MaybeBits::At(bits) = b else {
-        return 0;
-    };
-    bits
+    if w != w {
+        return NAN_BITS;
+    }
+    f32::to_bits(w)
 }
