@@ -2,11 +2,14 @@
 use mathlib.Core.Path.{_≡_, refl, sym, ap, _∙_, subst}
 use mathlib.Core.Logic.{⊎-elim, _↔_}
 use mathlib.Core.List.{List, [], _∷_, map}
-use Prim.Native.Nat.{ℕ, zero, suc, _+_, _-_, _^_, _≤_, _<_}
+use Prim.Native.Nat.{ℕ, zero, suc, _+_, _-_, _^_, _≤_, _<_, zero-le}
 use native.Mathlib.Nat.{le-trans, le-of-eq, lt-of-le-of-lt, not-suc-le-zero, le-of-suc-le-suc}
 use native.Mathlib.Numerals.{add-one}
 use native.Mathlib.Omega.{arith}
-use lib.Dec.{T, lit≤, eqb→eq, eqb-refl}
+use lib.Dec.{T, leb, ltb, eqb, lit≤, le→leb, lt→ltb, eqb→eq, eqb-refl}
+use lib.Ieee.Fits.{and-i, and-l, and-r}
+use borrow.Author.Tests.{leb-false}
+use mathlib.Core.Bool.{_&&_}
 use lib.Ieee.{Float, nan}
 use lib.ListN.{length, getD, length-map, length-append, List·getD-map, List·getD-eq-default}
 use Rattle.numbers.specs.Weight.{Weight, finite, zeroWeight, Among}
@@ -23,7 +26,9 @@ use Rattle.overlaps.specs.Live.{liveInGap, Gaps}
 use Rattle.overlaps.specs.GapSegments.{Overlap, SegmentColumns}
 use Rattle.use_rows.specs.declared.row.SplitUse.{SplitUse}
 use Rattle.uses.proofs.UseTable.{use-table-weights, use-table-lefts, use-table-rights}
-use Rattle.walks.specs.Meeting.{spillWeight, weighsAgainst, fixedAgainst, fixedMet, weightsMet}
+use Rattle.walks.specs.Meeting.{meets, countsAsFixed, spillWeight, ofRegister, weighsAgainst, fixedAgainst, fixedMet, weightsMet}
+use Rattle.walks.proofs.Checked.{or-fails}
+use Rattle.jobs.specs.Lines.{badSpan}
 use Rattle.walks.specs.Gaps.{segmentIn, ofGap, segmentsOfGap}
 use Rattle.walks.proofs.Sets.{where-one, fixed-one, weight-one, all-weights}
 use Rattle.gaps.specs.Gaps.{Gap, gapWeight, useOf, gapsOn, gapsOf, ownGap, initialGap}
@@ -42,7 +47,7 @@ use Rattle.filling.specs.SourceTables.{startsOf, stopsOf, valuesOf}
 use Rattle.filling.proofs.SourceTables.{source-segments, source-tiles, source-gaps-few, source-lives-few}
 use Rattle.tables.specs.JobTables.{usesOfJob, gapsOfJob, livesOfJob, segmentsOfJob}
 use Rattle.views.specs.View.{inColumns, seenOfJob}
-use Rattle.views.specs.Met.{segmentOfJob, gapOfSegment, reservationOf, Weighs, CountsAsFixed, FixedMet}
+use Rattle.views.specs.Met.{segmentOfJob, gapOfSegment, reservationOf, Weighs, CountsAsFixed, FixedMet, WeightMet, OfGap}
 use Rattle.views.proofs.SegmentOrder.{InGap, gap-segments-order, fromColumn, toColumn, row-in-gap, segments-ordered}
 
 -- ---- sums and columns
@@ -69,13 +74,59 @@ column-at f w (g ∷ gs) es zero h = w g (es .0)
 column-at f w (g ∷ gs) es (suc i) h = column-at f w gs (es .1) i (le-of-suc-le-suc h)
 
 -- ---- what rows and gap segments meet
--- a gap meets a weight if a gap segment of it does
-pub record WeightMet (job : Job) (best g : ℕ) (w : Float) : Type 0 where
-  pub segment : ℕ
-  pub row : ℕ
-  pub weighs : Weighs job best segment row
-  pub of-gap : gapOfSegment job best segment ≡ g
-  pub has : spillWeight (job .weights) (reservationOf job row) ≡ w
+-- the unit of each row of an accepted job is known
+known-unit : (job : Job) → Accepted job → (i : ℕ) → i < length (job .reservations) → reservationOf job i .unit < job .units
+unfolding badSpan
+known-unit job accepted i h = let p = simp or-fails at (accepted .line10 i h) in omega (arith, leb-false)
+
+-- so every row of an accepted job is of its register, and what meets a gap segment there is any row that overlaps it
+pub row-of-register : (job : Job) → Accepted job → (i : ℕ) → i < length (job .reservations) → T (ofRegister (registerOf job) (reservationOf job i))
+unfolding ofRegister
+row-of-register job accepted i h =
+    and-i (leb 0 (reservationOf job i .unit)) (ltb (reservationOf job i .unit) (0 + job .units)) (le→leb 0 (reservationOf job i .unit) zero-le)
+    (lt→ltb (reservationOf job i .unit) (0 + job .units) (up (reservationOf job i .unit) (job .units) (known-unit job accepted i h)))
+  where
+    up : (u n : ℕ) → u < n → u < 0 + n
+    up u n h = omega (arith, h)
+
+-- in the walkers' words
+against-weighs : (job : Job) (best k i : ℕ) → k < length (segmentsOfJob job best) → i < length (job .reservations)
+    → T (weighsAgainst (registerOf job) (segmentOfJob job best k) (reservationOf job i)) → Weighs job best k i
+unfolding weighsAgainst
+against-weighs job best k i l h t =
+    let of = ofRegister (registerOf job) (reservationOf job i) in
+    let meet = meets (segmentOfJob job best k) (reservationOf job i) in
+    let zero = eqb (reservationOf job i .kind) 0 in
+    let both = and-r of (meet && zero) t in
+    record { meet = record { segment = l; row = h; overlap = and-l meet zero both }; kind = eqb→eq (reservationOf job i .kind) 0 (and-r meet zero both) }
+
+weighs-against : (job : Job) → Accepted job → (best k i : ℕ) → Weighs job best k i
+    → T (weighsAgainst (registerOf job) (segmentOfJob job best k) (reservationOf job i))
+unfolding weighsAgainst
+weighs-against job accepted best k i w =
+    let meet = meets (segmentOfJob job best k) (reservationOf job i) in
+    let zero = eqb (reservationOf job i .kind) 0 in
+    and-i (ofRegister (registerOf job) (reservationOf job i)) (meet && zero) (row-of-register job accepted i (w .meet .row))
+    (and-i meet zero (w .meet .overlap) (subst (λ (n : ℕ). T (eqb n 0)) (sym (w .kind)) (eqb-refl 0)))
+
+against-fixed : (job : Job) (best k i : ℕ) → k < length (segmentsOfJob job best) → i < length (job .reservations)
+    → T (fixedAgainst (registerOf job) (job .fixedUses) (segmentOfJob job best k) (reservationOf job i)) → CountsAsFixed job best k i
+unfolding fixedAgainst
+against-fixed job best k i l h t =
+    let of = ofRegister (registerOf job) (reservationOf job i) in
+    let meet = meets (segmentOfJob job best k) (reservationOf job i) in
+    let fixed = countsAsFixed (job .fixedUses) (segmentOfJob job best k) (reservationOf job i) in
+    let both = and-r of (meet && fixed) t in
+    record { meet = record { segment = l; row = h; overlap = and-l meet fixed both }; fixed = and-r meet fixed both }
+
+fixed-against : (job : Job) → Accepted job → (best k i : ℕ) → CountsAsFixed job best k i
+    → T (fixedAgainst (registerOf job) (job .fixedUses) (segmentOfJob job best k) (reservationOf job i))
+unfolding fixedAgainst
+fixed-against job accepted best k i c =
+    let meet = meets (segmentOfJob job best k) (reservationOf job i) in
+    let fixed = countsAsFixed (job .fixedUses) (segmentOfJob job best k) (reservationOf job i) in
+    and-i (ofRegister (registerOf job) (reservationOf job i)) (meet && fixed) (row-of-register job accepted i (c .meet .row))
+    (and-i meet fixed (c .meet .overlap) (c .fixed))
 
 module _ (job : Job) (best : ℕ) where
   abbrev columns : SegmentColumns
@@ -95,17 +146,17 @@ module _ (job : Job) (best : ℕ) where
   of-its-gap k = eqb-refl (gapOfSegment job best k)
 
   -- what growth sees a gap meet is what its gap segments meet: weights
-  pub gap-weighs : (k i : ℕ) → Weighs job best k i → Among (spillWeight (job .weights) (reservationOf job i))
+  pub gap-weighs : Accepted job → (k i : ℕ) → Weighs job best k i → Among (spillWeight (job .weights) (reservationOf job i))
       (seenOfJob job best .met (gapOfSegment job best k))
   unfolding weightsMet
-  gap-weighs k i m =
+  gap-weighs accepted k i m =
       let w = spillWeight (job .weights) (reservationOf job i) in
       some-picked (weight-one (registerOf job) (reservedOfJob job) w) (ofGap columns (gapOfSegment job best k)) (segmentIn columns) (columns .used) k
-      (place (m .segment)) (of-its-gap k)
-      (some-one (where-one (weighsAgainst (registerOf job) (segmentOfJob job best k)) (job .weights) w) noReservation (job .reservations) i (m .row)
-      (m .meets, refl))
+      (place (m .meet .segment)) (of-its-gap k)
+      (some-one (where-one (weighsAgainst (registerOf job) (segmentOfJob job best k)) (job .weights) w) noReservation (job .reservations) i (m .meet .row)
+      (weighs-against job accepted best k i m, refl))
 
-  pub gap-weighed-by : (g : ℕ) (w : Float) → Among w (seenOfJob job best .met g) → WeightMet job best g w
+  pub gap-weighed-by : (g : ℕ) (w : Float) → Among w (seenOfJob job best .met g) → WeightMet job best (OfGap job best g) w
   unfolding weightsMet
   gap-weighed-by g w a =
       let s = picked-some (weight-one (registerOf job) (reservedOfJob job) w) (ofGap columns g) (segmentIn columns) (columns .used) a in
@@ -114,20 +165,21 @@ module _ (job : Job) (best : ℕ) where
       record {
         segment = s .at;
         row = r .at;
-        weighs = record { segment = back (s .inside); row = r .inside; meets = r .is .0 };
-        of-gap = eqb→eq (gapOfSegment job best (s .at)) g (s .is .0);
+        weighs = against-weighs job best (s .at) (r .at) (back (s .inside)) (r .inside) (r .is .0);
+        is-among = eqb→eq (gapOfSegment job best (s .at)) g (s .is .0);
         has = sym (r .is .1);
       }
 
   -- and what counts as fixed
-  pub gap-fixed : (k i : ℕ) → CountsAsFixed job best k i → T (seenOfJob job best .fixed (gapOfSegment job best k))
+  pub gap-fixed : Accepted job → (k i : ℕ) → CountsAsFixed job best k i → T (seenOfJob job best .fixed (gapOfSegment job best k))
   unfolding fixedMet
-  gap-fixed k i m =
+  gap-fixed accepted k i m =
       some-picked (fixed-one (registerOf job) (reservedOfJob job)) (ofGap columns (gapOfSegment job best k)) (segmentIn columns) (columns .used) k
-      (place (m .segment)) (of-its-gap k)
-      (some-one (any-one (fixedAgainst (registerOf job) (job .fixedUses) (segmentOfJob job best k))) noReservation (job .reservations) i (m .row) (m .meets))
+      (place (m .meet .segment)) (of-its-gap k)
+      (some-one (any-one (fixedAgainst (registerOf job) (job .fixedUses) (segmentOfJob job best k))) noReservation (job .reservations) i (m .meet .row)
+      (fixed-against job accepted best k i m))
 
-  pub gap-fixed-by : (g : ℕ) → T (seenOfJob job best .fixed g) → FixedMet job best g
+  pub gap-fixed-by : (g : ℕ) → T (seenOfJob job best .fixed g) → FixedMet job best (OfGap job best g)
   unfolding fixedMet
   gap-fixed-by g f =
       let s = picked-some (fixed-one (registerOf job) (reservedOfJob job)) (ofGap columns g) (segmentIn columns) (columns .used) f in
@@ -135,12 +187,13 @@ module _ (job : Job) (best : ℕ) where
       record {
         segment = s .at;
         row = r .at;
-        counts = record { segment = back (s .inside); row = r .inside; meets = r .is };
-        of-gap = eqb→eq (gapOfSegment job best (s .at)) g (s .is .0);
+        counts = against-fixed job best (s .at) (r .at) (back (s .inside)) (r .inside) (r .is);
+        is-among = eqb→eq (gapOfSegment job best (s .at)) g (s .is .0);
       }
 
-  pub gap-fixed-exactly : (g : ℕ) → T (seenOfJob job best .fixed g) ↔ FixedMet job best g
-  gap-fixed-exactly g = (gap-fixed-by g, λ m. subst (λ (x : ℕ). T (seenOfJob job best .fixed x)) (m .of-gap) (gap-fixed (m .segment) (m .row) (m .counts)))
+  pub gap-fixed-exactly : Accepted job → (g : ℕ) → T (seenOfJob job best .fixed g) ↔ FixedMet job best (OfGap job best g)
+  gap-fixed-exactly accepted g =
+      (gap-fixed-by g, λ m. subst (λ (x : ℕ). T (seenOfJob job best .fixed x)) (m .is-among) (gap-fixed accepted (m .segment) (m .row) (m .counts)))
 
 -- ---- an accepted job
 module _ (job : Job) (accepted : Accepted job) where

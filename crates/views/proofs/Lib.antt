@@ -2,3 +2,4 @@
 pub mod SegmentOrder
 pub mod JobView
 pub mod FilledView
+pub mod OwnGap

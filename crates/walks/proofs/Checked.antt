@@ -20,7 +20,7 @@ use Rattle.walks.specs.Meeting.{Reserved}
 use Rattle.walks.specs.Standing.{Ready}
 
 -- an "or" fails if both its parts do
-or-fails : (a b : Bool) → ((a || b) ≡ false) ↔ ((a ≡ false) × (b ≡ false))
+pub or-fails : (a b : Bool) → ((a || b) ≡ false) ↔ ((a ≡ false) × (b ≡ false))
 or-fails a b = (or-parts a b, λ p. or-none (p .0) (p .1))
 
 -- a row after another: its unit is not before the other's, and if it is the same, the row begins where the other ends or later
