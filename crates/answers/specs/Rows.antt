@@ -1,11 +1,11 @@
 -- The rows of a job's tables as lines
 use Prim.Native.Nat.{ℕ}
 use mathlib.Core.List.{List, [], _∷_}
-use lib.Ieee.{Float, nan}
+use lib.Ieee.{Float, binary32, toBits}
 use lib.ListN.{getD}
 use Rattle.sheet.specs.Sheet.{lineText}
 use Rattle.filling.specs.SourceTables.{WorkColumns}
-use Rattle.numbers.specs.Weight.{bitsShown}
+use Rattle.numbers.specs.Weight.{zeroWeight}
 use Rattle.answers.specs.declared.rows.Table.{Table}
 use Rattle.answers.specs.declared.rows.Table.the-variants.{Links, Uses, Gaps, GapSegments}
 
@@ -15,7 +15,7 @@ numberIn column i = getD column i 0
 
 -- the bits of a weight of a column; 0 past its end
 abbrev pub bitsIn : List Float → ℕ → ℕ
-bitsIn column i = bitsShown (getD column i nan)
+bitsIn column i = toBits binary32 (getD column i zeroWeight)
 
 -- the letters of the lines: l, u, g, o
 abbrev pub tableLetter : Table → ℕ

@@ -1,5 +1,5 @@
 // The rows of a job's tables as lines: weights are given as their bits.
-use numbers::weights::bits_shown;
+use numbers::weights::bits_of;
 use sheet::Written;
 use sheet::write_line;
 ghost use mathlib.Core.Path.{_≡_};
@@ -31,7 +31,7 @@ fn bits_at(column: &[f32], i: usize) -> u32
     ensures { λ r. ⌜ r ≡ bitsIn (now (column .entry)) i ⌝ }
 {
     if i < column.len() {
-        return bits_shown(column[i]);
+        return bits_of(column[i]);
     }
     0
 }

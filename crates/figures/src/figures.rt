@@ -1,11 +1,13 @@
 // What a job is answered, in the figures of its text.
 ghost use mathlib.Core.Path.{_≡_};
-ghost use Rattle.figures.specs.Figures.{endShown, thousandths, figuresOf, shownOf};
+ghost use Rattle.outcome.specs.declared.grow.Answer.the-variants.{Found};
+ghost use Rattle.sheet.specs.declared.write.Answer.the-variants.{Proposal};
+ghost use Rattle.figures.specs.Figures.{endShown, shownOf};
 use growth::proposal::SplitProposal;
 use numbers::MaybeInst;
 use numbers::normal::h_figure;
 use numbers::normal::normalize_spill_weight;
-use numbers::weights::bits_shown;
+use numbers::weights::bits_of;
 use outcome::grow::Answer;
 use sheet::End;
 use sheet::Figures;
@@ -20,28 +22,20 @@ fn end_shown(e: MaybeInst) -> End
     End::At(i.0)
 }
 
-// A weight in thousandths.
-fn thousandths_of(use_weight: f32, live_insts: u32, k: u32) -> u32
-    ensures { λ r. ⌜ r ≡ thousandths «use_weight» «live_insts» k ⌝ }
-{
-    let w = normalize_spill_weight(use_weight, live_insts, k);
-    h_figure(bits_shown(w))
-}
-
 // A proposal, and its normalised use weight in thousandths.
 fn figures_of(p: SplitProposal, k: u32) -> Figures
-    ensures { λ r. ⌜ r ≡ figuresOf k p ⌝ }
+    ensures { λ r. ⌜ Proposal r ≡ shownOf k (Found p) ⌝ }
 {
     let left = p.left;
     let right = p.right;
     Figures {
         left: end_shown(left),
         right: end_shown(right),
-        use_weight: bits_shown(p.use_weight),
+        use_weight: bits_of(p.use_weight),
         live_insts: p.live_insts,
-        interference_weight: bits_shown(p.interference_weight),
-        split_cost: bits_shown(p.split_cost),
-        thousandths: thousandths_of(p.use_weight, p.live_insts, k),
+        interference_weight: bits_of(p.interference_weight),
+        split_cost: bits_of(p.split_cost),
+        thousandths: h_figure(normalize_spill_weight(p.use_weight, p.live_insts, k)),
     }
 }
 

@@ -1,5 +1,5 @@
 -- A refused job leaves each lent column as it was
-use mathlib.Core.Path.{_≡_, refl, sym, _∙_, subst}
+use mathlib.Core.Path.{_≡_, refl, sym, ap, _∙_, subst}
 use Prim.Native.Nat.{ℕ}
 use native.Mathlib.Omega.{arith}
 use Rattle.links.specs.declared.blocks.Checked.{Checked}
@@ -11,9 +11,9 @@ use Rattle.rooms.specs.Rooms.{refusalOf}
 use Rattle.proposer.specs.Answer.{IsProposed}
 use Rattle.tables.specs.JobTables.{ifAccepted, noTables}
 use Rattle.filling.specs.SourceTables.{Tables, tablesOfBest, WorkColumns, roomsOf, FilledBy}
-use Rattle.outcome.specs.declared.grow.Answer.the-variants as Answer·is
+use Rattle.outcome.specs.Outcome.{refused, numbered}
 use Rattle.outcome.specs.declared.grow.Proposed.{Proposed}
-use Rattle.proposer.proofs.Answered.{refused-exactly}
+use Rattle.proposer.proofs.Answered.{refused-said}
 
 -- a refused job has no rows
 refused-tables : (job : Job) (c : Checked) (x : Refusal) → c ≡ Checked·is.Refused x
@@ -43,8 +43,9 @@ none-filled lent now f =
     }
 
 -- a refused job leaves each lent column as it was
-pub refused-kept : (job : Job) (lent now : WorkColumns) (r : Proposed) (x : Refusal) → IsProposed job lent now r → r .answer ≡ Answer·is.Refused x → now ≡ lent
-refused-kept job lent now r x given e =
+pub refused-kept : (job : Job) (lent now : WorkColumns) (r : Proposed) (n p : ℕ) → IsProposed job lent now r → numbered (r .answer) ≡ refused n p → now ≡ lent
+refused-kept job lent now r n p given e =
     none-filled lent now
     (subst (λ (t : Tables). FilledBy t lent now)
-    (refused-tables job (refusalOf job (roomsOf lent)) x (refused-exactly job (roomsOf lent) x .0 (sym (given .answer) ∙ e))) (given .tables))
+    (refused-tables job (refusalOf job (roomsOf lent)) (record { number = n; place = p })
+    (refused-said job (roomsOf lent) n p (ap numbered (sym (given .answer)) ∙ e))) (given .tables))

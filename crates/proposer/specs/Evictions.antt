@@ -1,10 +1,9 @@
 -- Evictions: lists of jobs and their proposals in which each could evict a reservation of the one before
 use mathlib.Core.Path.{_≡_}
 use mathlib.Core.List.{List, [], _∷_}
-use Prim.Native.Nat.{ℕ, zero, suc, _≤_, _<_}
+use Prim.Native.Nat.{ℕ, zero, suc, _≤_}
 use lib.Ieee.{Float, binary32, toBits}
 use lib.ListN.{length, getD}
-use Rattle.numbers.specs.Weight.{unitsOf}
 use Rattle.numbers.specs.Normal.{normalised}
 use Rattle.numbers.specs.Chain.{longest}
 use Rattle.growth.specs.declared.proposal.SplitProposal.{SplitProposal}
@@ -57,9 +56,9 @@ Stands (x ∷ es) (suc i) e = Stands es i e
 pub record JobEvictionsEnd (es : List Entry) : Type 0 where
   -- no member's region meets a reservation that carries its own or a later one's normalised weight
   pub no-ring : (i j : ℕ) → i ≤ j → (e f : Entry) → Stands es i e → Stands es j f → Meets e (weightIn f) → ⊥
-  -- there are at most 10,000 members, 9,495 if the first normalised weight is above zero
+  -- there are at most 10,000 members, and by the estimate at most 9,495
   pub few : length es ≤ 10000
-  pub few-above-zero : (e : Entry) → Stands es 0 e → 0 < unitsOf (weightIn e) → length es ≤ longest
+  pub fewer : length es ≤ longest
 
 -- a job, the rows of its lent tables, and the proposal that it is answered
 pub record AnsweredJob : Type 0 where

@@ -7,40 +7,29 @@ use Rattle.numbers.specs.declared.MaybeInst.{MaybeInst}
 use Rattle.numbers.specs.declared.MaybeInst.the-variants as MaybeInst·is
 use Rattle.links.specs.declared.split.SplitPoint.{SplitPoint}
 use Rattle.links.specs.declared.split.SplitPoint.the-variants as SplitPoint·is
-use Rattle.growth.specs.declared.proposal.SplitProposal.{SplitProposal}
 use Rattle.refusals.specs.Job.{Job}
 use Rattle.filling.specs.declared.lent.Rooms.{Rooms}
 use Rattle.proposer.specs.Answer.{answerOf}
 use Rattle.filling.specs.SourceTables.{WorkColumns, roomsOf, FilledBy}
 use Rattle.tables.specs.JobTables.{tablesOf}
 use Rattle.outcome.specs.declared.grow.Answer.{Answer}
-use Rattle.outcome.specs.declared.grow.Answer.the-variants as Answer·is
 use Rattle.outcome.specs.declared.grow.Proposed.{Proposed}
-use Rattle.numbers.specs.Weight.{bitsShown}
+use Rattle.outcome.specs.Outcome.{Numbered, refused, none, proposal, numbered}
 
 -- an end of a proposal; an absent one is 4294967295
 abbrev pub endWord : MaybeInst → ℕ
 endWord (MaybeInst·is.At i) = i .0
 endWord MaybeInst·is.Absent = 4294967295
 
--- a proposal: 0, and its six fields in document 01's order, weights as bits
-abbrev pub proposalWords : SplitProposal → List ℕ
-proposalWords p =
-    0
-    ∷ endWord (p .left)
-    ∷ endWord (p .right)
-    ∷ bitsShown (p .«use_weight»)
-    ∷ p .«live_insts»
-    ∷ bitsShown (p .«interference_weight»)
-    ∷ bitsShown (p .«split_cost»)
-    ∷ []
+-- an answer's numbers: 0 and a proposal's six values, none by its kind, or 3 with a refusal's number and place; words without a meaning are 0
+abbrev pub numberedWords : Numbered → List ℕ
+numberedWords (proposal left right weight insts met cost) = 0 ∷ endWord left ∷ endWord right ∷ weight ∷ insts ∷ met ∷ cost ∷ []
+numberedWords (none kind) = kind ∷ 0 ∷ 0 ∷ 0 ∷ 0 ∷ 0 ∷ 0 ∷ []
+numberedWords (refused number place) = 3 ∷ number ∷ place ∷ 0 ∷ 0 ∷ 0 ∷ 0 ∷ []
 
--- an answer: a proposal, none by its kind, or 3 with a refusal's number and place; words without a meaning are 0
+-- an answer
 abbrev pub answerWords : Answer → List ℕ
-answerWords (Answer·is.Found p) = proposalWords p
-answerWords Answer·is.NoBestUse = 1 ∷ 0 ∷ 0 ∷ 0 ∷ 0 ∷ 0 ∷ 0 ∷ []
-answerWords Answer·is.NoRegion = 2 ∷ 0 ∷ 0 ∷ 0 ∷ 0 ∷ 0 ∷ 0 ∷ []
-answerWords (Answer·is.Refused r) = 3 ∷ r .number ∷ r .place ∷ 0 ∷ 0 ∷ 0 ∷ 0 ∷ []
+answerWords a = numberedWords (numbered a)
 
 -- an answer, and the rows used of the use table, of the gaps and of the gap segments
 abbrev pub proposedWords : Proposed → List ℕ

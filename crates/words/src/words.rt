@@ -2,12 +2,13 @@
 use growth::proposal::SplitProposal;
 use links::split::SplitPoint;
 use numbers::MaybeInst;
-use numbers::weights::bits_shown;
+use numbers::weights::bits_of;
 use outcome::grow::Answer;
 use outcome::grow::Proposed;
 ghost use mathlib.Core.Path.{_≡_};
-ghost use Rattle.numbers.specs.Weight.{bitsShown};
-ghost use Rattle.words.specs.Words.{endWord, proposalWords, answerWords, proposedWords, splitPointWords};
+ghost use lib.Ieee.{binary32, toBits};
+ghost use Rattle.outcome.specs.declared.grow.Answer.the-variants.{Found};
+ghost use Rattle.words.specs.Words.{endWord, answerWords, proposedWords, splitPointWords};
 
 // What stands for an absent end.
 const ABSENT: u64 = 4294967295;
@@ -24,14 +25,14 @@ fn end_word(e: MaybeInst) -> u64
 
 // A weight's bits.
 fn weight_word(w: f32) -> u64
-    ensures { λ r. ⌜ r ≡ bitsShown w ⌝ }
+    ensures { λ r. ⌜ r ≡ toBits binary32 w ⌝ }
 {
-    bits_shown(w) as u64
+    bits_of(w) as u64
 }
 
 // A proposal's six fields, behind the number of its kind.
 fn proposal_words(p: SplitProposal) -> [u64; 7]
-    ensures { λ r. ⌜ r ≡ proposalWords p ⌝ }
+    ensures { λ r. ⌜ r ≡ answerWords (Found p) ⌝ }
 {
     let left = p.left;
     let right = p.right;

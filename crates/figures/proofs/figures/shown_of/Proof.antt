@@ -1,7 +1,5 @@
 -- `shown_of` answers case by case
 use mathlib.Core.Path.{ap, sym, _∙_}
-use Rattle.sheet.specs.declared.write.Figures.{Figures}
-use Rattle.sheet.specs.declared.write.Answer.the-variants as Shown·is
 use Rattle.figures.specs.Figures.{shownOf}
 use borrow.Author.Needs.{needs}
 use Rattle.figures.proofs.figures.shown_of.Statement.{statement}
@@ -33,8 +31,7 @@ returns-3 c = ap (shownOf (c .before .before .args .k)) (sym (c .enum-told2 .giv
 
 returns-4 : tie.Need-returns-4
 returns-4 c =
-    ap (λ (f : Figures). Shown·is.Proposal f) (c .figures-of .ensures)
-    ∙ ap (shownOf (c .before .before .before .before .args .k)) (sym (c .before .before .a2 .given .1))
+    c .figures-of .ensures ∙ ap (shownOf (c .before .before .before .before .args .k)) (sym (c .before .before .a2 .given .1))
 
 pub shown-of-spec : {M : Type 1} → statement M
 shown-of-spec =

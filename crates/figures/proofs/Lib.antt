@@ -1,2 +1,0 @@
--- What the figures of an answer are
-pub mod Shown
