@@ -1,0 +1,2 @@
+-- What the layout of words and columns is, in cases
+pub mod Pinned
