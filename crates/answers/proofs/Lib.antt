@@ -3,4 +3,4 @@ pub mod ReadJob
 pub mod Answering
 pub mod Front
 pub mod Rooms
-pub mod Case
+pub mod Cases

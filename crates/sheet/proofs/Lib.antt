@@ -13,4 +13,3 @@ pub mod ReadLaws
 pub mod WriteLaws
 pub mod Prefix
 pub mod Exact
-pub mod Case

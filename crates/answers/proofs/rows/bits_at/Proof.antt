@@ -1,7 +1,8 @@
 -- `bits_at` answers the weight's bits, or 0 past the end
 use mathlib.Core.Path.{_≡_, refl, sym, ap, _∙_}
-use lib.Ieee.{binary32, toBits}
+use lib.Ieee.{nan, binary32, toBits}
 use lib.ListN.{List·getD-eq-default}
+use Rattle.use_rows.proofs.Largest.{row-any}
 use Rattle.numbers.specs.Weight.{zeroWeight}
 use borrow.Author.Needs.{needs}
 use Rattle.answers.proofs.rows.bits_at.Statement.{statement}
@@ -22,7 +23,10 @@ bits-of-requires : tie.Need-bits-of-requires
 bits-of-requires c κs = search needs
 
 returns : tie.Need-returns
-returns c = c .bits-of .ensures
+returns c =
+    let i = c .before .before .before .before .args .i in
+    let column = c .before .before .before .before .args .column .now in
+    c .bits-of .ensures ∙ ap (toBits binary32) (row-any column nan zeroWeight i (c .before .before .if1 .taken))
 
 returns-2 : tie.Need-returns-2
 returns-2 c = zero-bits ∙ ap (toBits binary32) (sym (List·getD-eq-default (c .before .before .args .column .now) zeroWeight (c .if1 .left)))
