@@ -1,13 +1,15 @@
--- How many numbers pass a test: a loop that counts them, and what a count says
+-- How many numbers pass a test: a loop that counts them, and what a count says; and whether some number passes
 use mathlib.Core.Path.{_≡_, refl, sym, ap, _∙_}
-use mathlib.Core.Logic.{⊎-elim}
+use mathlib.Core.Logic.{inl, inr, ⊎-elim}
 use mathlib.Core.Bool.{Bool, true, false, cond}
 use Prim.Native.Nat.{ℕ, zero, suc, _+_, _≤_, _<_, zero-le}
-use native.Mathlib.Nat.{le-trans, le-of-eq, le-antisymm, not-suc-le-zero}
+use native.Mathlib.Nat.{le-trans, le-of-eq, le-antisymm, le-of-suc-le-suc, eq-or-lt-of-le, not-suc-le-zero}
 use native.Mathlib.Numerals.{add-one}
 use native.Mathlib.Omega.{arith}
+use lib.Dec.{T}
 use Rattle.columns.proofs.Firsts.{split}
-use Rattle.columns.specs.Below.{countBelow}
+use Rattle.columns.proofs.Tests.{or-T}
+use Rattle.columns.specs.Below.{countBelow, anyBelow}
 
 -- a loop has counted the numbers below i
 pub record Counted (test : ℕ → Bool) (i have : ℕ) : Type 0 where
@@ -84,3 +86,16 @@ module _ (test : ℕ → Bool) where
   -- behind the last
   pub counted-all : (i have n : ℕ) → i ≤ n → n ≤ i → Counted test i have → have ≡ countBelow test n
   counted-all i have n p q c = c .is ∙ ap (countBelow test) (le-antisymm p q)
+
+-- ---- some number passes
+-- what each number that passes gives, and one that passes
+pub any-elim : {C : Type 0} (test : ℕ → Bool) (n : ℕ) → ((k : ℕ) → k < n → T (test k) → C) → T (anyBelow test n) → C
+unfolding anyBelow
+any-elim test zero h t = absurd t
+any-elim test (suc n) h t = ⊎-elim (any-elim test n (λ k l. h k (omega arith))) (h n (omega arith)) (or-T (anyBelow test n) (test n) .0 t)
+
+pub any-hit : (test : ℕ → Bool) (n k : ℕ) → k < n → T (test k) → T (anyBelow test n)
+unfolding anyBelow
+any-hit test zero k h t = absurd (omega arith)
+any-hit test (suc n) k h t =
+    or-T (anyBelow test n) (test n) .1 (⊎-elim (λ e. inr (rw (← e) t)) (λ l. inl (any-hit test n k l t)) (eq-or-lt-of-le (le-of-suc-le-suc h)))

@@ -4,3 +4,4 @@ pub mod Reading
 pub mod UseLists
 pub mod Sound
 pub mod SoundUses
+pub mod LastUse

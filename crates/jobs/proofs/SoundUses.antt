@@ -2,17 +2,20 @@
 use mathlib.Core.Path.{_≡_, sym, ap, _∙_}
 use mathlib.Core.Bool.{Bool, true, false, not, _&&_, true≢false}
 use mathlib.Core.List.{List}
-use Prim.Native.Nat.{_+_, _-_, _*_, _/_, _%_, _≤_, _<_}
-use lib.Dec.{leb, ltb, eqb}
+use Prim.Native.Nat.{ℕ, _+_, _-_, _*_, _/_, _%_, _≤_, _<_}
+use native.Mathlib.Omega.{arith}
+use lib.Dec.{T, leb, ltb, eqb}
+use lib.Ieee.Bits.{is-true}
 use lib.ListN.{getD}
-use borrow.Author.Tests.{ltb-false, leb-false, eqb-true, eqb-false, not-false, lt-leb}
+use borrow.Author.Tests.{ltb-false, leb-false, eqb-true, not-false, eq-eqb}
 use Rattle.numbers.specs.Point.{roundUp}
 use Rattle.columns.proofs.Tests.{cond-true, cond-false}
+use Rattle.columns.proofs.Counting.{any-hit}
 use Rattle.jobs.specs.declared.rows.Segment.{Segment}
 use Rattle.jobs.specs.declared.rows.Use.{Use}
 use Rattle.jobs.specs.declared.rows.Limits.{Limits}
 use Rattle.jobs.specs.Rows.{noUse, liveOut, fixedDef}
-use Rattle.jobs.specs.Lines.{badDef, badUse, badEnd, costMost, liesOutside}
+use Rattle.jobs.specs.Lines.{badDef, badUse, badEnd, hasUseAt, costMost, liesOutside}
 use Rattle.jobs.proofs.Sound.{or-parts}
 
 -- an "and" that fails, one part of which holds
@@ -73,20 +76,26 @@ fitting limits s isFirst last u e =
         → (s .start < 4 * (u .position + 1)) × (4 * u .position ≤ s .end)
     bounds p = (leb-false (4 * (u .position + 1)) (s .start) (p .0), ltb-false (s .end) (4 * u .position) (p .1))
 
+-- a use of a segment's list at an instruction
+pub used-at : (uses : List Use) (s : Segment) (p u : ℕ) → s .«first_use» ≤ u → u < s .«end_use» → getD uses u noUse .position ≡ p → T (hasUseAt uses s p)
+used-at uses s p u l m e =
+    let f = s .«first_use» in
+    let there : u ≡ f + (u - f) = omega (arith, l) in
+    any-hit (λ (k : ℕ). eqb (getD uses (f + k) noUse .position) p) (s .«end_use» - f) (u - f) (omega (arith, l, m))
+    (rw (eq-eqb _ _ (ap (λ (k : ℕ). getD uses k noUse .position) (sym there) ∙ e)) tt)
+
 -- line 8: a segment that is live-out
 pub record LivesOut (uses : List Use) (s : Segment) : Type 0 where
   pub boundary : s .end % 4 ≡ 0
-  pub apart : s .«first_use» < s .«end_use» → getD uses (s .«end_use» - 1) noUse .position ≡ s .end / 4 → ⊥
+  pub apart : (u : ℕ) → s .«first_use» ≤ u → u < s .«end_use» → getD uses u noUse .position ≡ s .end / 4 → ⊥
 
 pub lives-out : (uses : List Use) (isLast : Bool) (s : Segment) → liveOut (s .flags) ≡ true → badEnd uses isLast s ≡ false → LivesOut uses s
 unfolding badEnd
 lives-out uses isLast s flag e =
-    let last = getD uses (s .«end_use» - 1) noUse .position in
-    let p = or-parts (not (eqb (s .end % 4) 0)) (not (leb (s .«end_use») (s .«first_use»)) && eqb last (s .end / 4)) (sym (cond-true _ _ flag) ∙ e) in
+    let p = or-parts (not (eqb (s .end % 4) 0)) (hasUseAt uses s (s .end / 4)) (sym (cond-true _ _ flag) ∙ e) in
     record {
       boundary = eqb-true (s .end % 4) 0 (not-false (eqb (s .end % 4) 0) (p .0));
-      apart =
-          λ h. eqb-false last (s .end / 4) (and-rest (not (leb (s .«end_use») (s .«first_use»))) _ (ap not (lt-leb (s .«end_use») (s .«first_use») h)) (p .1));
+      apart = λ u l m q. true≢false (sym (is-true _ (used-at uses s (s .end / 4) u l m q)) ∙ p .1);
     }
 
 -- line 8: the last segment, not live-out

@@ -6,7 +6,7 @@ use mathlib.Core.List.{List}
 use lib.Dec.{leb, ltb, eqb}
 use lib.ListN.{length, getD}
 use Rattle.columns.specs.Table.{rowBefore}
-use Rattle.columns.specs.Below.{countBelow}
+use Rattle.columns.specs.Below.{countBelow, anyBelow}
 use Rattle.numbers.specs.Weight.{weightLimit, costLimit}
 use Rattle.numbers.specs.Point.{roundUp}
 use Rattle.columns.specs.First.{firstBelow}
@@ -52,14 +52,20 @@ badDef uses s =
     && (not (eqb (s .start % 4) 0) || ltb (s .start) 4 || leb (s .«end_use») (s .«first_use»)
     || not (eqb (u .kind) 0) || not (eqb (u .position) (s .start / 4 - 1)))
 
--- line 8, of a segment: live-out, and its end isn't a Boundary or its last use, which is its highest, is at its end's instruction; or the
--- last one, not live-out, without a use or ending later than one instruction after its last use
+-- some use of a segment's list is at an instruction
+abbrev pub hasUseAt : List Use → Segment → ℕ → Bool
+hasUseAt uses s p = anyBelow (λ (k : ℕ). eqb (getD uses (s .«first_use» + k) noUse .position) p) (s .«end_use» - s .«first_use»)
+
+-- line 8, of the last segment, not live-out: without a use, or with an end that, rounded up to an instruction, is later than one after its
+-- last use
+abbrev pub badLastEnd : List Use → Segment → Bool
+badLastEnd uses s = leb (s .«end_use») (s .«first_use») || ltb (getD uses (s .«end_use» - 1) noUse .position + 1) (roundUp (s .end))
+
+-- line 8, of a segment: live-out, and its end isn't a Boundary or it has a use at its end's instruction; or the last one, not live-out, and
+-- its end is bad
 unfoldable pub badEnd : List Use → Bool → Segment → Bool
 badEnd uses isLast s =
-    let missing = leb (s .«end_use») (s .«first_use») in
-    let last = getD uses (s .«end_use» - 1) noUse .position in
-    cond (liveOut (s .flags)) (not (eqb (s .end % 4) 0) || (not missing && eqb last (s .end / 4)))
-    (isLast && (missing || ltb (last + 1) (roundUp (s .end))))
+    cond (liveOut (s .flags)) (not (eqb (s .end % 4) 0) || hasUseAt uses s (s .end / 4)) (isLast && badLastEnd uses s)
 
 -- segment i breaks line 6, or line 8
 abbrev pub badDefAt : List Use → List Segment → ℕ → Bool
@@ -146,3 +152,16 @@ pub record Lists (uses : ℕ) (segments : List Segment) : Type 0 where
   pub forward : (i : ℕ) → i < length segments → getD segments i noSegment .«first_use» ≤ getD segments i noSegment .«end_use»
   pub inside : (i : ℕ) → i < length segments → getD segments i noSegment .«end_use» ≤ uses
   pub all : rowBefore segments noSegment (length segments) .«end_use» ≡ uses
+
+-- ---- for the contract of `first_bad_end`, which looks at the last use of each list alone: after line 7 that decides (proofs/LastUse)
+-- the last use of a segment's list is at an instruction
+abbrev pub lastUseAt : List Use → Segment → ℕ → Bool
+lastUseAt uses s p = ltb (s .«first_use») (s .«end_use») && eqb (getD uses (s .«end_use» - 1) noUse .position) p
+
+-- line 8, of a segment, by its last use
+unfoldable pub badEndByLast : List Use → Bool → Segment → Bool
+badEndByLast uses isLast s =
+    cond (liveOut (s .flags)) (not (eqb (s .end % 4) 0) || lastUseAt uses s (s .end / 4)) (isLast && badLastEnd uses s)
+
+abbrev pub badEndByLastAt : List Use → List Segment → ℕ → Bool
+badEndByLastAt uses segments i = badEndByLast uses (eqb (i + 1) (length segments)) (getD segments i noSegment)

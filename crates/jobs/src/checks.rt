@@ -5,7 +5,7 @@ ghost use lib.ListN.{length};
 ghost use Rattle.columns.specs.First.{firstBelow, FirstIn};
 ghost use Prim.Native.Nat.{_≤_};
 ghost use Rattle.jobs.specs.Rows.{segmentsOf, usesOf, reservationsOf, fixedUsesOf};
-ghost use Rattle.jobs.specs.Lines.{above, badValue, badBounds, badList, badSegment, badDef, badDefAt, badEnd, badEndAt, badWeight};
+ghost use Rattle.jobs.specs.Lines.{above, badValue, badBounds, badList, badSegment, badDef, badDefAt, badEndByLast, badEndByLastAt, badWeight};
 ghost use Rattle.jobs.specs.Lines.{fixedOf, badSpan, badKind, badReservation, badFixedUse, badFixedUseAt};
 use crate::rows;
 use crate::rows::FixedUse;
@@ -176,9 +176,9 @@ pub fn first_bad_def(
     n
 }
 
-// Line 8: the end of a segment does not fit its flags and its last use.
+// Line 8: the end of a segment does not fit its flags and its last use, which line 7 has left its highest.
 fn end_is_bad(position: &[u32], kind: &[u32], cost: &[u32], is_last: bool, s: Segment) -> bool
-    ensures { λ r. ⌜ r ≡ badEnd (usesOf (now (position .entry)) (now (kind .entry)) (now (cost .entry))) «is_last» s ⌝ }
+    ensures { λ r. ⌜ r ≡ badEndByLast (usesOf (now (position .entry)) (now (kind .entry)) (now (cost .entry))) «is_last» s ⌝ }
 {
     if s.has_liveout() {
         if s.end % 4 != 0 {
@@ -201,7 +201,7 @@ fn end_is_bad(position: &[u32], kind: &[u32], cost: &[u32], is_last: bool, s: Se
     (u.position as u64) + 1 < (end.0 as u64)
 }
 
-// Line 8: the first segment whose end is bad.
+// Line 8, where line 7 has passed: the first segment whose end is bad.
 pub fn first_bad_end(
     start: &[u32],
     end: &[u32],
@@ -217,7 +217,7 @@ pub fn first_bad_end(
         (let uses = usesOf (now (position .entry)) (now (kind .entry)) (now (cost .entry)) in
         let segments = segmentsOf
         (now (start .entry)) (now (end .entry)) (now (value .entry)) (now («first_use» .entry)) (now («end_use» .entry)) (now (flags .entry)) in
-        r ≡ firstBelow (badEndAt uses segments) (length segments)) ⌝ }
+        r ≡ firstBelow (badEndByLastAt uses segments) (length segments)) ⌝ }
 {
     let n = rows::segment_count(start, end, value, first_use, end_use, flags);
     let mut i = 0;

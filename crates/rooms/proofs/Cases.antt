@@ -1,5 +1,5 @@
--- Cases by hand, which the definitions compute: document 01's cases A and M, the limits of lines 1, 2 and 12, and jobs that break
--- two lines
+-- Cases by hand, which the definitions compute: document 01's cases A and M, the limits of lines 1, 2 and 12, jobs that break two
+-- lines, and ends of a live-out segment
 use mathlib.Core.Path.{_≡_, refl}
 use mathlib.Core.List.{List, [], _∷_}
 use Prim.Native.Nat.{ℕ}
@@ -8,7 +8,7 @@ use Rattle.links.specs.Blocks.{isBad, refusal}
 use Rattle.links.specs.declared.blocks.Checked.{Checked}
 use Rattle.links.specs.declared.blocks.Checked.the-variants.{Sound}
 use Rattle.jobs.specs.Lines.{badBounds, badList, badDef, badUse, badEnd, badSpan, badKind, badFixedUse}
-use Rattle.columns.specs.Below.{countBelow}
+use Rattle.columns.specs.Below.{countBelow, anyBelow}
 use Rattle.jobs.specs.declared.rows.Segment.{Segment}
 use Rattle.jobs.specs.declared.rows.Use.{Use}
 use Rattle.filling.specs.declared.lent.Rooms.{Rooms}
@@ -63,6 +63,9 @@ answers =
     ∷ refusalOf (like 0 1 4 0 (segment 4 14 8) (record { position = 4294967295; kind = 99; cost = 7 } ∷ record
     { position = 3; kind = 4; cost = 1065353216 } ∷ [])) room
     ∷ refusalOf (like 0 1 4 0 (segment 2 14 0) (record { position = 0; kind = 5; cost = 1065353216 } ∷ record { position = 3; kind = 99; cost = 7 } ∷ [])) room
+    ∷ refusalOf (like 0 1 4 0 (segment 2 16 2) twoUses) room
+    ∷ refusalOf (like 0 1 4 0 (segment 2 14 2) twoUses) room
+    ∷ refusalOf (like 0 1 4 0 (segment 2 12 2) twoUses) room
     ∷ []
 
 pub answers-are : answers
@@ -81,6 +84,10 @@ pub answers-are : answers
     ∷ refusal 4 0
     ∷ refusal 6 0
     ∷ refusal 7 1
+    ∷ Sound
+    ∷ refusal 8 0
+    ∷ refusal 8 0
     ∷ []
 unfolding firstBroken firstBelow badParameters someLong badSizes isBad badBounds badList badDef badUse badEnd badSpan badKind badFixedUse countBelow
+    anyBelow
 answers-are = refl

@@ -19,7 +19,7 @@ use Rattle.columns.specs.Table.{rowBefore}
 use Rattle.jobs.specs.Lines.{Lists, listOf, badSegment, badDefAt, badUseAt, badEnd, badEndAt}
 use Rattle.jobs.proofs.Sound.{Bounded, segment-bounded, segments-lists}
 use Rattle.jobs.proofs.SoundUses.{Defined, defined, Fitting, fitting, LivesOut, lives-out, Ended, ended}
-use Rattle.jobs.proofs.UseLists.{list-of}
+use Rattle.jobs.proofs.LastUse.{list-fitting}
 use Rattle.use_rows.specs.Uses.{Source, firstInst, lastInst}
 use Rattle.uses.specs.CheckedUses.{CheckedUses}
 use Rattle.use_lists.specs.Collecting.{Listings}
@@ -80,10 +80,7 @@ module _ (job : Source) (checked : CheckedUses job) where
   pub job-fitting : (i u : ℕ) → i < length (job .segments) → getD (job .segments) i noSegment .«first_use» ≤ u → u < getD (job .segments) i noSegment .«end_use»
       → Fitting (checked .limits) (getD (job .segments) i noSegment) (eqb u (getD (job .segments) i noSegment .«first_use»)) (rowBefore (job .uses) noUse u)
       (getD (job .uses) u noUse)
-  job-fitting i u h p q =
-      subst (λ (k : ℕ). Fitting (checked .limits) (seg k) (eqb u (seg k .«first_use»)) (rowBefore (job .uses) noUse u) (getD (job .uses) u noUse))
-      (sym (list-of (length (job .uses)) segs job-lists i u h p q))
-      (use-fitting u (let l = job-lists .inside i h in omega (arith, l, q)))
+  job-fitting i u h = list-fitting (checked .limits) (job .uses) segs job-lists (checked .line7) i h u
 
   -- a use lies in a block
   pub use-in-blocks : (u : ℕ) → u < length (job .uses) → getD (job .uses) u noUse .position < startOf (job .blocks) (length (job .blocks))

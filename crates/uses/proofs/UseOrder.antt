@@ -8,7 +8,7 @@ use native.Mathlib.Nat.{not-suc-le-zero, le-of-eq}
 use native.Mathlib.Omega.{arith}
 use lib.Dec.{eqb}
 use lib.ListN.{length, getD}
-use borrow.Author.Tests.{ne-eqb, eqb-true}
+use borrow.Author.Tests.{eqb-true}
 use Rattle.columns.proofs.Firsts.{split}
 use Rattle.jobs.specs.declared.rows.Segment.{Segment}
 use Rattle.jobs.specs.declared.rows.Use.{Use}
@@ -18,6 +18,7 @@ use Rattle.columns.specs.Table.{rowBefore}
 use Rattle.jobs.specs.Lines.{Lists}
 use Rattle.jobs.proofs.Sound.{Bounded}
 use Rattle.jobs.proofs.SoundUses.{Defined, Fitting, LivesOut, Ended}
+use Rattle.jobs.proofs.LastUse.{list-rises, last-highest}
 use Rattle.use_rows.specs.Uses.{firstInst}
 
 module _ (limits : Limits) (uses : List Use) (segments : List Segment) (lists : Lists (length uses) segments)
@@ -65,20 +66,6 @@ module _ (limits : Limits) (uses : List Use) (segments : List Segment) (lists : 
       earlier : 4 * at u ≤ rowBefore segments noSegment i .end → 4 * at u ≤ seg i .end
       earlier a = let b = bounded i h .after in let n = bounded i h .nonempty in omega (arith, a, b, n)
 
-  -- within a list positions do not fall
-  rising : (i u k : ℕ) → i < length segments → seg i .«first_use» ≤ u → u + k < seg i .«end_use» → at u ≤ at (u + k)
-  rising i u zero h p q = le-of-eq (ap at (same u))
-    where
-      same : (x : ℕ) → x ≡ x + 0
-      same x = omega arith
-  rising i u (suc k) h p q =
-      let before = rising i u k h p (omega (arith, q)) in
-      let e : suc (u + k) ≡ u + suc k = omega arith in
-      let step = fitting i (suc (u + k)) h (omega (arith, p)) (omega (arith, q)) .rises
-      (ne-eqb (suc (u + k)) (seg i .«first_use») (λ f. omega (arith, f, p))) in
-      let whole : at u ≤ at (suc (u + k)) = omega (arith, before, step) in
-      subst (λ (x : ℕ). at u ≤ at x) e whole
-
   -- an earlier use is at most one instruction after a later one
   pub use-near : (i m n : ℕ) → i < length segments → seg i .«first_use» ≤ n → n < seg i .«end_use» → m < n → at m ≤ at n + 1
   use-near i m n h p q l = ⊎-elim other same (split m (seg i .«first_use»))
@@ -93,7 +80,7 @@ module _ (limits : Limits) (uses : List Use) (segments : List Segment) (lists : 
       same : seg i .«first_use» ≤ m → at m ≤ at n + 1
       same b =
           let k : m + (n - m) ≡ n = omega (arith, l) in
-          let r = subst (λ (x : ℕ). at m ≤ at x) k (rising i m (n - m) h b (omega (arith, l, q))) in
+          let r = subst (λ (x : ℕ). at m ≤ at x) k (list-rises limits uses (seg i) (λ u. fitting i u h) m (n - m) b (omega (arith, l, q))) in
           omega (arith, r)
 
   -- a later segment starts after the first one
@@ -157,9 +144,7 @@ module _ (limits : Limits) (uses : List Use) (segments : List Segment) (lists : 
 
     -- a use of its list is no later than the list's last
     listed-last : (u : ℕ) → seg z .«first_use» ≤ u → u < seg z .«end_use» → at u ≤ at (seg z .«end_use» - 1)
-    listed-last u p q =
-        let k : u + (seg z .«end_use» - 1 - u) ≡ seg z .«end_use» - 1 = omega (arith, q) in
-        subst (λ (x : ℕ). at u ≤ at x) k (rising z u (seg z .«end_use» - 1 - u) z-inside p (omega (arith, q)))
+    listed-last = last-highest limits uses (seg z) (λ u. fitting z u z-inside)
 
     all-listed : (u : ℕ) → u < length uses → u < seg z .«end_use»
     all-listed u h = subst (λ (x : ℕ). u < x) (sym (lists .all) ∙ ap (λ (n : ℕ). rowBefore segments noSegment n .«end_use») (sym last)) h
@@ -181,7 +166,7 @@ module _ (limits : Limits) (uses : List Use) (segments : List Segment) (lists : 
             let r = listed-last u p q in
             let w = placed z (seg z .«end_use» - 1) z-inside (omega (arith, some)) (omega (arith, some)) .high in
             let b = out .boundary in
-            below (at u) (at (seg z .«end_use» - 1)) (seg z .end) r w b (out .apart some)
+            below (at u) (at (seg z .«end_use» - 1)) (seg z .end) r w b (out .apart (seg z .«end_use» - 1) (omega (arith, some)) (omega (arith, some)))
 
     -- not live-out: the last use is the last instruction
     pub last-use : Ended uses (seg z) → (u : ℕ) → u < length uses → at u ≤ at (seg z .«end_use» - 1)

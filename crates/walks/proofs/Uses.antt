@@ -1,35 +1,23 @@
 -- The fixed uses of a unit: their row numbers, which of them count for a reservation, and a search for one that does
 use mathlib.Core.Path.{_≡_, ap}
-use mathlib.Core.Logic.{inl, inr, ⊎-elim}
+use mathlib.Core.Logic.{⊎-elim}
 use mathlib.Core.Bool.{Bool, true, false}
 use mathlib.Core.List.{List}
 use Prim.Native.Nat.{ℕ, zero, suc, _+_, _-_, _≤_, _<_}
-use native.Mathlib.Nat.{le-of-suc-le-suc, eq-or-lt-of-le}
 use native.Mathlib.Omega.{arith}
 use lib.Dec.{T, eqb, eqb→eq, leb→le, ltb→lt}
 use lib.ListN.{length, getD}
 use borrow.Author.Tests.{le-leb, eq-eqb, ne-eqb}
 use Rattle.columns.specs.Below.{countBelow, anyBelow}
 use Rattle.columns.proofs.Firsts.{split}
-use Rattle.columns.proofs.Tests.{test-same, or-T, and-T}
+use Rattle.columns.proofs.Counting.{any-elim, any-hit}
+use Rattle.columns.proofs.Tests.{test-same, and-T}
 use Rattle.jobs.specs.Rows.{noFixedUse}
 use Rattle.jobs.specs.declared.rows.Reservation.{Reservation}
 use Rattle.jobs.specs.declared.rows.FixedUse.{FixedUse}
 use Rattle.walks.specs.declared.meeting.GapSegment.{GapSegment}
 use Rattle.walks.specs.Meeting.{clashes, rowNumber, useCounts}
 use Rattle.walks.specs.Standing.{OrderedUses, UsesFrom}
-
--- no number below n passes a test, or one does
-any-none : (test : ℕ → Bool) (n : ℕ) → ((k : ℕ) → k < n → T (test k) → ⊥) → T (anyBelow test n) → ⊥
-unfolding anyBelow
-any-none test zero h t = t
-any-none test (suc n) h t = ⊎-elim (any-none test n (λ k l. h k (omega arith))) (h n (omega arith)) (or-T (anyBelow test n) (test n) .0 t)
-
-any-hit : (test : ℕ → Bool) (n k : ℕ) → k < n → T (test k) → T (anyBelow test n)
-unfolding anyBelow
-any-hit test zero k h t = absurd (omega arith)
-any-hit test (suc n) k h t =
-    or-T (anyBelow test n) (test n) .1 (⊎-elim (λ e. inr (rw (← e) t)) (λ l. inl (any-hit test n k l t)) (eq-or-lt-of-le (le-of-suc-le-suc h)))
 
 -- a count of all numbers from a on
 count-from : (test : ℕ → Bool) (a n : ℕ) → ((k : ℕ) → k < a → test k ≡ false) → ((k : ℕ) → a ≤ k → k < n → test k ≡ true) → countBelow test n ≡ n - a
@@ -85,7 +73,7 @@ module _ {fixedUses : List FixedUse} {s : GapSegment} {r : Reservation} {i : ℕ
   none-counts : ((j : ℕ) → i ≤ j → j < length fixedUses → Counts fixedUses s r j → ⊥) → false ≡ anyBelow (useCounts fixedUses s r) (length fixedUses)
   none-counts f =
       test-same false _ (λ t. absurd t)
-      (any-none _ _ (λ k h t. ⊎-elim (λ m. l .none k m h t) (λ m. f k m h (counts t)) (split k i)))
+      (any-elim _ _ (λ k h t. ⊎-elim (λ m. l .none k m h t) (λ m. f k m h (counts t)) (split k i)))
 
   -- none is left
   pub none-left : length fixedUses ≤ i → false ≡ anyBelow (useCounts fixedUses s r) (length fixedUses)

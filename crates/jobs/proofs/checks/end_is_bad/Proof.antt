@@ -3,9 +3,9 @@ use mathlib.Core.Path.{sym, ap, ap₂, _∙_}
 use mathlib.Core.Bool.{not}
 use Prim.Native.Nat.{ℕ, _+_, _/_}
 use lib.Dec.{eqb, ltb}
-use borrow.Author.Tests.{le-leb, lt-leb, eq-eqb, ne-eqb, not-true, not-false}
+use borrow.Author.Tests.{le-leb, lt-leb, le-ltb, lt-ltb, eq-eqb, ne-eqb, not-true, not-false}
 use Rattle.jobs.specs.declared.rows.Use.{Use}
-use Rattle.jobs.specs.Lines.{badEnd}
+use Rattle.jobs.specs.Lines.{badEndByLast}
 use Rattle.jobs.proofs.Walk.{or-first, or-second, and-both, and-first, pick-first, pick-second}
 use borrow.Author.Needs.{needs}
 use Rattle.jobs.proofs.checks.end_is_bad.Statement.{statement}
@@ -15,20 +15,20 @@ has-liveout-requires : tie.Need-has-liveout-requires
 has-liveout-requires c κs = search needs
 
 returns : tie.Need-returns
-unfolding badEnd
+unfolding badEndByLast
 returns c =
     sym
     (pick-first _ _ _ _ (sym (c .before .before .before .has-liveout .ensures) ∙ c .before .before .if1 .taken)
     (or-first _ _ (ap not (ne-eqb _ _ (c .if2 .taken)))))
 
 returns-2 : tie.Need-returns-2
-unfolding badEnd
+unfolding badEndByLast
 returns-2 c =
     sym
     (pick-first _ _ _ _
     (sym (c .before .before .before .before .before .has-liveout .ensures) ∙ c .before .before .before .before .if1 .taken)
     (or-second _ _ _ (ap not (eq-eqb _ _ (c .before .before .if2 .left)))
-    (and-first _ _ (ap not (le-leb _ _ (c .if3 .taken))))))
+    (and-first _ _ (le-ltb _ _ (c .if3 .taken)))))
 
 sub-use-or-none : tie.Need-sub-use-or-none
 sub-use-or-none c = search needs
@@ -40,7 +40,7 @@ use-or-none-requires : tie.Need-use-or-none-requires
 use-or-none-requires c κs = search needs
 
 returns-3 : tie.Need-returns-3
-unfolding badEnd
+unfolding badEndByLast
 returns-3 c =
     let at-if3 = c .before .before .before .before in
     let at-if2 = at-if3 .before .before in
@@ -50,11 +50,11 @@ returns-3 c =
     sym
     (pick-first _ _ _ _ (sym (at-has-liveout .has-liveout .ensures) ∙ at-if1 .if1 .taken)
     (or-second _ _ _ (ap not (eq-eqb _ _ (at-if2 .if2 .left)))
-    (and-both _ _ _ (ap not (lt-leb _ _ (at-if3 .if3 .left)))
+    (and-both _ _ _ (lt-ltb _ _ (at-if3 .if3 .left))
     (ap (λ (u : Use). eqb (u .position) (at-args .args .s .end / 4)) (sym (c .before .before .use-or-none .ensures))))))
 
 returns-4 : tie.Need-returns-4
-unfolding badEnd
+unfolding badEndByLast
 returns-4 c =
     let at-args = c .before .before .before .before .before .before in
     sym
@@ -62,7 +62,7 @@ returns-4 c =
     (and-first _ _ (not-true (at-args .args .is-last) (c .if4 .taken))))
 
 returns-5 : tie.Need-returns-5
-unfolding badEnd
+unfolding badEndByLast
 returns-5 c =
     let at-if1 = c .before .before .before in
     let at-has-liveout = at-if1 .before in
@@ -94,7 +94,7 @@ cast-result-2 : tie.Need-cast-result-2
 cast-result-2 c = search needs
 
 returns-6 : tie.Need-returns-6
-unfolding badEnd
+unfolding badEndByLast
 returns-6 c =
     let at-use-or-none2 = c .before .before .before in
     let at-if5 = at-use-or-none2 .before .before in

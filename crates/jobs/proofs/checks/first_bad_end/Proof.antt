@@ -11,7 +11,7 @@ use lib.ListN.{length}
 use Rattle.columns.proofs.Firsts.{first-found, first-none}
 use Rattle.jobs.specs.declared.rows.Segment.{Segment}
 use Rattle.jobs.specs.Rows.{segmentsOf, usesOf}
-use Rattle.jobs.specs.Lines.{badEnd, badEndAt}
+use Rattle.jobs.specs.Lines.{badEndByLast, badEndByLastAt}
 use Rattle.jobs.proofs.Reading.{own-segment}
 use borrow.Author.Needs.{needs}
 use Rattle.jobs.proofs.checks.first_bad_end.Statement.{statement}
@@ -19,7 +19,7 @@ use Rattle.jobs.proofs.checks.first_bad_end.Tie as tie
 
 abbrev Inv-loop : tie.InvT-loop
 Inv-loop start end value first-use end-use flags position kind cost n i₀ i =
-    (i ≤ n) × ((k : ℕ) → k < i → badEndAt (usesOf position kind cost) (segmentsOf start end value first-use end-use flags) k ≡ false)
+    (i ≤ n) × ((k : ℕ) → k < i → badEndByLastAt (usesOf position kind cost) (segmentsOf start end value first-use end-use flags) k ≡ false)
 
 abbrev μ-loop : tie.MeasureT-loop
 μ-loop start end value first-use end-use flags position kind cost n i₀ i = n - i
@@ -40,15 +40,15 @@ in-list c = lt-of-lt-of-le (c .loop-test .taken) (le-of-eq (c .before .before .s
 
 -- what the test says of the row that was read
 tested : (c : tie.After-end-is-bad Inv-loop μ-loop) (r : Bool) → c .end-is-bad .result ≡ r →
-    badEndAt
+    badEndByLastAt
     (usesOf (begin (c .before .before) .args .position .now) (begin (c .before .before) .args .kind .now)
     (begin (c .before .before) .args .cost .now)) (rows (c .before .before)) (at (c .before .before)) ≡ r
 tested d r e =
     let c = d .before .before in
     let uses = usesOf (begin c .args .position .now) (begin c .args .kind .now) (begin c .args .cost .now) in
     sym (sym e ∙ d .end-is-bad .ensures
-    ∙ ap (λ (x : ℕ). badEnd uses (eqb (at c + 1) x) (d .before .segment-at .result)) (c .before .before .segment-count .ensures)
-    ∙ ap (badEnd uses (eqb (at c + 1) (length (rows c))))
+    ∙ ap (λ (x : ℕ). badEndByLast uses (eqb (at c + 1) x) (d .before .segment-at .result)) (c .before .before .segment-count .ensures)
+    ∙ ap (badEndByLast uses (eqb (at c + 1) (length (rows c))))
     (own-segment (begin c .args .start .now) (begin c .args .end .now) (begin c .args .value .now)
     (begin c .args .first-use .now) (begin c .args .end-use .now) (begin c .args .flags .now) (at c)
     (d .before .segment-at .result) (d .before .segment-at .ensures) (in-list c)))
