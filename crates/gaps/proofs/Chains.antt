@@ -29,11 +29,12 @@ use Rattle.links.proofs.Columns.{last-end}
 use Rattle.use_rows.specs.Uses.{frequencyAt}
 use Rattle.use_rows.specs.declared.row.SplitUse.{SplitUse}
 use Rattle.gaps.specs.Gaps.{Gap, near, far, nearWeight, farWeights, farEnd, spanned, inOrder, cutGaps, frequencyOf, cuts, gapsBetween, ownGap}
+use Rattle.gaps.specs.Laws.{Run, Each, Least}
 use Rattle.gaps.proofs.Cuts.{and-parts, all-enough}
 use Rattle.gaps.proofs.Spaces.{cut-gaps-length}
 use Rattle.gaps.proofs.Homes.{Home, home-of, home-only, homes-rise, At, at-home, at-edge, at-beyond, home-block, target-block, at-start, start-beyond}
 use Rattle.gaps.proofs.Homes.{edge-beyond, home-reaches, blocks-rise}
-use Rattle.gaps.proofs.Runs.{Run, run-in-order, run-one}
+use Rattle.gaps.proofs.Runs.{run-in-order, run-one}
 
 -- ---- the blocks of the cuts, from block b on, up to block `last`: each is the link of the one before, and the last one's link is absent or leads too far
 abbrev pub Chained : Side → List ℕ → ℕ → ℕ → List ℕ → Type 0
@@ -64,10 +65,6 @@ module _ (side : Side) (f : List ℕ) (few : length f ≤ absent) (last : ℕ) w
       not-reached false b p q = absurd (true≢false (sym p))
 
 -- ---- each gap of a list
-abbrev pub Each : (Gap → Type 0) → List Gap → Type 0
-Each P [] = Unit {0}
-Each P (g ∷ gs) = P g × Each P gs
-
 pub each-append : (P : Gap → Type 0) (gs hs : List Gap) → Each P gs → Each P hs → Each P (gs ++ hs)
 each-append P [] hs a b = b
 each-append P (g ∷ gs) hs a b = (a .0, each-append P gs hs (a .1) b)
@@ -77,12 +74,6 @@ each-in-order P Previous g gs a b = each-append P gs (g ∷ []) b (a, tt)
 each-in-order P Next g gs a b = (a, b)
 
 -- ---- a gap's frequency is the least among the blocks that it meets, and one of theirs
-pub record Least (blocks : List BlockRow) (g : Gap) : Type 0 where
-  pub least : (i : ℕ) → g .from ≤ i → i < g .to → lt (frequencyAt blocks i) (g .freq) ≡ false
-  pub inst : ℕ
-  pub inside : (g .from ≤ inst) × (inst < g .to)
-  pub is : frequencyAt blocks inst ≡ g .freq
-
 module _ (blocks : List BlockRow) (sound : SoundBlocks blocks) where
   abbrev freqs : List ℕ
   freqs = map (λ (b : BlockRow). b .frequency) blocks

@@ -17,7 +17,8 @@ use Rattle.use_rows.specs.declared.row.SplitUse.{SplitUse}
 use Rattle.gaps.specs.Gaps.{Gap, gapWeight, near, far, nearWeight, farWeights, farEnd, spanned, cutGaps, frequencyOf, cuts, gapsBetween, ownGap, useOf}
 use Rattle.gaps.specs.Gaps.{gapsOn, gapsOf}
 use Rattle.numbers.specs.Sum.{plus}
-use Rattle.gaps.proofs.Chains.{Each, each-append, each-in-order}
+use Rattle.gaps.specs.Laws.{Each}
+use Rattle.gaps.proofs.Chains.{each-append, each-in-order}
 use Rattle.gaps.proofs.GapTable.{each-joined}
 
 -- a gap whose weight is a weight and whose frequency is finite

@@ -12,13 +12,13 @@ use lib.ListN.{length, getD}
 use borrow.Author.Tests.{ltb-true}
 use Rattle.numbers.specs.Weight.{frequencyLimit, valueOf}
 use Rattle.links.specs.Blocks.{BlockRow, blocksOf, blockAt, itemLimit, Ends, SoundColumns}
-use Rattle.links.specs.Links.{lowerLink, linkColumn, onSide}
+use Rattle.links.specs.Links.{lowerLink, linkColumn, onSide, IsLink}
 use Rattle.links.specs.Split.{follow, edge, preferred, home, reaches}
 use Rattle.links.specs.declared.lower.Side.{Side}
 use Rattle.links.specs.declared.lower.Side.the-variants.{Previous, Next}
 use Rattle.columns.proofs.Firsts.{split}
 use Rattle.columns.proofs.Tables.{table-length, table-at}
-use Rattle.links.proofs.Linking.{IsLink, link-nearest}
+use Rattle.links.proofs.Linking.{link-nearest}
 use Rattle.links.proofs.Columns.{list-long, row-at, frequency-column, last-of-sound, ends-of-sound, block-of-sound, edges-of-sound, edgesOf}
 use Rattle.use_rows.specs.Uses.{noWeights, frequencyAt}
 use Rattle.use_rows.specs.UseColumns.{UseColumns, Inside, useIn}

@@ -13,11 +13,7 @@ use Rattle.links.specs.declared.lower.Side.the-variants.{Previous, Next}
 use Rattle.columns.specs.Below.{joined}
 use Rattle.overlaps.specs.Live.{Gaps}
 use Rattle.gaps.specs.Gaps.{Gap, spanned, inOrder}
-
--- the first begins at lo, each begins where the one before ends, the last ends at hi; none is empty
-abbrev pub Run : ℕ → ℕ → List Gap → Type 0
-Run lo hi [] = lo ≡ hi
-Run lo hi (g ∷ gs) = (g .from ≡ lo) × (g .from < g .to) × Run (g .to) hi gs
+use Rattle.gaps.specs.Laws.{Run}
 
 pub run-append : (lo mid hi : ℕ) (gs hs : List Gap) → Run lo mid gs → Run mid hi hs → Run lo hi (gs ++ hs)
 run-append lo mid hi [] hs r s = subst (λ (x : ℕ). Run x hi hs) (sym r) s

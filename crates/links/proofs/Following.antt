@@ -9,13 +9,13 @@ use mathlib.Core.Bool.{Bool, true, false, _&&_, cond, true≢false}
 use lib.Dec.{ltb}
 use lib.ListN.{length, getD}
 use borrow.Author.Tests.{lt-ltb, ltb-true, leb-false, lt-leb}
-use Rattle.links.specs.Links.{beside, beyond, absent, isLower, lowerLink, LiesBeyond}
+use Rattle.links.specs.Links.{beside, beyond, absent, isLower, lowerLink, LiesBeyond, IsLink}
 use Rattle.links.specs.Split.{follow, lastOr, reaches, lastReached}
 use Rattle.links.specs.declared.lower.Side.{Side}
 use Rattle.links.specs.declared.lower.Side.the-variants.{Previous, Next}
 use Rattle.columns.proofs.Firsts.{split}
 use Rattle.links.proofs.Linking.{beyond-further, beyond-inside, beyond-beyond, Distance, distance, nearer}
-use Rattle.links.proofs.Linking.{IsLink, link-nearest, link-is}
+use Rattle.links.proofs.Linking.{link-nearest, link-is}
 
 -- ---- one link
 and-right : (a b : Bool) → (a ≡ true → b ≡ false) → (a && b) ≡ false

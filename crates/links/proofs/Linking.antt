@@ -14,7 +14,7 @@ use Rattle.columns.proofs.Tests.{cond-both}
 use Rattle.numbers.proofs.Units.{units-order}
 use Rattle.numbers.proofs.Bits.{value-finite, value-order}
 use Rattle.columns.specs.First.{firstBelow, FirstIn}
-use Rattle.links.specs.Links.{beside, beyond, absent, isLower, lowerLink, LiesBeyond, nth}
+use Rattle.links.specs.Links.{beside, beyond, absent, isLower, lowerLink, LiesBeyond, IsLink, nth}
 use Rattle.links.specs.declared.lower.Side.{Side}
 use Rattle.links.specs.declared.lower.Side.the-variants.{Previous, Next}
 use Rattle.columns.proofs.Firsts.{split, first-in}
@@ -84,12 +84,7 @@ pub lower-bits : (f : List ℕ) (b k : ℕ) → getD f k 0 ≤ frequencyLimit �
 unfolding isLower
 lower-bits f b k p q = value-order frequencyLimit (getD f k 0) (getD f b 0) (lit≤ tt) p q
 
--- ---- what a link is
-pub record IsLink (side : Side) (f : List ℕ) (b v : ℕ) : Type 0 where
-  pub passed : (k : ℕ) → k < length f → LiesBeyond side b k → (v < length f → LiesBeyond side k v) → isLower f b k ≡ false
-  pub found : v < length f → (LiesBeyond side b v) × (isLower f b v ≡ true)
-  pub gone : length f ≤ v → v ≡ absent
-
+-- ---- links
 -- the definition's link is one
 pub link-nearest : (side : Side) (f : List ℕ) (b : ℕ) → length f ≤ absent → b < length f → IsLink side f b (lowerLink side f b)
 unfolding lowerLink

@@ -1,7 +1,7 @@
 -- Lower links: the nearest block of strictly lower frequency on a side
 use Prim.Native.Nat.{ℕ, _+_, _-_, _<_, _≤_}
 use mathlib.Core.Path.{_≡_}
-use mathlib.Core.Bool.{Bool, cond}
+use mathlib.Core.Bool.{Bool, true, false, cond}
 use mathlib.Core.List.{List}
 use lib.Dec.{ltb, eqb}
 use lib.ListN.{length, getD}
@@ -40,6 +40,21 @@ lowerLink side freqs b =
     let t = firstBelow (λ (t : ℕ). isLower freqs b (beyond side b t)) n in
     cond (ltb t n) (beyond side b t) absent
 
+-- block k lies on a side of block b
+abbrev pub LiesBeyond : Side → ℕ → ℕ → Type 0
+LiesBeyond Previous b k = k < b
+LiesBeyond Next b k = b < k
+
+-- link v of block b, as document 01 says what it names: the nearest block of strictly lower frequency on its side; absent exactly if none
+-- is lower
+pub record IsLink (side : Side) (freqs : List ℕ) (b v : ℕ) : Type 0 where
+  -- no block on the side that is nearer than v is lower; none at all, if v is no block
+  pub passed : (k : ℕ) → k < length freqs → LiesBeyond side b k → (v < length freqs → LiesBeyond side k v) → isLower freqs b k ≡ false
+  -- a block lies on the side, and is lower
+  pub found : v < length freqs → (LiesBeyond side b v) × (isLower freqs b v ≡ true)
+  -- what is no block is the mark for absent
+  pub gone : length freqs ≤ v → v ≡ absent
+
 -- all lower links of a side
 abbrev pub linkColumn : Side → List ℕ → List ℕ
 linkColumn side freqs = table (lowerLink side freqs) (length freqs)
@@ -60,11 +75,6 @@ onSide Previous left right = left
 onSide Next left right = right
 
 -- ---- for contracts of private functions
--- block k lies on a side of block b
-abbrev pub LiesBeyond : Side → ℕ → ℕ → Type 0
-LiesBeyond Previous b k = k < b
-LiesBeyond Next b k = b < k
-
 -- the block that is linked after t others: those farthest on the side come first
 abbrev pub nth : Side → ℕ → ℕ → ℕ
 nth Previous n t = t

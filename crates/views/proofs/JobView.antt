@@ -32,7 +32,7 @@ use Rattle.jobs.specs.Lines.{badSpan}
 use Rattle.walks.specs.Gaps.{segmentIn, ofGap, segmentsOfGap}
 use Rattle.walks.proofs.Sets.{where-one, fixed-one, weight-one, all-weights}
 use Rattle.gaps.specs.Gaps.{Gap, gapWeight, useOf, gapsOn, gapsOf, ownGap, initialGap}
-use Rattle.gaps.proofs.Chains.{Each}
+use Rattle.gaps.specs.Laws.{Each}
 use Rattle.gaps.proofs.GapWeights.{Weighed, Weighty, gaps-weighed}
 use Rattle.links.specs.declared.lower.Side.the-variants.{Previous, Next}
 use Rattle.filling.specs.GapTables.{fromsOf, tosOf}

@@ -10,10 +10,10 @@ use borrow.Author.Tests.{lt-ltb, le-ltb}
 use lib.Dec.{ltb, lit≤}
 use lib.ListN.{length, getD}
 use Rattle.columns.proofs.Tests.{cond-true, cond-false}
-use Rattle.links.specs.Links.{beside, beyond, absent, isLower, lowerLink, LiesBeyond, LinkedBeyond}
+use Rattle.links.specs.Links.{beside, beyond, absent, isLower, lowerLink, LiesBeyond, IsLink, LinkedBeyond}
 use Rattle.links.specs.declared.lower.Side.{Side}
 use Rattle.links.specs.declared.lower.Side.the-variants.{Previous, Next}
-use Rattle.links.proofs.Linking.{IsLink, link-nearest, link-is, link-jump, lower-bits, distance, beyond-inside, beyond-beyond, beyond-further}
+use Rattle.links.proofs.Linking.{link-nearest, link-is, link-jump, lower-bits, distance, beyond-inside, beyond-beyond, beyond-further}
 use Rattle.links.proofs.Linking.{nearer, remaining, fewer}
 use Rattle.links.proofs.lower.lower_link.Statement.{statement}
 use Rattle.links.proofs.lower.lower_link.Tie as tie
