@@ -1,8 +1,8 @@
 -- How many numbers pass a test: a loop that counts them, and what a count says; and whether some number passes
 use mathlib.Core.Path.{_≡_, refl, sym, ap, _∙_}
-use mathlib.Core.Logic.{inl, inr, ⊎-elim}
+use mathlib.Core.Logic.{_⊎_, inl, inr, ⊎-elim}
 use mathlib.Core.Bool.{Bool, true, false, cond}
-use Prim.Native.Nat.{ℕ, zero, suc, _+_, _≤_, _<_, zero-le}
+use Prim.Native.Nat.{ℕ, zero, suc, _+_, _-_, _≤_, _<_, zero-le, min}
 use native.Mathlib.Nat.{le-trans, le-of-eq, le-antisymm, le-of-suc-le-suc, eq-or-lt-of-le, not-suc-le-zero}
 use native.Mathlib.Numerals.{add-one}
 use native.Mathlib.Omega.{arith}
@@ -86,6 +86,34 @@ module _ (test : ℕ → Bool) where
   -- behind the last
   pub counted-all : (i have n : ℕ) → i ≤ n → n ≤ i → Counted test i have → have ≡ countBelow test n
   counted-all i have n p q c = c .is ∙ ap (countBelow test) (le-antisymm p q)
+
+-- ---- two tests
+-- none passes where the test is never met
+pub count-never : (n : ℕ) → countBelow (λ (i : ℕ). false) n ≡ 0
+unfolding countBelow
+count-never zero = refl
+count-never (suc n) = ap (λ (k : ℕ). k + 0) (count-never n)
+
+-- a test that passes all from a to before e, where another passes none, and is the other one elsewhere, counts so many more
+pub count-span : (t u : ℕ → Bool) (a e : ℕ) → ((i : ℕ) → i < a → u i ≡ t i) → ((i : ℕ) → e ≤ i → u i ≡ t i)
+    → ((i : ℕ) → a ≤ i → i < e → (t i ≡ false) × (u i ≡ true)) → (n : ℕ) → countBelow u n ≡ countBelow t n + (min e n - a)
+unfolding countBelow
+count-span t u a e low high within zero = omega arith
+count-span t u a e low high within (suc n) =
+    let r = count-span t u a e low high within n in
+    ⊎-elim (λ l. same r (low n l) (inl l)) (λ l. ⊎-elim (more r l) (λ m. same r (high n m) (inr m)) (split n e)) (split n a)
+  where
+    same : countBelow u n ≡ countBelow t n + (min e n - a) → u n ≡ t n → (n < a) ⊎ (e ≤ n)
+        → countBelow u n + cond (u n) 1 0 ≡ countBelow t n + cond (t n) 1 0 + (min e (suc n) - a)
+    same r q o = let c = ap {B = ℕ} (λ (x : Bool). cond x 1 0) q in ⊎-elim (λ l. omega (arith, r, c, l)) (λ l. omega (arith, r, c, l)) o
+
+    more : countBelow u n ≡ countBelow t n + (min e n - a) → a ≤ n → n < e
+        → countBelow u n + cond (u n) 1 0 ≡ countBelow t n + cond (t n) 1 0 + (min e (suc n) - a)
+    more r l m =
+        let w = within n l m in
+        let c = ap {B = ℕ} (λ (x : Bool). cond x 1 0) (w .0) in
+        let d = ap {B = ℕ} (λ (x : Bool). cond x 1 0) (w .1) in
+        omega (arith, r, c, d, l, m)
 
 -- ---- some number passes
 -- what each number that passes gives, and one that passes

@@ -5,3 +5,4 @@ pub mod GapRows
 pub mod GapCount
 pub mod LiveCases
 pub mod LiveTotal
+pub mod LiveCovered

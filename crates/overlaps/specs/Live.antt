@@ -1,9 +1,11 @@
 -- Live instructions
 use mathlib.Core.Path.{_≡_}
 use Prim.Native.Nat.{ℕ, _+_, _-_, _*_, _≤_, _<_, min, max}
+use mathlib.Core.Bool.{Bool, _&&_}
 use mathlib.Core.List.{List}
+use lib.Dec.{ltb}
 use lib.ListN.{length, getD}
-use Rattle.columns.specs.Below.{sumBelow}
+use Rattle.columns.specs.Below.{sumBelow, anyBelow}
 use Rattle.numbers.specs.Point.{instOf, roundUp}
 use Rattle.links.specs.Blocks.{endLimit}
 use Rattle.columns.specs.Table.{table, rowBefore}
@@ -23,6 +25,14 @@ liveOf starts ends i = liveTo ends i - liveFrom starts ends i
 -- the live instructions of the segments alone
 abbrev pub liveInsts : List ℕ → List ℕ → ℕ
 liveInsts starts ends = sumBelow (liveOf starts ends) (length starts)
+
+-- segment s covers instruction i: points of it lie from 4i to before 4(i + 1)
+abbrev pub covers : List ℕ → List ℕ → ℕ → ℕ → Bool
+covers starts ends i s = ltb (getD starts s 0) (4 * (i + 1)) && ltb (4 * i) (getD ends s 0)
+
+-- some segment covers it
+abbrev pub covered : List ℕ → List ℕ → ℕ → Bool
+covered starts ends i = anyBelow (covers starts ends i) (length starts)
 
 -- what line 5 leaves: segments are nonempty, start at or after the end before, and end inside the blocks
 pub record Segments (starts ends : List ℕ) : Type 0 where
