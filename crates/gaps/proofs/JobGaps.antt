@@ -1,9 +1,11 @@
--- The gaps of a checked job: what they rely on, and that they hold all its live instructions
+-- The gaps of a checked job: what they rely on, and that they hold all its counted weights and live instructions
 use mathlib.Core.Path.{_≡_, refl, sym, ap, _∙_, subst}
 use mathlib.Core.List.{List, [], _∷_, map}
 use Prim.Native.Nat.{ℕ, zero, suc, _+_, _-_, _≤_, _<_, max}
 use native.Mathlib.Omega.{arith}
+use lib.Ieee.{Float}
 use lib.ListN.{length, getD, length-map}
+use Rattle.numbers.specs.Weight.{zeroWeight}
 use Rattle.numbers.specs.Point.{instOf, roundUp}
 use Rattle.columns.specs.Table.{table, rowBefore}
 use Rattle.links.specs.Blocks.{BlockRow, blocksOf, startOf, SoundBlocks, SoundColumns}
@@ -19,8 +21,11 @@ use Rattle.overlaps.specs.Live.{liveInGap, liveInsts, Gaps, Reach}
 use Rattle.use_rows.specs.declared.row.SplitUse.{SplitUse}
 use Rattle.uses.proofs.UseTable.{instsOf, use-table-first, use-table-last, use-table-rises, use-table-inside, use-table-few}
 use Rattle.uses.proofs.CheckedJob.{first-covers, last-covers}
+use Rattle.uses.proofs.EdgeWeights.{first-no-left, last-no-right}
 use Rattle.overlaps.proofs.LiveTotal.{live-total}
 use Rattle.gaps.specs.Gaps.{Gap, useOf, gapsOf, usesIn, Cuttable}
+use Rattle.gaps.specs.Laws.{placed, counted}
+use Rattle.gaps.proofs.Placed.{all-weights-once}
 use Rattle.gaps.proofs.Runs.{fromsOf, tosOf, run-first, run-last}
 use Rattle.gaps.proofs.GapTable.{Rising, gaps-run, gaps-few, gaps-some, gaps-tile}
 
@@ -105,7 +110,14 @@ module _ (job : Source) (checked : CheckedUses job) (sound : SoundBlocks (job .b
         (gaps-run (job .blocks) uses job-rising best h)
         ∙ ap (λ (x : ℕ). x + 1) (sym (inst-of uses (length uses - 1)) ∙ use-table-last job checked)
 
-    -- and so hold all live instructions
+    -- each counted weight stands in exactly one of them: whatever measures weights, with nothing for zero, measures as much in the gaps as in
+    -- all rows of the use table
+    pub job-weights-once : (f : Float → ℕ) → f zeroWeight ≡ 0
+        → placed f (gapsOf (job .blocks) (useTableOf job) best) ≡ sumBelow (λ (k : ℕ). counted f (useOf (useTableOf job) k)) (length (useTableOf job))
+    job-weights-once f none =
+        all-weights-once f none (job .blocks) uses best h (ap f (first-no-left job checked) ∙ none) (ap f (last-no-right job checked) ∙ none)
+
+    -- they hold all live instructions
     module _ (starts ends : List ℕ) (long : length starts ≡ length (job .segments))
         (start-at : (i : ℕ) → i < length (job .segments) → getD (job .segments) i noSegment .start ≡ getD starts i 0)
         (end-at : (i : ℕ) → i < length (job .segments) → getD (job .segments) i noSegment .end ≡ getD ends i 0) where

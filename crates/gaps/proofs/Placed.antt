@@ -2,6 +2,7 @@
 use mathlib.Core.Path.{_≡_, refl, sym, ap, ap₂, _∙_}
 use mathlib.Core.List.{List, [], _∷_, _++_}
 use Prim.Native.Nat.{ℕ, zero, suc, _+_, _-_, _<_}
+use native.Mathlib.Numerals.{add-one}
 use native.Mathlib.Omega.{arith}
 use lib.Ieee.{Float}
 use lib.ListN.{length}
@@ -14,31 +15,23 @@ use Rattle.columns.specs.Below.{sumBelow, joined}
 use Rattle.use_rows.specs.declared.row.SplitUse.{SplitUse}
 use Rattle.gaps.specs.Gaps.{Gap, near, far, nearWeight, farWeights, farEnd, spanned, inOrder, cutGaps, frequencyOf, cuts, gapsBetween, ownGap, useOf}
 use Rattle.gaps.specs.Gaps.{gapsOn, gapsOf}
+use Rattle.gaps.specs.Laws.{measure, placed, counted}
 
 module _ (f : Float → ℕ) where
-  -- of a list of weights, of the weights placed in gaps
-  abbrev pub measure : List Float → ℕ
-  measure [] = 0
-  measure (w ∷ ws) = f w + measure ws
-
-  abbrev pub placed : List Gap → ℕ
-  placed [] = 0
-  placed (g ∷ gs) = measure (g .weights) + placed gs
-
   -- of n uses from the i-th on
   abbrev sumFrom : (ℕ → ℕ) → ℕ → ℕ → ℕ
   sumFrom part i zero = 0
   sumFrom part i (suc n) = part i + sumFrom part (suc i) n
 
-  placed-append : (gs hs : List Gap) → placed (gs ++ hs) ≡ placed gs + placed hs
+  placed-append : (gs hs : List Gap) → placed f (gs ++ hs) ≡ placed f gs + placed f hs
   placed-append [] hs = omega arith
   placed-append (g ∷ gs) hs = let e = placed-append gs hs in omega (arith, e)
 
-  placed-in-order : (side : Side) (g : Gap) (gs : List Gap) → placed (inOrder side g gs) ≡ measure (g .weights) + placed gs
+  placed-in-order : (side : Side) (g : Gap) (gs : List Gap) → placed f (inOrder side g gs) ≡ measure f (g .weights) + placed f gs
   placed-in-order Previous g gs = let e = placed-append gs (g ∷ []) in omega (arith, e)
   placed-in-order Next g gs = refl
 
-  placed-joined : (lists : ℕ → List Gap) (part : ℕ → ℕ) → ((k : ℕ) → placed (lists k) ≡ part k) → (i n : ℕ) → placed (joined lists i n) ≡ sumFrom part i n
+  placed-joined : (lists : ℕ → List Gap) (part : ℕ → ℕ) → ((k : ℕ) → placed f (lists k) ≡ part k) → (i n : ℕ) → placed f (joined lists i n) ≡ sumFrom part i n
   unfolding joined
   placed-joined lists part h i zero = refl
   placed-joined lists part h i (suc n) =
@@ -46,7 +39,7 @@ module _ (f : Float → ℕ) where
 
   module _ (none : f zeroWeight ≡ 0) where
     placed-cut : (side : Side) (freqOf : ℕ → Float) (edgeOf : ℕ → ℕ) (end : ℕ) (ws : List Float) (e : ℕ) (w : Float) (b : ℕ) (cs : List ℕ)
-        → placed (cutGaps side freqOf edgeOf end ws e w b cs) ≡ f w + measure ws
+        → placed f (cutGaps side freqOf edgeOf end ws e w b cs) ≡ f w + measure f ws
     unfolding cutGaps
     placed-cut side freqOf edgeOf end ws e w b [] = omega arith
     placed-cut side freqOf edgeOf end ws e w b (c ∷ cs) =
@@ -56,7 +49,7 @@ module _ (f : Float → ℕ) where
 
     -- between two uses: the earlier one's right weight, the later one's left weight, and the farther one's main weight
     placed-between : (side : Side) (blocks : List BlockRow) (u v : SplitUse)
-        → placed (gapsBetween side blocks u v) ≡ f (u .«right_weight») + f (v .«left_weight») + f (far side u v .weight)
+        → placed f (gapsBetween side blocks u v) ≡ f (u .«right_weight») + f (v .«left_weight») + f (far side u v .weight)
     unfolding gapsBetween
     placed-between side blocks u v =
         placed-cut side (λ b. frequencyOf blocks b) (λ c. edge side (blockAt blocks c)) (farEnd side (u .inst .0) (v .inst .0)) (farWeights side (far side u v))
@@ -64,7 +57,7 @@ module _ (f : Float → ℕ) where
         (blockOf blocks (home side (u .inst .0) (v .inst .0))) (cuts side blocks (u .inst .0) (v .inst .0))
         ∙ by side
       where
-        by : (side : Side) → f (nearWeight side (near side u v)) + measure (farWeights side (far side u v))
+        by : (side : Side) → f (nearWeight side (near side u v)) + measure f (farWeights side (far side u v))
             ≡ f (u .«right_weight») + f (v .«left_weight») + f (far side u v .weight)
         by Previous = omega arith
         by Next = omega arith
@@ -110,7 +103,7 @@ module _ (f : Float → ℕ) where
           let c = ap (λ (x : ℕ). sumFrom part x n) b in
           omega (arith, r, c)
 
-      pub weights-once : (best : ℕ) → best < length uses → placed (gapsOf blocks uses best) ≡ sumBelow beside (length uses - 1) + sumBelow main (length uses)
+      pub weights-once : (best : ℕ) → best < length uses → placed f (gapsOf blocks uses best) ≡ sumBelow beside (length uses - 1) + sumBelow main (length uses)
       unfolding gapsOf
       weights-once best h =
           let right : ℕ = length uses - 1 - best in
@@ -130,3 +123,21 @@ module _ (f : Float → ℕ) where
           let u = from-below beside (length uses - 1) in
           let v = from-below main (length uses) in
           omega (arith, a, l, r, s, t, u, v)
+
+      -- all rows: the first one's left weight and the last one's right weight stand in no gap
+      rows-once : (m : ℕ) → sumBelow beside m + sumBelow main (suc m) + f (useOf uses 0 .«left_weight») + f (useOf uses m .«right_weight»)
+          ≡ sumBelow (λ (k : ℕ). counted f (useOf uses k)) (suc m)
+      unfolding sumBelow
+      rows-once zero = omega arith
+      rows-once (suc m) = let r = rows-once m in let e = ap (λ (k : ℕ). f (useOf uses k .«left_weight»)) (add-one m) in omega (arith, r, e)
+
+      pub all-weights-once : (best : ℕ) → best < length uses
+          → f (useOf uses 0 .«left_weight») ≡ 0 → f (useOf uses (length uses - 1) .«right_weight») ≡ 0
+          → placed f (gapsOf blocks uses best) ≡ sumBelow (λ (k : ℕ). counted f (useOf uses k)) (length uses)
+      all-weights-once best h first last =
+          let w = weights-once best h in
+          let r = rows-once (length uses - 1) in
+          let one : suc (length uses - 1) ≡ length uses = omega (arith, h) in
+          let a = ap (sumBelow main) one in
+          let b = ap (sumBelow (λ (k : ℕ). counted f (useOf uses k))) one in
+          omega (arith, w, r, a, b, first, last)

@@ -10,5 +10,6 @@ pub mod WholeTable
 pub mod CheckedJob
 pub mod Held
 pub mod UseTable
+pub mod EdgeWeights
 pub mod CheckedCases
 pub mod Best

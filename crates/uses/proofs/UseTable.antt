@@ -8,7 +8,7 @@ use native.Mathlib.Nat.{not-suc-le-zero, le-refl, le-antisymm}
 use native.Mathlib.Omega.{arith}
 use lib.Dec.{eqb}
 use lib.Ieee.{Float}
-use lib.ListN.{length, getD, take, length-append, length-map}
+use lib.ListN.{length, getD, take, length-append, length-map, List·getD-map}
 use borrow.Author.Tests.{eq-eqb, ne-eqb}
 use Rattle.numbers.specs.Weight.{Weight, finite, zeroWeight, frequencyLimit}
 use Rattle.columns.proofs.Tests.{cond-true, cond-false}
@@ -18,13 +18,14 @@ use Rattle.numbers.proofs.Operations.{sum-weight, product-weight}
 use Rattle.numbers.proofs.UseCosts.{Scales, spill-cost-cost, reload-cost, move-cost, move-below-reload, scaled-finite}
 use Rattle.links.specs.Blocks.{blockAt, blockOf, startOf}
 use Rattle.columns.proofs.Firsts.{split}
+use Rattle.columns.proofs.Counting.{count-never}
 use Rattle.jobs.specs.Rows.{noUse}
 use Rattle.columns.specs.Below.{countBelow}
 use Rattle.use_rows.specs.declared.row.Part.{Part}
 use Rattle.use_rows.specs.declared.row.Part.the-variants as Part·is
 use Rattle.use_rows.specs.declared.row.SplitUse.{SplitUse}
-use Rattle.use_rows.specs.Uses.{addedToRow, Seen, countsAt, carries, splitUse, hasRow, rowsFrom, useTable, Source, segmentOf, costOf, frequencyAt, seenOf}
-use Rattle.use_rows.specs.Uses.{firstInst, lastInst, useTableOf, AllWeights}
+use Rattle.use_rows.specs.Uses.{noWeights, addedToRow, Seen, countsAt, carries, splitUse, hasRow, rowsFrom, useTable, Source, segmentOf, costOf, frequencyAt}
+use Rattle.use_rows.specs.Uses.{seenOf, firstInst, lastInst, useTableOf, AllWeights}
 use Rattle.use_rows.specs.UseColumns.{UseColumns, Holds}
 use Rattle.uses.specs.CheckedUses.{CheckedUses}
 use Rattle.uses.proofs.UseRows.{other-carries, rows-split, rows-none, rows-one}
@@ -99,11 +100,6 @@ module _ (t other : ℕ → Bool) (x : ℕ) (same : (i : ℕ) → (i ≡ x → �
       by (inl a) b before = apart (λ e. omega (arith, a, e)) before
       by (inr a) (inl b) before = apart (λ e. omega (arith, b, e)) before
       by (inr a) (inr b) before = here (le-antisymm b a)
-
-count-none : (k : ℕ) → countBelow (λ (i : ℕ). false) k ≡ 0
-unfolding countBelow
-count-none zero = refl
-count-none (suc k) = ap (λ (n : ℕ). n + 0) (count-none k)
 
 -- ---- the rows of k instructions from p on
 module _ (seen : Seen) (n first last : ℕ) where
@@ -187,7 +183,7 @@ module _ (seen : Seen) (n first last : ℕ) where
 -- a use gives one row at most
 carries-few : (seen : Seen) (p k n : ℕ) → countBelow (λ (i : ℕ). carries seen n (p + i)) k ≤ n
 unfolding carries
-carries-few seen p k zero = subst (λ (x : ℕ). x ≤ 0) (sym (count-none k)) (le-refl 0)
+carries-few seen p k zero = subst (λ (x : ℕ). x ≤ 0) (sym (count-never k)) (le-refl 0)
 carries-few seen p k (suc n) =
     let before = carries-few seen p k n in
     let step = count-step (λ (i : ℕ). carries seen n (p + i)) (λ (i : ℕ). carries seen (suc n) (p + i)) (seen .inst n - p)
@@ -206,10 +202,10 @@ rows-few seen n first last p k =
 
 -- ---- the table
 -- the row at its end
-at-end : (rows : List SplitUse) (u : SplitUse) → getD (instsOf (rows ++ (u ∷ []))) (length (rows ++ (u ∷ [])) - 1) 0 ≡ u .inst .0
-at-end rows u = ap (λ (n : ℕ). getD (instsOf (rows ++ (u ∷ []))) n 0) (let m = one-more rows u in omega (arith, m)) ∙ go rows
+at-end : (rows : List SplitUse) (u d : SplitUse) → getD (rows ++ (u ∷ [])) (length (rows ++ (u ∷ [])) - 1) d ≡ u
+at-end rows u d = ap (λ (n : ℕ). getD (rows ++ (u ∷ [])) n d) (let m = one-more rows u in omega (arith, m)) ∙ go rows
   where
-    go : (r : List SplitUse) → getD (instsOf (r ++ (u ∷ []))) (length r) 0 ≡ u .inst .0
+    go : (r : List SplitUse) → getD (r ++ (u ∷ [])) (length r) d ≡ u
     go [] = refl
     go (v ∷ r) = go r
 
@@ -245,10 +241,19 @@ module _ (seen : Seen) (n first last : ℕ) (h : first ≤ last) where
       ∙ ap (λ (p : ℕ). rowsFrom seen n first last first (last - first) ++ cond (hasRow seen n first last p) (splitUse seen n p ∷ []) []) (omega (arith, h))
       ∙ ap (λ (r : List SplitUse). rowsFrom seen n first last first (last - first) ++ r) (cond-true _ _ (last-has seen n first last))
 
+  -- these two rows
+  pub table-first-row : getD (useTable seen n first last) 0 (noWeights 0) ≡ splitUse seen n first
+  table-first-row = ap (λ (r : List SplitUse). getD r 0 (noWeights 0)) table-head
+
+  pub table-last-row : getD (useTable seen n first last) (length (useTable seen n first last) - 1) (noWeights 0) ≡ splitUse seen n last
+  table-last-row =
+      ap (λ (r : List SplitUse). getD r (length r - 1) (noWeights 0)) table-tail
+      ∙ at-end (rowsFrom seen n first last first (last - first)) (splitUse seen n last) (noWeights 0)
+
   table-last : getD (instsOf table) (length table - 1) 0 ≡ last
   table-last =
-      ap (λ (r : List SplitUse). getD (instsOf r) (length r - 1) 0) table-tail ∙ at-end (rowsFrom seen n first last first (last - first)) (splitUse seen n last)
-      ∙ row-inst seen n last
+      List·getD-map (λ (u : SplitUse). u .inst .0) table (length table - 1) (noWeights 0)
+      ∙ ap (λ (u : SplitUse). u .inst .0) table-last-row ∙ row-inst seen n last
 
 -- ---- its weights are weights if those of the uses are
 record Weighed (u : SplitUse) : Type 0 where
