@@ -1,4 +1,4 @@
--- Gaps that the definition gives, by computation: document 01's case A, and answers of the Rust with cuts on both sides
+-- Gaps that the definition gives, by computation: document 01's case A, answers of the Rust with cuts on both sides, and weights whose order decides
 use mathlib.Core.Path.{_≡_, refl}
 use Prim.Native.Nat.{ℕ}
 use mathlib.Core.List.{List, [], _∷_, map}
@@ -61,3 +61,10 @@ two-two : tableOf (record { frequency = 2122317824; first = 0; end = 1 } ∷ rec
     ∷ (12 ∷ 15 ∷ 0 ∷ 1065353216 ∷ []) ∷ []
 unfolding tableOf shown row
 two-two = refl
+
+-- on each side the near weight 1.5 × 2^-24, then 1.0, then 2^-24, added in this order, give 1 + 2^-22; every other order gives 1 + 2^-23
+far-weights-order : tableOf (record { frequency = 1065353216; first = 0; end = 8 } ∷ [])
+    (row 0 864026624 0 1065353216 ∷ row 3 1065353216 868220928 868220928 ∷ row 6 864026624 1065353216 0 ∷ []) 1
+    ≡ (0 ∷ 3 ∷ 1065353218 ∷ 1065353216 ∷ []) ∷ (3 ∷ 4 ∷ 1065353216 ∷ 1065353216 ∷ []) ∷ (4 ∷ 7 ∷ 1065353218 ∷ 1065353216 ∷ []) ∷ []
+unfolding tableOf shown row
+far-weights-order = refl
