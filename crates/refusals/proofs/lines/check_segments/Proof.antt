@@ -80,7 +80,8 @@ first-bad-use-requires : tie.Need-first-bad-use-requires
 first-bad-use-requires c κs =
     let at-if1 = c .before .before .before in
     let at-segment-count = at-if1 .before .before in
-    lists (at-segment-count .before .before .before .before .before .before .before .before .before .before) _ _ (at-segment-count .segment-count .ensures) (at-if1 .before .first-bad-segment .ensures) (at-if1 .if1 .left)
+    let start = at-segment-count .before .before .before .before .before .before .before .before .before .before in
+    lists start _ _ (at-segment-count .segment-count .ensures) (at-if1 .before .first-bad-segment .ensures) (at-if1 .if1 .left)
 
 verdict-requires-3 : tie.Need-verdict-requires-3
 verdict-requires-3 c κs =
@@ -120,10 +121,9 @@ returns-4 c =
     let bad5 = at-if1 .before .first-bad-segment .ensures in
     let bad6 = at-if2 .before .first-bad-def .ensures in
     let bad7 = at-if3 .before .first-bad-use .ensures in
-    let bad8 =
-        c .before .first-bad-end .ensures
-        ∙ ends-by-last (start .args .limits) (uses start) (segments start) (lists start _ _ counted bad5 (at-if1 .if1 .left))
-        (verdict-passed (seven start) _ _ (at-use-count .use-count .ensures) bad7 (at-if3 .if3 .left)) in
+    let listed = lists start _ _ counted bad5 (at-if1 .if1 .left) in
+    let passed = verdict-passed (seven start) _ _ (at-use-count .use-count .ensures) bad7 (at-if3 .if3 .left) in
+    let bad8 = c .before .first-bad-end .ensures ∙ ends-by-last (start .args .limits) (uses start) (segments start) listed passed in
     verdict-last (eight start) _ _ counted bad8 _ (c .verdict4 .ensures)
     ∙ sym
     (verdict-on (five start) _ _ counted bad5 _ (at-if1 .if1 .left)
