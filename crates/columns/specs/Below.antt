@@ -1,5 +1,5 @@
 -- Over the numbers below n: counts, sums, what passes a test, lists joined
-use Prim.Native.Nat.{ℕ, zero, suc, _+_}
+use Prim.Native.Nat.{ℕ, zero, suc, _+_, _<_}
 use mathlib.Core.Bool.{Bool, false, _||_, cond}
 use mathlib.Core.List.{List, [], _∷_, _++_}
 
@@ -17,6 +17,12 @@ sumBelow f (suc n) = sumBelow f n + f n
 unfoldable pub anyBelow : (ℕ → Bool) → ℕ → Bool
 anyBelow test zero = false
 anyBelow test (suc n) = anyBelow test n || test n
+
+-- one of the numbers below n is such
+pub record Some (n : ℕ) (P : ℕ → Type 0) : Type 0 where
+  pub at : ℕ
+  pub inside : at < n
+  pub is : P at
 
 -- what stands at the numbers below n that pass a test, in order
 unfoldable pub picked : {A : Type 0} → (ℕ → Bool) → (ℕ → A) → ℕ → List A

@@ -17,7 +17,8 @@ use Rattle.uses.specs.CheckedUses.{CheckedUses}
 use Rattle.uses.proofs.CheckedJob.{job-bounded}
 use Rattle.overlaps.specs.Live.{liveInsts, liveInGap, Segments, Gaps}
 use Rattle.overlaps.specs.GapSegments.{Valued}
-use Rattle.overlaps.proofs.LiveLaws.{sum-at-most, last-next, lastOf, live-before, live-inside}
+use Rattle.overlaps.proofs.LiveLaws.{last-next, lastOf, live-before, live-inside}
+use Rattle.overlaps.proofs.LiveTotal.{sum-same}
 use Rattle.overlaps.proofs.GapCount.{gap-segments-few}
 use Rattle.gaps.specs.Gaps.{Gap}
 use Rattle.gaps.proofs.JobGaps.{job-gaps-few, job-gaps-tile, job-live-total}
@@ -29,7 +30,7 @@ module _ (source : Source) (checked : CheckedUses source) (sound : SoundBlocks (
   start-at : (i : ℕ) → getD (source .segments) i noSegment .start ≡ getD (startsOf source) i 0
   start-at i = sym (List·getD-map (λ (s : Segment). s .start) (source .segments) i noSegment)
 
-  end-at : (i : ℕ) → getD (source .segments) i noSegment .end ≡ getD (stopsOf source) i 0
+  pub end-at : (i : ℕ) → getD (source .segments) i noSegment .end ≡ getD (stopsOf source) i 0
   end-at i = sym (List·getD-map (λ (s : Segment). s .end) (source .segments) i noSegment)
 
   end-before : (i : ℕ) → rowBefore (source .segments) noSegment i .end ≡ rowBefore (stopsOf source) 0 i
@@ -89,17 +90,19 @@ module _ (source : Source) (checked : CheckedUses source) (sound : SoundBlocks (
     froms-long : length froms ≡ length (gapsFrom source best)
     froms-long = length-map (gapsFrom source best) (λ (g : Gap). g .from)
 
-    -- their live instructions lie inside the blocks, all together
+    -- their live instructions sum to those of the segments alone, and so lie inside the blocks
     live-at : (g : ℕ) → g < length froms → getD (livesFrom source best) g 0 ≡ liveInGap (startsOf source) (stopsOf source) (getD froms g 0) (getD tos g 0)
     live-at g l = table-at (λ (g : ℕ). liveInGap (startsOf source) (stopsOf source) (getD froms g 0) (getD tos g 0)) (length froms) g 0 l
 
+    pub source-lives-total : sumBelow (λ (g : ℕ). getD (livesFrom source best) g 0) (length (fromsOf (gapsFrom source best)))
+        ≡ liveInsts (startsOf source) (stopsOf source)
+    source-lives-total =
+        sum-same (λ (g : ℕ). getD (livesFrom source best) g 0) (λ (g : ℕ). liveInGap (startsOf source) (stopsOf source) (getD froms g 0) (getD tos g 0))
+        (length froms) live-at
+        ∙ job-live-total source checked sound best h (startsOf source) (stopsOf source) starts-long (λ i _. start-at i) (λ i _. end-at i)
+
     pub source-lives-few : sumBelow (λ (g : ℕ). getD (livesFrom source best) g 0) (length (fromsOf (gapsFrom source best))) ≤ endLimit
-    source-lives-few =
-        le-trans
-        (sum-at-most (λ (g : ℕ). getD (livesFrom source best) g 0) (λ (g : ℕ). liveInGap (startsOf source) (stopsOf source) (getD froms g 0) (getD tos g 0))
-        (length froms) (λ g l. le-of-eq (live-at g l)))
-        (le-trans (le-of-eq (job-live-total source checked sound best h (startsOf source) (stopsOf source) starts-long (λ i _. start-at i) (λ i _. end-at i)))
-        live-few)
+    source-lives-few = le-trans (le-of-eq source-lives-total) live-few
 
     -- ---- room for its gap segments
     pub source-segments-few : length (segmentsFrom source best) ≤ length (source .uses) + length (source .blocks) + length (source .segments) + 2

@@ -24,10 +24,10 @@ use Rattle.uses.proofs.CheckedJob.{first-covers, last-covers}
 use Rattle.uses.proofs.EdgeWeights.{first-no-left, last-no-right}
 use Rattle.overlaps.proofs.LiveTotal.{live-total}
 use Rattle.gaps.specs.Gaps.{Gap, useOf, gapsOf, usesIn, Cuttable}
-use Rattle.gaps.specs.Laws.{placed, counted}
+use Rattle.gaps.specs.Laws.{Run, Each, Least, placed, counted}
 use Rattle.gaps.proofs.Placed.{all-weights-once}
 use Rattle.gaps.proofs.Runs.{fromsOf, tosOf, run-first, run-last}
-use Rattle.gaps.proofs.GapTable.{Rising, gaps-run, gaps-few, gaps-some, gaps-tile}
+use Rattle.gaps.proofs.GapTable.{Rising, gaps-run, gaps-least, gaps-few, gaps-some, gaps-tile}
 
 -- ---- the columns of a use table
 -- its rows in columns
@@ -97,18 +97,24 @@ module _ (job : Source) (checked : CheckedUses job) (sound : SoundBlocks (job .b
     job-gaps-tile = gaps-tile (job .blocks) uses job-rising best h
 
     -- from the first instruction to the last
+    pub job-gaps-run : Run (firstInst (job .segments)) (lastInst (job .uses) (job .segments) + 1) (gapsOf (job .blocks) (useTableOf job) best)
+    job-gaps-run =
+        subst (λ (x : ℕ). Run (firstInst (job .segments)) (x + 1) gaps) (sym (inst-of uses (length uses - 1)) ∙ use-table-last job checked)
+        (subst (λ (x : ℕ). Run x (useOf uses (length uses - 1) .inst .0 + 1) gaps) (sym (inst-of uses 0) ∙ use-table-first job checked)
+        (gaps-run (job .blocks) uses job-rising best h))
+
     pub job-gaps-first : getD (fromsOf (gapsOf (job .blocks) (useTableOf job) best)) 0 0 ≡ firstInst (job .segments)
     job-gaps-first =
-        run-first (useOf uses 0 .inst .0) (useOf uses (length uses - 1) .inst .0 + 1) gaps (gaps-some (job .blocks) uses job-rising best h)
-        (gaps-run (job .blocks) uses job-rising best h)
-        ∙ sym (inst-of uses 0) ∙ use-table-first job checked
+        run-first (firstInst (job .segments)) (lastInst (job .uses) (job .segments) + 1) gaps (gaps-some (job .blocks) uses job-rising best h) job-gaps-run
 
     pub job-gaps-last : getD (tosOf (gapsOf (job .blocks) (useTableOf job) best)) (length (gapsOf (job .blocks) (useTableOf job) best) - 1) 0
         ≡ lastInst (job .uses) (job .segments) + 1
     job-gaps-last =
-        run-last (useOf uses 0 .inst .0) (useOf uses (length uses - 1) .inst .0 + 1) gaps (gaps-some (job .blocks) uses job-rising best h)
-        (gaps-run (job .blocks) uses job-rising best h)
-        ∙ ap (λ (x : ℕ). x + 1) (sym (inst-of uses (length uses - 1)) ∙ use-table-last job checked)
+        run-last (firstInst (job .segments)) (lastInst (job .uses) (job .segments) + 1) gaps (gaps-some (job .blocks) uses job-rising best h) job-gaps-run
+
+    -- each has the least frequency among the blocks it meets
+    pub job-gaps-least : Each (Least (job .blocks)) (gapsOf (job .blocks) (useTableOf job) best)
+    job-gaps-least = gaps-least (job .blocks) uses job-rising best h
 
     -- each counted weight stands in exactly one of them: whatever measures weights, with nothing for zero, measures as much in the gaps as in
     -- all rows of the use table

@@ -6,3 +6,5 @@ pub mod GapCount
 pub mod LiveCases
 pub mod LiveTotal
 pub mod LiveCovered
+pub mod SegmentOrder
+pub mod AllOverlaps

@@ -12,7 +12,7 @@ use Rattle.overlaps.specs.Live.{liveFrom, liveTo, liveOf, liveInsts, ove
 use Rattle.overlaps.proofs.LiveLaws.{sum-none, gap-order, none-before, none-past}
 use Rattle.columns.proofs.Firsts.{split}
 
-sum-same : (f h : ℕ → ℕ) (n : ℕ) → ((k : ℕ) → k < n → f k ≡ h k) → sumBelow f n ≡ sumBelow h n
+pub sum-same : (f h : ℕ → ℕ) (n : ℕ) → ((k : ℕ) → k < n → f k ≡ h k) → sumBelow f n ≡ sumBelow h n
 unfolding sumBelow
 sum-same f h zero e = refl
 sum-same f h (suc n) e = ap₂ (λ (a b : ℕ). a + b) (sum-same f h n (λ k l. e k (omega (arith, l)))) (e n (le-refl (suc n)))

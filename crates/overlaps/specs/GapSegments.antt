@@ -1,11 +1,12 @@
 -- Gap segments: all nonempty overlaps of gap and segment, in order
 use mathlib.Core.Path.{_≡_}
 use Prim.Native.Nat.{ℕ, _+_, _*_, _≤_, _<_, min, max}
+use mathlib.Core.Logic.{_↔_}
 use mathlib.Core.Bool.{cond}
 use mathlib.Core.List.{List, [], _∷_, map}
 use lib.Dec.{ltb}
 use lib.ListN.{length, getD, set}
-use Rattle.columns.specs.Below.{joined}
+use Rattle.columns.specs.Below.{Some, joined}
 use Rattle.columns.specs.Table.{filled, storedIn}
 use Rattle.overlaps.specs.Live.{Segments}
 
@@ -32,6 +33,31 @@ overlapsOf froms tos start end value = joined (overlapWith froms tos start end v
 abbrev pub gapSegments : List ℕ → List ℕ → List ℕ → List ℕ → List ℕ → List Overlap
 gapSegments froms tos starts ends values =
     joined (λ (i : ℕ). overlapsOf froms tos (getD starts i 0) (getD ends i 0) (getD values i 0)) 0 (length starts)
+
+-- no gap segment: what stands past the rows
+abbrev pub noOverlap : Overlap
+noOverlap = record { from = 0; to = 0; value = 0; gap = 0 }
+
+-- the overlap of segment i and gap g: the points of both
+abbrev pub overlapOf : List ℕ → List ℕ → List ℕ → List ℕ → List ℕ → ℕ → ℕ → Overlap
+overlapOf froms tos starts ends values i g =
+    record { from = max (getD starts i 0) (4 * getD froms g 0); to = min (getD ends i 0) (4 * getD tos g 0); value = getD values i 0; gap = g }
+
+-- a row is the overlap of a segment and a gap, and has points
+pub record IsOverlap (froms tos starts ends values : List ℕ) (r : Overlap) : Type 0 where
+  pub segment : ℕ
+  pub gap : ℕ
+  pub segment-known : segment < length starts
+  pub gap-known : gap < length froms
+  pub is : r ≡ overlapOf froms tos starts ends values segment gap
+  pub some : r .from < r .to
+
+-- rows are all nonempty overlaps of gap and segment, in order
+pub record AllOverlaps (froms tos starts ends values : List ℕ) (rows : List Overlap) : Type 0 where
+  -- what is a row is such an overlap, and each such overlap is a row
+  pub exactly : (r : Overlap) → Some (length rows) (λ (k : ℕ). getD rows k noOverlap ≡ r) ↔ IsOverlap froms tos starts ends values r
+  -- each ends by the start of every later one, so none stands twice
+  pub ordered : (i k : ℕ) → i < k → k < length rows → getD rows i noOverlap .to ≤ getD rows k noOverlap .from
 
 -- segments as in the count of live instructions, and each has a value
 pub record Valued (starts ends values : List ℕ) : Type 0 where

@@ -42,7 +42,7 @@ use Rattle.refusals.specs.Job.{Job, sourceOfJob}
 use Rattle.refusals.proofs.Accepted.{Accepted}
 use Rattle.tables.specs.JobTables.{usesOfJob, gapsOfJob, segmentsOfJob}
 use Rattle.views.specs.View.{seenOfJob}
-use Rattle.views.proofs.SegmentOrder.{InGap, fromColumn, toColumn}
+use Rattle.overlaps.proofs.SegmentOrder.{InGap, fromColumn, toColumn}
 use Rattle.proposer.specs.Demand.{mainsOf, InRegion, FromLeft, ToRight, LiesWhole}
 use Rattle.views.specs.Met.{gapOfSegment, reservationOf, FixedMet, WeightMet}
 use Rattle.proposer.specs.Evictions.{MeetsCarrying, Entry, weightIn, EvictionsAfter, Evictions, Stands, JobEvictionsEnd}

@@ -48,7 +48,8 @@ use Rattle.filling.proofs.SourceTables.{source-segments, source-tiles, source-g
 use Rattle.tables.specs.JobTables.{usesOfJob, gapsOfJob, livesOfJob, segmentsOfJob}
 use Rattle.views.specs.View.{inColumns, seenOfJob}
 use Rattle.views.specs.Met.{segmentOfJob, gapOfSegment, reservationOf, Weighs, CountsAsFixed, FixedMet, WeightMet, OfGap}
-use Rattle.views.proofs.SegmentOrder.{InGap, gap-segments-order, fromColumn, toColumn, row-in-gap, segments-ordered}
+use Rattle.overlaps.proofs.SegmentOrder.{InGap, gap-segments-order, fromColumn, toColumn, row-in-gap}
+use Rattle.views.proofs.SegmentOrder.{segments-ordered}
 
 -- ---- sums and columns
 -- a sum over the numbers below n, either way

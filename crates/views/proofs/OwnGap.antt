@@ -19,7 +19,7 @@ use Rattle.refusals.proofs.Accepted.{Accepted}
 use Rattle.tables.specs.JobTables.{usesOfJob, gapsOfJob, ownOfJob, segmentsOfJob}
 use Rattle.views.specs.View.{seenOfJob}
 use Rattle.views.specs.Met.{gapOfSegment, bestRow, AtBest}
-use Rattle.views.proofs.SegmentOrder.{InGap, fromColumn, toColumn}
+use Rattle.overlaps.proofs.SegmentOrder.{InGap, fromColumn, toColumn}
 use Rattle.views.proofs.JobView.{job-tiles, job-sound, segment-in-gap}
 
 module _ (job : Job) (best : ℕ) where
