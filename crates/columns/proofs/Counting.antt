@@ -1,9 +1,9 @@
 -- How many numbers pass a test: a loop that counts them, and what a count says; and whether some number passes
-use mathlib.Core.Path.{_≡_, refl, sym, ap, _∙_}
+use mathlib.Core.Path.{_≡_, refl, sym, ap, ap₂, _∙_}
 use mathlib.Core.Logic.{_⊎_, inl, inr, ⊎-elim}
 use mathlib.Core.Bool.{Bool, true, false, cond}
 use Prim.Native.Nat.{ℕ, zero, suc, _+_, _-_, _≤_, _<_, zero-le, min}
-use native.Mathlib.Nat.{le-trans, le-of-eq, le-antisymm, le-of-suc-le-suc, eq-or-lt-of-le, not-suc-le-zero}
+use native.Mathlib.Nat.{le-refl, le-trans, le-of-eq, le-antisymm, le-of-suc-le-suc, eq-or-lt-of-le, not-suc-le-zero}
 use native.Mathlib.Numerals.{add-one}
 use native.Mathlib.Omega.{arith}
 use lib.Dec.{T}
@@ -93,6 +93,13 @@ pub count-never : (n : ℕ) → countBelow (λ (i : ℕ). false) n ≡ 0
 unfolding countBelow
 count-never zero = refl
 count-never (suc n) = ap (λ (k : ℕ). k + 0) (count-never n)
+
+-- tests that agree
+pub count-alike : (t u : ℕ → Bool) (n : ℕ) → ((k : ℕ) → k < n → t k ≡ u k) → countBelow t n ≡ countBelow u n
+unfolding countBelow
+count-alike t u zero h = refl
+count-alike t u (suc n) h =
+    ap₂ (λ (a : ℕ) (b : Bool). a + cond b 1 0) (count-alike t u n (λ k l. h k (omega (arith, l)))) (h n (le-refl (suc n)))
 
 -- a test that passes all from a to before e, where another passes none, and is the other one elsewhere, counts so many more
 pub count-span : (t u : ℕ → Bool) (a e : ℕ) → ((i : ℕ) → i < a → u i ≡ t i) → ((i : ℕ) → e ≤ i → u i ≡ t i)

@@ -13,14 +13,14 @@ use Rattle.use_rows.specs.Uses.{Source, useTableOf}
 use Rattle.uses.specs.CheckedUses.{CheckedUses}
 use Rattle.uses.proofs.CheckedJob.{job-bounded}
 use Rattle.overlaps.specs.Live.{liveInGap}
-use Rattle.overlaps.proofs.LiveCovered.{live-covered}
+use Rattle.overlaps.proofs.LiveCovered.{gap-covered, live-covered}
 use Rattle.overlaps.proofs.AllOverlaps.{all-overlaps}
 use Rattle.gaps.specs.Gaps.{Gap, useOf, ownGap, gapsOn, gapsOf}
 use Rattle.gaps.proofs.JobGaps.{job-gaps-run, job-gaps-least, job-weights-once}
 use Rattle.filling.specs.GapTables.{fromsOf, tosOf}
 use Rattle.filling.specs.SourceTables.{startsOf, stopsOf, valuesOf, gapsFrom, livesFrom}
 use Rattle.filling.specs.GapLaws.{GapLaws}
-use Rattle.filling.proofs.SourceTables.{source-segments, source-tiles, source-lives-total, end-at}
+use Rattle.filling.proofs.SourceTables.{source-segments, source-tiles, live-at, source-lives-total, end-at}
 
 -- the item behind a list
 behind : (f : Gap → ℕ) (gs : List Gap) (g : Gap) (hs : List Gap) → getD (map f (gs ++ (g ∷ hs))) (length gs) 0 ≡ f g
@@ -45,6 +45,10 @@ gap-laws source checked sound best h =
       own-to = own-at source best (λ (g : Gap). g .to);
       least = job-gaps-least source checked sound best h;
       weights = job-weights-once source checked sound best h;
+      live = λ g l.
+          let e = length-map (gapsFrom source best) (λ (g : Gap). g .from) in
+          live-at source checked sound best h g (omega (arith, l, e))
+          ∙ gap-covered (startsOf source) (stopsOf source) (source-segments source checked sound) (getD froms g 0) (getD tos g 0);
       lives =
           ap (sumBelow (λ (g : ℕ). getD (livesFrom source best) g 0))
           (table-length (λ (g : ℕ). liveInGap (startsOf source) (stopsOf source) (getD froms g 0) (getD tos g 0)) (length froms))

@@ -91,7 +91,8 @@ module _ (source : Source) (checked : CheckedUses source) (sound : SoundBlocks (
     froms-long = length-map (gapsFrom source best) (λ (g : Gap). g .from)
 
     -- their live instructions sum to those of the segments alone, and so lie inside the blocks
-    live-at : (g : ℕ) → g < length froms → getD (livesFrom source best) g 0 ≡ liveInGap (startsOf source) (stopsOf source) (getD froms g 0) (getD tos g 0)
+    pub live-at : (g : ℕ) → g < length (fromsOf (gapsFrom source best)) → getD (livesFrom source best) g 0
+        ≡ liveInGap (startsOf source) (stopsOf source) (getD (fromsOf (gapsFrom source best)) g 0) (getD (tosOf (gapsFrom source best)) g 0)
     live-at g l = table-at (λ (g : ℕ). liveInGap (startsOf source) (stopsOf source) (getD froms g 0) (getD tos g 0)) (length froms) g 0 l
 
     pub source-lives-total : sumBelow (λ (g : ℕ). getD (livesFrom source best) g 0) (length (fromsOf (gapsFrom source best)))

@@ -1,13 +1,13 @@
 -- What document 01 says of the gaps of a job around its best use, of their live instructions and of their gap segments
 use mathlib.Core.Path.{_≡_}
-use Prim.Native.Nat.{ℕ, _+_}
+use Prim.Native.Nat.{ℕ, _+_, _<_}
 use lib.Ieee.{Float}
 use lib.ListN.{length, getD}
 use Rattle.numbers.specs.Weight.{zeroWeight}
 use Rattle.columns.specs.Below.{countBelow, sumBelow}
 use Rattle.links.specs.Blocks.{startOf}
 use Rattle.use_rows.specs.Uses.{Source, firstInst, lastInst, useTableOf}
-use Rattle.overlaps.specs.Live.{liveInsts, covered}
+use Rattle.overlaps.specs.Live.{liveInsts, covered, coveredIn}
 use Rattle.overlaps.specs.GapSegments.{AllOverlaps}
 use Rattle.gaps.specs.Gaps.{useOf, initialGap}
 use Rattle.gaps.specs.Laws.{Run, Each, Least, placed, counted}
@@ -27,6 +27,9 @@ pub record GapLaws (source : Source) (best : ℕ) : Type 0 where
   -- gaps as in all rows of the use table
   pub weights : (f : Float → ℕ) → f zeroWeight ≡ 0
       → placed f (gapsFrom source best) ≡ sumBelow (λ (k : ℕ). counted f (useOf (useTableOf source) k)) (length (useTableOf source))
+  -- a gap's live instructions are those of its instructions that some segment covers
+  pub live : (g : ℕ) → g < length (gapsFrom source best) → getD (livesFrom source best) g 0
+      ≡ coveredIn (startsOf source) (stopsOf source) (getD (fromsOf (gapsFrom source best)) g 0) (getD (tosOf (gapsFrom source best)) g 0)
   -- live instructions over all gaps sum to those of the segments alone
   pub lives : sumBelow (λ (g : ℕ). getD (livesFrom source best) g 0) (length (livesFrom source best)) ≡ liveInsts (startsOf source) (stopsOf source)
   -- which are the instructions that some segment covers

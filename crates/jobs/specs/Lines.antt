@@ -61,8 +61,8 @@ hasUseAt uses s p = anyBelow (λ (k : ℕ). eqb (getD uses (s .«first_use» + k
 abbrev pub badLastEnd : List Use → Segment → Bool
 badLastEnd uses s = leb (s .«end_use») (s .«first_use») || ltb (getD uses (s .«end_use» - 1) noUse .position + 1) (roundUp (s .end))
 
--- line 8, of a segment: live-out, and its end isn't a Boundary or it has a use at its end's instruction; or the last one, not live-out, and
--- its end is bad
+-- line 8, of a segment: live-out, and its end isn't a Boundary or it has a use at its end's instruction; or the last one, not live-out, and as
+-- just said
 unfoldable pub badEnd : List Use → Bool → Segment → Bool
 badEnd uses isLast s =
     cond (liveOut (s .flags)) (not (eqb (s .end % 4) 0) || hasUseAt uses s (s .end / 4)) (isLast && badLastEnd uses s)

@@ -1,22 +1,23 @@
--- The live instructions of segments alone are the instructions that some segment covers, each counted once
-use mathlib.Core.Path.{_≡_, sym, ap}
+-- Live instructions, of a gap and of the segments alone, are the instructions that some segment covers, each counted once
+use mathlib.Core.Path.{_≡_, refl, sym, ap, _∙_}
 use mathlib.Core.Logic.{inl, ⊎-elim}
-use mathlib.Core.Bool.{Bool, true, false, _||_}
+use mathlib.Core.Bool.{Bool, true, false, _&&_, _||_}
 use mathlib.Core.List.{List}
-use Prim.Native.Nat.{ℕ, zero, suc, _+_, _-_, _*_, _≤_, _<_, min}
+use Prim.Native.Nat.{ℕ, zero, suc, _+_, _-_, _*_, _/_, _≤_, _<_, zero-le, min, max}
 use native.Mathlib.Nat.{le-refl, le-of-eq, not-suc-le-zero}
 use native.Mathlib.Omega.{arith}
-use lib.Dec.{T, ltb, ltb→lt, not-T}
+use lib.Dec.{T, leb, ltb, ltb→lt, not-T}
 use lib.Ieee.Bits.{is-true, is-false}
 use lib.ListN.{length, getD}
-use borrow.Author.Tests.{lt-ltb}
+use borrow.Author.Tests.{lt-ltb, le-leb, lt-leb}
 use Rattle.numbers.specs.Point.{roundUp}
 use Rattle.columns.specs.Table.{rowBefore}
 use Rattle.columns.specs.Below.{countBelow, sumBelow, anyBelow}
 use Rattle.columns.proofs.Firsts.{split}
 use Rattle.columns.proofs.Tests.{test-same, or-T, and-T}
-use Rattle.columns.proofs.Counting.{count-never, count-span, any-elim, any-hit}
-use Rattle.overlaps.specs.Live.{liveFrom, liveTo, liveOf, liveInsts, covers, covered, Segments}
+use Rattle.columns.proofs.Counting.{count-never, count-alike, count-span, any-elim, any-hit}
+use Rattle.overlaps.specs.Live.{liveFrom, liveTo, liveOf, liveInsts, liveAdded, liveInGap, covers, covered, coveredIn, Segments}
+use Rattle.overlaps.proofs.LiveTotal.{sum-same}
 
 module _ (starts ends : List ℕ) (given : Segments starts ends) where
   abbrev start : ℕ → ℕ
@@ -75,18 +76,51 @@ module _ (starts ends : List ℕ) (given : Segments starts ends) where
       is-true (coveredBy (suc m) i) (any-hit (covers starts ends i) (suc m) m (le-refl (suc m)) (covers-in i m (omega (arith, l)) (omega (arith, u)))),
     )
 
-  covered-first : (n : ℕ) → ((i : ℕ) → i < length starts → end i ≤ 4 * n) → (m : ℕ) → m ≤ length starts
-      → sumBelow (liveOf starts ends) m ≡ countBelow (coveredBy m) n
-  unfolding sumBelow anyBelow
-  covered-first n inside zero h = sym (count-never n)
-  covered-first n inside (suc m) h =
-      let before = covered-first n inside m (omega (arith, h)) in
-      let step = count-span (coveredBy m) (coveredBy (suc m)) (liveFrom starts ends m) (liveTo ends m) (low m h) (high m h) (within m h) n in
-      let e = inside m h in
-      let whole : min (liveTo ends m) n ≡ liveTo ends m = omega (arith, e) in
-      let w = ap (λ (x : ℕ). x - liveFrom starts ends m) whole in
-      omega (arith, before, step, w)
+  -- of a gap: its instructions that some segment covers
+  module _ (from : ℕ) where
+    abbrev coveredFrom : ℕ → ℕ → Bool
+    coveredFrom m i = coveredBy m i && leb from i
 
-  -- counted below any number of instructions that the segments do not pass
+    gap-step : (m : ℕ) → m < length starts → (n : ℕ)
+        → countBelow (coveredFrom (suc m)) n ≡ countBelow (coveredFrom m) n + (min (liveTo ends m) n - max (liveFrom starts ends m) from)
+    gap-step m h =
+        count-span (coveredFrom m) (coveredFrom (suc m)) (max (liveFrom starts ends m) from) (liveTo ends m)
+        (λ i l. ⊎-elim (λ p. outside i p) (λ p. same i (low m h i (omega (arith, l, p)))) (split i from)) (λ i l. same i (high m h i l))
+        (λ i l u. let w = within m h i (omega (arith, l)) u in
+        let b = le-leb from i (omega (arith, l)) in
+        (ap (λ (x : Bool). x && leb from i) (w .0), ap (λ (x : Bool). x && leb from i) (w .1) ∙ b))
+      where
+        same : (i : ℕ) → coveredBy (suc m) i ≡ coveredBy m i → coveredFrom (suc m) i ≡ coveredFrom m i
+        same i e = ap (λ (x : Bool). x && leb from i) e
+
+        none : (b c : Bool) → (b && false) ≡ (c && false)
+        none true true = refl
+        none true false = refl
+        none false true = refl
+        none false false = refl
+
+        outside : (i : ℕ) → i < from → coveredFrom (suc m) i ≡ coveredFrom m i
+        outside i l = rw (lt-leb from i l) (none (coveredBy (suc m) i) (coveredBy m i))
+
+    gap-first : (n m : ℕ) → m ≤ length starts → sumBelow (liveAdded starts ends from n) m ≡ countBelow (coveredFrom m) n
+    unfolding sumBelow anyBelow
+    gap-first n zero h = sym (count-never n)
+    gap-first n (suc m) h = let before = gap-first n m (omega (arith, h)) in let step = gap-step m h n in omega (arith, before, step)
+
+    pub gap-covered : (to : ℕ) → liveInGap starts ends from to ≡ coveredIn starts ends from to
+    gap-covered to = gap-first to (length starts) (le-refl (length starts))
+
+  -- of all: counted below any number of instructions that the segments do not pass
   pub live-covered : (n : ℕ) → ((i : ℕ) → i < length starts → getD ends i 0 ≤ 4 * n) → liveInsts starts ends ≡ countBelow (covered starts ends) n
-  live-covered n inside = covered-first n inside (length starts) (le-refl (length starts))
+  live-covered n inside =
+      sum-same (liveOf starts ends) (liveAdded starts ends 0 n) (length starts)
+      (λ i h. let e = inside i h in whole (liveFrom starts ends i) (getD ends i 0) e)
+      ∙ gap-covered 0 n
+      ∙ count-alike (λ (i : ℕ). covered starts ends i && leb 0 i) (covered starts ends) n (λ i _. rw (le-leb 0 i zero-le) (and-true (covered starts ends i)))
+    where
+      whole : (a e : ℕ) → e ≤ 4 * n → (e + 3) / 4 - a ≡ min ((e + 3) / 4) n - max a 0
+      whole a e l = omega (arith, l)
+
+      and-true : (b : Bool) → (b && true) ≡ b
+      and-true true = refl
+      and-true false = refl

@@ -3,9 +3,9 @@ use mathlib.Core.Path.{_≡_}
 use Prim.Native.Nat.{ℕ, _+_, _-_, _*_, _≤_, _<_, min, max}
 use mathlib.Core.Bool.{Bool, _&&_}
 use mathlib.Core.List.{List}
-use lib.Dec.{ltb}
+use lib.Dec.{leb, ltb}
 use lib.ListN.{length, getD}
-use Rattle.columns.specs.Below.{sumBelow, anyBelow}
+use Rattle.columns.specs.Below.{countBelow, sumBelow, anyBelow}
 use Rattle.numbers.specs.Point.{instOf, roundUp}
 use Rattle.links.specs.Blocks.{endLimit}
 use Rattle.columns.specs.Table.{table, rowBefore}
@@ -33,6 +33,10 @@ covers starts ends i s = ltb (getD starts s 0) (4 * (i + 1)) && ltb (4 * i) (get
 -- some segment covers it
 abbrev pub covered : List ℕ → List ℕ → ℕ → Bool
 covered starts ends i = anyBelow (covers starts ends i) (length starts)
+
+-- how many of the instructions from one to before another some segment covers
+abbrev pub coveredIn : List ℕ → List ℕ → ℕ → ℕ → ℕ
+coveredIn starts ends from to = countBelow (λ (i : ℕ). covered starts ends i && leb from i) to
 
 -- what line 5 leaves: segments are nonempty, start at or after the end before, and end inside the blocks
 pub record Segments (starts ends : List ℕ) : Type 0 where
