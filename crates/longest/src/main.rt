@@ -1,0 +1,224 @@
+// longest: the longest list of evictions that the weight test leaves room for, run job by job.
+//
+// A member is a proposal that meets a reservation with the weight of the proposal before, and nothing else. The first member has the
+// smallest weight above zero, each next one the least weight that passes the test over the one before. No list is longer: the test is
+// monotone, so by induction each member of any other list weighs at least as much as the one here at the same place, and the last one
+// here is passed by no weight. The law of evictions in `growth` bounds a list above zero by 9,495.
+//
+// Each member's job is case J's: four instructions, a use at the first and at the last one. The best use's own gap is the first
+// instruction, so the use weight is the block's frequency. A fixed def on the third instruction keeps the region to that gap.
+use cells::cells::propose_cells;
+use libc::STDOUT_FILENO;
+use numbers::normal::normalize_spill_weight;
+use numbers::normal::strictly_exceeds;
+use numbers::weights::FREQUENCY_LIMIT;
+use numbers::weights::bits_shown;
+use numbers::weights::weight_of;
+use outcome::grow::Answer;
+use sheet::column_of;
+ghost use Prim.Native.Nat.{_≤_};
+ghost use mathlib.Core.Path.{_≡_};
+ghost use lib.ListN.{length};
+
+// A job, where a sheet's numbers are kept.
+struct Cells {
+    numbers: [u32; 4101],
+}
+
+// The bits of 1.0.
+const ONE: u32 = 1065353216;
+
+// Stores a number in a row of a kind's column. Kinds are counted in the order P B V S U W E F.
+fn with(job: Cells, k: usize, c: usize, row: usize, number: u32) -> Cells {
+    let mut numbers = job.numbers;
+    let at = column_of(k, c);
+    if at < 4101 {
+        if row < 4101 - at {
+            numbers[at + row] = number;
+        }
+    }
+    Cells { numbers }
+}
+
+// Stores the parameters, the block but for its frequency, and the one segment: k and the first instruction are 0.
+fn with_frame(job: Cells) -> Cells {
+    let a = with(job, 0, 1, 0, ONE);
+    let b = with(a, 0, 2, 0, ONE);
+    let c = with(b, 0, 3, 0, ONE);
+    let d = with(c, 0, 4, 0, 1);
+    let e = with(d, 1, 2, 0, 4);
+    let f = with(e, 3, 0, 0, 2);
+    let g = with(f, 3, 1, 0, 14);
+    with(g, 3, 4, 0, 2)
+}
+
+// The two uses, of cost 1.0.
+fn with_uses(job: Cells) -> Cells {
+    let a = with(job, 4, 1, 0, 5);
+    let b = with(a, 4, 2, 0, ONE);
+    let c = with(b, 4, 0, 1, 3);
+    let d = with(c, 4, 1, 1, 4);
+    with(d, 4, 2, 1, ONE)
+}
+
+// Two reservations: the spill weight on the points from a place to two behind it, and a fixed def from 8 to 12.
+fn with_reservations(job: Cells, from: u32) -> Cells
+    requires { ⌜ from ≤ 2 ⌝ }
+{
+    let a = with(job, 6, 1, 0, from);
+    let b = with(a, 6, 2, 0, from + 2);
+    let c = with(b, 6, 5, 0, 4294967295);
+    let d = with(c, 6, 1, 1, 8);
+    let e = with(d, 6, 2, 1, 12);
+    with(e, 6, 3, 1, 1)
+}
+
+// Where the weight met stands: from point 2 to 4 is the own gap's segment; before it nothing is met, as for the first member.
+fn met_from(before: u32) -> u32
+    ensures { λ r. ⌜ r ≤ 2 ⌝ }
+{
+    if before == 0 { 0 } else { 2 }
+}
+
+// The job whose own gap has a weight and meets the one before.
+fn job_of(weight: u32, before: u32) -> Cells {
+    let empty = Cells { numbers: [0; 4101] };
+    let frame = with_frame(empty);
+    let used = with_uses(frame);
+    let reserved = with_reservations(used, met_from(before));
+    let weighed = with(reserved, 1, 0, 0, weight);
+    with(weighed, 5, 0, 0, before)
+}
+
+// What the proposer answers.
+fn answer_of(job: Cells) -> Answer {
+    let cells = job.numbers;
+    let mut prev = [0u32; 1];
+    let mut next = [0u32; 1];
+    let mut inst = [0u32; 4];
+    let mut weight = [0f32; 4];
+    let mut left = [0f32; 4];
+    let mut right = [0f32; 4];
+    let mut from = [0u32; 5];
+    let mut to = [0u32; 5];
+    let mut gap_weight = [0f32; 5];
+    let mut live = [0u32; 5];
+    let mut freq = [0f32; 5];
+    let mut out_from = [0u32; 6];
+    let mut out_to = [0u32; 6];
+    let mut out_value = [0u32; 6];
+    let mut out_gap = [0u32; 6];
+    let proposed = propose_cells(
+        &cells,
+        [1, 1, 1, 1, 2, 1, 2, 0],
+        &mut prev,
+        &mut next,
+        &mut inst,
+        &mut weight,
+        &mut left,
+        &mut right,
+        &mut from,
+        &mut to,
+        &mut gap_weight,
+        &mut live,
+        &mut freq,
+        &mut out_from,
+        &mut out_to,
+        &mut out_value,
+        &mut out_gap,
+    );
+    proposed.answer
+}
+
+// Whether a proposal is answered whose normalised weight is the one given and whose interference weight is the one before.
+fn is_member(answer: Answer, weight: u32, before: u32) -> bool {
+    let Answer::Found(p) = answer else {
+        return false;
+    };
+    if p.live_insts != 1 {
+        return false;
+    }
+    if bits_shown(p.interference_weight) != before {
+        return false;
+    }
+    if bits_shown(p.use_weight) != weight {
+        return false;
+    }
+    bits_shown(normalize_spill_weight(p.use_weight, p.live_insts, 0)) == weight
+}
+
+// The least bits whose weight passes the test over another weight, by halves; one above the highest where none passes.
+fn least_above(before: f32) -> u32
+    ensures { λ r. ⌜ r ≤ 2139095040 ⌝ }
+{
+    let mut low: u32 = 0;
+    let mut high: u32 = FREQUENCY_LIMIT + 1;
+    while low < high {
+        let middle = low + (high - low) / 2;
+        if strictly_exceeds(weight_of(middle), before) {
+            high = middle;
+        } else {
+            low = middle + 1;
+        }
+    }
+    low
+}
+
+// A list of evictions as far as it goes: how many members, the bits of the last one's weight, and whether each was answered so.
+struct Evictions {
+    members: u32,
+    last: u32,
+    agree: bool,
+}
+
+// Runs members, each by the least weight over the one before, until none is left or one is answered otherwise.
+fn run() -> Evictions {
+    let mut members: u32 = 0;
+    let mut last: u32 = 0;
+    while members < 10000 {
+        let weight = least_above(weight_of(last));
+        if weight > FREQUENCY_LIMIT {
+            break;
+        }
+        if !is_member(answer_of(job_of(weight, last)), weight, last) {
+            return Evictions {
+                members,
+                last,
+                agree: false,
+            };
+        }
+        last = weight;
+        members += 1;
+    }
+    Evictions {
+        members,
+        last,
+        agree: true,
+    }
+}
+
+fn print_number(name: &[u8], n: u32) {
+    io::write_all(STDOUT_FILENO, name);
+    io::print_decimal(STDOUT_FILENO, n as u64);
+    io::write_all(STDOUT_FILENO, b"\n");
+}
+
+fn main() {
+    let e = run();
+    io::print_decimal(STDOUT_FILENO, e.members as u64);
+    if e.agree {
+        io::write_all(
+            STDOUT_FILENO,
+            b" proposals, each meets the weight of the one before\n",
+        );
+    } else {
+        io::write_all(STDOUT_FILENO, b" proposals, and then another answer\n");
+    }
+    print_number(b"first ", least_above(0.0));
+    print_number(b"last ", e.last);
+    if strictly_exceeds(weight_of(FREQUENCY_LIMIT), weight_of(e.last)) {
+        io::write_all(STDOUT_FILENO, b"a weight passes over the last\n");
+    } else {
+        io::write_all(STDOUT_FILENO, b"no weight passes over the last\n");
+    }
+}
