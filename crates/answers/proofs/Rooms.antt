@@ -1,4 +1,4 @@
--- Work tables of 258 uses, 386 gaps, 514 gap segments and 128 links are never too short for a sheet: refusal 12 is not given
+-- Work tables of `sheetRooms` rows, 258 uses, 386 gaps, 514 gap segments and 128 links, are never too short for a sheet: refusal 12 is not given
 use Prim.Native.Nat.{ℕ, zero, suc, _≤_}
 use mathlib.Core.Path.{_≡_, refl, sym, _∙_}
 use mathlib.Core.List.{List, [], _∷_, _++_}
@@ -22,13 +22,14 @@ use Rattle.refusals.specs.Refusals.{Line, firstBroken, Passed, jobLines, tableR
 use Rattle.rooms.specs.Rooms.{roomsNeeded, line12, refusalOf}
 use Rattle.refusals.proofs.FirstBroken.{answer-passed, empty-sound, refused-stays, sound-goes-on}
 use Rattle.cells.specs.SheetJob.{jobOfSheet}
+use Rattle.answers.specs.SheetRooms.{sheetRooms}
 
 -- tables with room for every sheet
 pub record Enough (r : Rooms) : Type 0 where
-  pub uses : 258 ≤ r .uses
-  pub gaps : 386 ≤ r .gaps
-  pub segments : 514 ≤ r .«gap_segments»
-  pub links : 128 ≤ r .links
+  pub uses : sheetRooms .uses ≤ r .uses
+  pub gaps : sheetRooms .gaps ≤ r .gaps
+  pub segments : sheetRooms .«gap_segments» ≤ r .«gap_segments»
+  pub links : sheetRooms .links ≤ r .links
 
 -- a line that has passed at the end of the table changes nothing
 last-passed : (ls : List Line) (l : Line) → Passed l → firstBroken (ls ++ (l ∷ [])) ≡ firstBroken ls
@@ -81,3 +82,9 @@ pub rooms-enough : (text : List ℕ) → verdict text ≡ Verdict·is.Sound → 
 rooms-enough text e r h =
     let s = sheetOf text in
     last-passed (jobLines (jobOfSheet s)) (line12 (sizesOf (jobOfSheet s)) r) (enough-passed s (sound-sheet text e .within) r h)
+
+-- with tables of just these rows
+pub sheet-rooms-enough : (text : List ℕ) → verdict text ≡ Verdict·is.Sound
+    → refusalOf (jobOfSheet (sheetOf text)) sheetRooms ≡ tableRefusalOf (jobOfSheet (sheetOf text))
+sheet-rooms-enough text e =
+    rooms-enough text e sheetRooms (record { uses = omega arith; gaps = omega arith; segments = omega arith; links = omega arith })

@@ -57,7 +57,7 @@ fn links_used(a: Answer, blocks: usize) -> usize
 }
 
 // Writes the answer to a job of so many blocks.
-fn answer_job(p: Proposed, k: u32, blocks: usize, out: &mut [u8]) -> Answered
+pub fn answer_job(p: Proposed, k: u32, blocks: usize, out: &mut [u8]) -> Answered
     ensures { λ r. ⌜ IsShown p k blocks (now (out .entry)) (now (out .exit)) r ⌝ }
 {
     let answer = p.answer;

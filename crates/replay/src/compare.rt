@@ -2,6 +2,10 @@
 use crate::text::behind;
 use crate::text::part;
 use answers::answer::answer_sheet;
+use answers::room::GAP_ROWS;
+use answers::room::GAP_SEGMENT_ROWS;
+use answers::room::LINK_ROWS;
+use answers::room::USE_ROWS;
 use answers::rows::Table;
 use answers::rows::write_row;
 use libc::STDOUT_FILENO;
@@ -78,10 +82,25 @@ fn rows_same(
 }
 
 // Names a record.
-fn tell(record: usize) {
+pub(crate) fn tell(record: usize) {
     io::write_all(STDOUT_FILENO, b"record ");
     io::print_decimal(STDOUT_FILENO, record as u64);
     io::write_all(STDOUT_FILENO, b": ");
+}
+
+// Says that a file ends before its records do, or goes on behind them.
+pub(crate) fn tell_broken(record: usize) {
+    io::write_all(STDOUT_FILENO, b"broken off at record ");
+    io::print_decimal(STDOUT_FILENO, record as u64);
+    io::write_all(STDOUT_FILENO, b"\n");
+}
+
+// How many agree, and of how many.
+pub(crate) fn print_count(agree: usize, all: usize, what: &[u8]) {
+    io::print_decimal(STDOUT_FILENO, agree as u64);
+    io::write_all(STDOUT_FILENO, b" of ");
+    io::print_decimal(STDOUT_FILENO, all as u64);
+    io::write_all(STDOUT_FILENO, what);
 }
 
 // Names a record and a table.
@@ -131,7 +150,7 @@ fn table_agrees(
 }
 
 // Whether all tables agree. Their lines stand one table behind the other.
-fn tables_agree(
+pub(crate) fn tables_agree(
     record: usize,
     text: &[u8],
     found: Rows,
@@ -253,7 +272,7 @@ fn tables_agree(
 }
 
 // Whether the answer's bytes are those recorded.
-fn answer_agrees(record: usize, out: &[u8], w: Written, answer: &[u8]) -> bool {
+pub(crate) fn answer_agrees(record: usize, out: &[u8], w: Written, answer: &[u8]) -> bool {
     let Written::Bytes(n) = w else {
         tell(record);
         io::write_all(STDOUT_FILENO, b"no room for the answer\n");
@@ -267,7 +286,7 @@ fn answer_agrees(record: usize, out: &[u8], w: Written, answer: &[u8]) -> bool {
     false
 }
 
-fn both(a: bool, b: bool) -> bool {
+pub(crate) fn both(a: bool, b: bool) -> bool {
     a && b
 }
 
@@ -373,21 +392,21 @@ pub(crate) fn replay_record(
     lent: Rows,
 ) -> bool {
     let mut cells = [0u32; 4101];
-    let mut prev = [0u32; 128];
-    let mut next = [0u32; 128];
-    let mut inst = [0u32; 258];
-    let mut weight = [0f32; 258];
-    let mut left = [0f32; 258];
-    let mut right = [0f32; 258];
-    let mut from = [0u32; 386];
-    let mut to = [0u32; 386];
-    let mut gap_weight = [0f32; 386];
-    let mut live = [0u32; 386];
-    let mut freq = [0f32; 386];
-    let mut out_from = [0u32; 514];
-    let mut out_to = [0u32; 514];
-    let mut out_value = [0u32; 514];
-    let mut out_gap = [0u32; 514];
+    let mut prev = [0u32; LINK_ROWS];
+    let mut next = [0u32; LINK_ROWS];
+    let mut inst = [0u32; USE_ROWS];
+    let mut weight = [0f32; USE_ROWS];
+    let mut left = [0f32; USE_ROWS];
+    let mut right = [0f32; USE_ROWS];
+    let mut from = [0u32; GAP_ROWS];
+    let mut to = [0u32; GAP_ROWS];
+    let mut gap_weight = [0f32; GAP_ROWS];
+    let mut live = [0u32; GAP_ROWS];
+    let mut freq = [0f32; GAP_ROWS];
+    let mut out_from = [0u32; GAP_SEGMENT_ROWS];
+    let mut out_to = [0u32; GAP_SEGMENT_ROWS];
+    let mut out_value = [0u32; GAP_SEGMENT_ROWS];
+    let mut out_gap = [0u32; GAP_SEGMENT_ROWS];
     let mut out = [0u8; 81];
     replay_lent(
         record,

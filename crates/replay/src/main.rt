@@ -1,13 +1,24 @@
-// replay FILE..: the proved code on recorded sheets, held to the answers and tables that are recorded (data/README.md has the form of
-// the files).
+// replay FILE..: the proved code on recorded sheets, on jobs with longer tables and on block lists, held to the answers and tables that
+// are recorded (data/README.md has the form of the files).
 //
-// Of each file it prints how many records agree. A difference is named by its record, its table and its row; places count from 0.
+// Of each file it prints how many records agree, or calls for the lower-cost split point, where its records are block lists. A difference
+// is named by its record, its table and its row, or its call; places count from 0.
 mod compare;
+mod long;
+mod points;
 mod text;
 
+use answers::room::GAP_ROWS;
+use answers::room::GAP_SEGMENT_ROWS;
+use answers::room::LINK_ROWS;
+use answers::room::USE_ROWS;
 use compare::Rows;
+use compare::print_count;
 use compare::replay_record;
+use compare::tell_broken;
 use libc::STDOUT_FILENO;
+use long::replay_long;
+use points::replay_points;
 use text::byte_at;
 use text::field;
 use text::part;
@@ -29,21 +40,45 @@ fn lent_at(text: &[u8], at: usize) -> Rows
         };
     }
     Rows {
-        uses: 258,
-        gaps: 386,
-        gap_segments: 514,
-        links: 128,
+        uses: USE_ROWS,
+        gaps: GAP_ROWS,
+        gap_segments: GAP_SEGMENT_ROWS,
+        links: LINK_ROWS,
     }
 }
 
-// How many bytes of lines t and s stand in front of a sheet.
+// How many bytes a line t or n takes in front of line s.
 fn head_at(text: &[u8], at: usize) -> usize
     ensures { λ r. ⌜ r ≤ 46 ⌝ }
 {
     if byte_at(text, at) == b't' {
         return 46;
     }
+    if byte_at(text, at) == b'n' {
+        return 24;
+    }
     0
+}
+
+// Whether the record at a place agrees. A line n says which table is lengthened, and to how many items.
+fn record_agrees(
+    text: &[u8],
+    at: usize,
+    record: usize,
+    sheet: &[u8],
+    answer: &[u8],
+    tables: &[u8],
+    rows: Rows,
+) -> bool
+    requires { ⌜ at ≤ 1048576 ⌝ }
+{
+    if byte_at(text, at) == b'n' {
+        let table = field(text, at, 0);
+        let items = field(text, at, 1);
+        return replay_long(record, sheet, answer, tables, rows, table, items);
+    }
+    let lent = lent_at(text, at);
+    replay_record(record, sheet, answer, tables, rows, lent)
 }
 
 // A record's end, behind its line `=`.
@@ -57,7 +92,6 @@ fn replay_at(text: &[u8], at: usize, record: usize) -> Replayed
     requires { ⌜ at ≤ 1048576 ⌝ }
     ensures { λ r. ⌜ (at < r .end) × (r .end ≤ 999999999) ⌝ }
 {
-    let lent = lent_at(text, at);
     let s = at + head_at(text, at);
     let sheet = field(text, s, 0);
     let answer = field(text, s, 1);
@@ -67,7 +101,9 @@ fn replay_at(text: &[u8], at: usize, record: usize) -> Replayed
     let gap_segments = field(text, s, 5);
     let body = s + 79;
     let tables = body + sheet + answer;
-    let agrees = replay_record(
+    let agrees = record_agrees(
+        text,
+        at,
         record,
         part(text, body, sheet),
         part(text, body + sheet, answer),
@@ -78,7 +114,6 @@ fn replay_at(text: &[u8], at: usize, record: usize) -> Replayed
             gaps,
             gap_segments,
         },
-        lent,
     );
     let end = tables + 24 * links + 46 * uses + 57 * gaps + 46 * gap_segments + 2;
     Replayed { agrees, end }
@@ -88,13 +123,6 @@ fn counted(agrees: bool) -> usize
     ensures { λ r. ⌜ r ≤ 1 ⌝ }
 {
     if agrees { 1 } else { 0 }
-}
-
-fn print_count(agree: usize, records: usize) {
-    io::print_decimal(STDOUT_FILENO, agree as u64);
-    io::write_all(STDOUT_FILENO, b" of ");
-    io::print_decimal(STDOUT_FILENO, records as u64);
-    io::write_all(STDOUT_FILENO, b" records agree\n");
 }
 
 // Replays a file's records, and prints how many agree. Its first line has their number.
@@ -116,12 +144,10 @@ fn replay_text(text: &[u8]) {
         record += 1;
     }
     if record == records && at == text.len() {
-        print_count(agree, records);
+        print_count(agree, records, b" records agree\n");
         return;
     }
-    io::write_all(STDOUT_FILENO, b"broken off at record ");
-    io::print_decimal(STDOUT_FILENO, record as u64);
-    io::write_all(STDOUT_FILENO, b"\n");
+    tell_broken(record);
 }
 
 // Room for the largest file.
@@ -134,6 +160,10 @@ fn room(b: u8) -> [u8; 1048576]
 fn replay_open(fd: i32) {
     let mut text = room(0);
     let n = io::read_full(fd, &mut text);
+    if byte_at(&text, 13) == b'b' {
+        replay_points(&text[..n]);
+        return;
+    }
     replay_text(&text[..n]);
 }
 

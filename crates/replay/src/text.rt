@@ -9,26 +9,33 @@ pub(crate) fn byte_at(text: &[u8], at: usize) -> u8 {
     0
 }
 
-fn digit(b: u8) -> usize {
+fn digit(b: u8) -> u64 {
     if b < 48 {
         return 0;
     }
-    (b - 48) as usize
+    (b - 48) as u64
 }
 
-// The number in field c of the line at a place: lengths and counts are below a million.
+// The number in field c of the line at a place, ten digits of it; 32 bits of a longer one.
+pub(crate) fn number(text: &[u8], at: usize, c: usize) -> u32
+    requires { ⌜ (at ≤ 2000000) × (c ≤ 6) ⌝ }
+{
+    let from = at + 1 + 11 * c;
+    let mut n: u64 = 0;
+    let mut i: usize = 0;
+    while i < 11 {
+        n = n % 1000000000 * 10 + digit(byte_at(text, from + i)) % 10;
+        i += 1;
+    }
+    (n % 4294967296) as u32
+}
+
+// The same for lengths and counts, which are below a million.
 pub(crate) fn field(text: &[u8], at: usize, c: usize) -> usize
     requires { ⌜ (at ≤ 2000000) × (c ≤ 6) ⌝ }
     ensures { λ r. ⌜ r < 1000000 ⌝ }
 {
-    let from = at + 1 + 11 * c;
-    let mut n: usize = 0;
-    let mut i: usize = 0;
-    while i < 11 {
-        n = n % 100000 * 10 + digit(byte_at(text, from + i)) % 10;
-        i += 1;
-    }
-    n
+    (number(text, at, c) % 1000000) as usize
 }
 
 // The n bytes at a place, as far as the text goes.

@@ -5,6 +5,10 @@
 // those of a text that has more decide its answer (proofs/Front.antt of `answers`). The work tables have room for every sheet
 // (proofs/Rooms.antt there). What is read and written is not proved; the work is done by `answer_sheet`, on slices.
 use answers::answer::answer_sheet;
+use answers::room::GAP_ROWS;
+use answers::room::GAP_SEGMENT_ROWS;
+use answers::room::LINK_ROWS;
+use answers::room::USE_ROWS;
 use answers::rows::Table;
 use answers::rows::write_row;
 use libc::STDERR_FILENO;
@@ -414,21 +418,21 @@ fn print_lent(
 // The same, with room for every sheet.
 fn print_answer(text: &[u8], tables: bool) -> bool {
     let mut cells = [0u32; 4101];
-    let mut prev = [0u32; 128];
-    let mut next = [0u32; 128];
-    let mut inst = [0u32; 258];
-    let mut weight = [0f32; 258];
-    let mut left = [0f32; 258];
-    let mut right = [0f32; 258];
-    let mut from = [0u32; 386];
-    let mut to = [0u32; 386];
-    let mut gap_weight = [0f32; 386];
-    let mut live = [0u32; 386];
-    let mut freq = [0f32; 386];
-    let mut out_from = [0u32; 514];
-    let mut out_to = [0u32; 514];
-    let mut out_value = [0u32; 514];
-    let mut out_gap = [0u32; 514];
+    let mut prev = [0u32; LINK_ROWS];
+    let mut next = [0u32; LINK_ROWS];
+    let mut inst = [0u32; USE_ROWS];
+    let mut weight = [0f32; USE_ROWS];
+    let mut left = [0f32; USE_ROWS];
+    let mut right = [0f32; USE_ROWS];
+    let mut from = [0u32; GAP_ROWS];
+    let mut to = [0u32; GAP_ROWS];
+    let mut gap_weight = [0f32; GAP_ROWS];
+    let mut live = [0u32; GAP_ROWS];
+    let mut freq = [0f32; GAP_ROWS];
+    let mut out_from = [0u32; GAP_SEGMENT_ROWS];
+    let mut out_to = [0u32; GAP_SEGMENT_ROWS];
+    let mut out_value = [0u32; GAP_SEGMENT_ROWS];
+    let mut out_gap = [0u32; GAP_SEGMENT_ROWS];
     let mut out = [0u8; 81];
     print_lent(
         text,

@@ -73,7 +73,8 @@ slice-aggregate-propose-cells-16 c = search needs
 
 propose-cells-requires : tie.Need-propose-cells-requires
 propose-cells-requires c κs =
-    let e = slice-aggregate-propose-cells (c .before .before .before .before .before .before .before .before .before .before .before .before .before .before .before) in
+    let at-cells = c .before .before .before .before .before .before .before .before .before .before .before .before .before .before .before in
+    let e = slice-aggregate-propose-cells at-cells in
     record { room = omega (arith, e); one = refl; within = within }
 
 returns : tie.Need-returns

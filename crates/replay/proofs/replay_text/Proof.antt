@@ -5,10 +5,10 @@ use Rattle.replay.proofs.replay_text.Statement.{statement}
 use Rattle.replay.proofs.replay_text.Tie as tie
 
 abbrev Inv-loop : tie.InvT-loop
-Inv-loop text records agree₀ record₀ at₀ t7 t8 agree «record» at = («record» ≤ records) × (agree ≤ «record») × (records < 1000000)
+Inv-loop text records agree₀ record₀ at₀ t7 agree «record» at = («record» ≤ records) × (agree ≤ «record») × (records < 1000000)
 
 abbrev μ-loop : tie.MeasureT-loop
-μ-loop text records agree₀ record₀ at₀ t7 t8 agree «record» at = records - «record»
+μ-loop text records agree₀ record₀ at₀ t7 agree «record» at = records - «record»
 
 field-requires : tie.Need-field-requires Inv-loop μ-loop
 field-requires c κs = omega arith
@@ -34,26 +34,17 @@ loop-less c = omega arith
 loop-again : tie.Need-loop-again Inv-loop μ-loop
 loop-again c = omega arith
 
+slice-aggregate-print-count : tie.Need-slice-aggregate-print-count Inv-loop μ-loop
+slice-aggregate-print-count c = omega arith
+
 print-count-requires : tie.Need-print-count-requires Inv-loop μ-loop
 print-count-requires c κs = omega arith
 
 returns : tie.Need-returns Inv-loop μ-loop
 returns c = omega arith
 
-slice-aggregate-write-all : tie.Need-slice-aggregate-write-all Inv-loop μ-loop
-slice-aggregate-write-all c = omega arith
-
-write-all-requires : tie.Need-write-all-requires Inv-loop μ-loop
-write-all-requires c κs = omega arith
-
-print-decimal-requires : tie.Need-print-decimal-requires Inv-loop μ-loop
-print-decimal-requires c κs = omega arith
-
-slice-aggregate-write-all-2 : tie.Need-slice-aggregate-write-all-2 Inv-loop μ-loop
-slice-aggregate-write-all-2 c = omega arith
-
-write-all-requires-2 : tie.Need-write-all-requires-2 Inv-loop μ-loop
-write-all-requires-2 c κs = omega arith
+tell-broken-requires : tie.Need-tell-broken-requires Inv-loop μ-loop
+tell-broken-requires c κs = omega arith
 
 returns-2 : tie.Need-returns-2 Inv-loop μ-loop
 returns-2 c = omega arith
@@ -72,11 +63,8 @@ replay-text-spec =
     add-record
     loop-less
     loop-again
+    slice-aggregate-print-count
     print-count-requires
     returns
-    slice-aggregate-write-all
-    write-all-requires
-    print-decimal-requires
-    slice-aggregate-write-all-2
-    write-all-requires-2
+    tell-broken-requires
     returns-2)

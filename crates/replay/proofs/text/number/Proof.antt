@@ -1,11 +1,11 @@
--- `field` is below a million
-use native.Mathlib.Omega.{arith}
+-- `number` ends, and what it has read stays below ten digits and one
 use Prim.Native.Nat.{_-_, _≤_, _<_}
-use Rattle.replay.proofs.text.field.Statement.{statement}
-use Rattle.replay.proofs.text.field.Tie as tie
+use native.Mathlib.Omega.{arith}
+use Rattle.replay.proofs.text.number.Statement.{statement}
+use Rattle.replay.proofs.text.number.Tie as tie
 
 abbrev Inv-loop : tie.InvT-loop
-Inv-loop text at c from n₀ i₀ n i = (i ≤ 11) × (n < 1000000)
+Inv-loop text at c from n₀ i₀ n i = (i ≤ 11) × (n < 10000000000)
 
 abbrev μ-loop : tie.MeasureT-loop
 μ-loop text at c from n₀ i₀ n i = 11 - i
@@ -46,11 +46,14 @@ loop-less c = omega arith
 loop-again : tie.Need-loop-again Inv-loop μ-loop
 loop-again c = omega arith
 
+cast-result : tie.Need-cast-result Inv-loop μ-loop
+cast-result c = omega arith
+
 returns : tie.Need-returns Inv-loop μ-loop
 returns c = omega arith
 
-pub field-spec : {M : Type 1} → statement M
-field-spec =
+pub number-spec : {M : Type 1} → statement M
+number-spec =
     tie.close
     (tie.spec
     Inv-loop
@@ -67,4 +70,5 @@ field-spec =
     add-i
     loop-less
     loop-again
+    cast-result
     returns)
