@@ -22,7 +22,7 @@ use Rattle.links.specs.Blocks.{isBad, blockOf}
 use Rattle.links.specs.Links.{absent, isLower, lowerLink}
 use Rattle.links.specs.Split.{follow}
 use Rattle.jobs.specs.Lines.{badBounds, badList, badDef, badUse, badEnd, badSpan, badKind, badFixedUse, noFixed}
-use Rattle.columns.specs.Below.{countBelow, sumBelow, joined, picked}
+use Rattle.columns.specs.Below.{countBelow, anyBelow, sumBelow, joined, picked}
 use Rattle.use_rows.specs.Uses.{useTable, rowsFrom, carries, splitUse, addedToRow, partOf, costOf, frequencyAt, firstInst, lastInst, bestUse}
 use Rattle.overlaps.specs.GapSegments.{overlapWith, overlapsOf}
 use Rattle.walks.specs.Meeting.{meets, countsAsFixed, spillWeight, ofRegister, fixedAgainst, weighsAgainst, fixedMet, weightsWhere, weightsMet, fixedMetAny}
@@ -33,13 +33,13 @@ use Rattle.growth.specs.Growth.{numbersFrom, weightsIn, weightTest, passes, sid
 use Rattle.growth.specs.Proposal.{splitCost, endOf, proposalWith, regionOf}
 use Rattle.refusals.specs.Refusals.{firstBroken, badParameters, someLong, badSizes}
 use Rattle.numbers.specs.Figure.{figure}
-use Rattle.filling.specs.declared.lent.Rooms.{Rooms}
 use Rattle.refusals.specs.Job.{Job}
 use Rattle.tables.specs.JobTables.{tablesOf}
 use Rattle.proposer.proofs.CaseJobs.{blockRow, segmentRow, useRow, reservedRow, jobLikeA, blocksOfA, segmentOfA, reserving, scaledBy, over, enough}
 use Rattle.outcome.specs.Outcome.{Numbered, refused, none, proposal, numbered}
 use Rattle.proposer.specs.Answer.{answerOf}
 use Rattle.answers.specs.SheetAnswer.{answerOfText}
+use Rattle.answers.specs.SheetRooms.{sheetRooms}
 
 -- the bytes of a text of document 01
 pub bytes : String → List ℕ
@@ -73,10 +73,6 @@ printedOfA =
     81 ∷ 32 ∷ 32 ∷ 32 ∷ 32 ∷ 32 ∷ 32 ∷ 32 ∷ 32 ∷ 32 ∷ 32 ∷ 45 ∷ 32 ∷ 32 ∷ 32 ∷ 32 ∷ 32 ∷ 32 ∷ 32 ∷ 32 ∷ 32 ∷ 32 ∷ 45 ∷ 32 ∷ 49 ∷ 48 ∷ 55 ∷ 51 ∷ 55 ∷ 52 ∷
     49 ∷ 56 ∷ 50 ∷ 52 ∷ 32 ∷ 32 ∷ 32 ∷ 32 ∷ 32 ∷ 32 ∷ 32 ∷ 32 ∷ 32 ∷ 32 ∷ 52 ∷ 32 ∷ 32 ∷ 32 ∷ 32 ∷ 32 ∷ 32 ∷ 32 ∷ 32 ∷ 32 ∷ 32 ∷ 48 ∷ 32 ∷ 32 ∷ 32 ∷ 32 ∷
     32 ∷ 32 ∷ 32 ∷ 32 ∷ 32 ∷ 32 ∷ 48 ∷ 10 ∷ 72 ∷ 32 ∷ 32 ∷ 32 ∷ 32 ∷ 32 ∷ 32 ∷ 32 ∷ 32 ∷ 53 ∷ 48 ∷ 48 ∷ 10 ∷ []
-
--- tables that are long enough for every sheet
-abbrev rooms : Rooms
-rooms = record { uses = 258; gaps = 386; «gap_segments» = 514; links = 128 }
 
 -- what is shown of a case: the bytes printed, an answer in its numbers, or the previous links and the next ones
 pub data Shown : Type 0 where
@@ -117,7 +113,7 @@ inst n = At (record { 0 = n })
 -- A, from its sheet's bytes to its answer's, which are those that document 01 prints
 abbrev caseA : List Case
 caseA =
-    case (Text (answerOfText textOfA rooms)) (Text printedOfA)
+    case (Text (answerOfText textOfA sheetRooms)) (Text printedOfA)
     ∷ case (Text textOfA) (Text (bytes sheetOfA))
     ∷ case (Text printedOfA) (Text (bytes answerOfA))
     ∷ []
@@ -170,11 +166,11 @@ abbrev pub cases : List Case
 cases = caseA ++ others
 
 -- every case holds; the text is computed by itself, as it takes most steps
-sheet-read : answerOfText textOfA rooms ≡ printedOfA
+sheet-read : answerOfText textOfA sheetRooms ≡ printedOfA
 unfolding textOfA printedOfA letter fields limit width position kindOf digitOrBlank digits field valueBehind value sameText isField fieldsText lineText line
     linesText textFrom render linesOf areFields isLine kindOfLine latest ofKind isInOrder fault verdictBelow verdict numbers rowOf sheetOf column endText endsText weightsText
     figuresText answerText figure unitsOf toBits firstBroken badParameters someLong badSizes isBad badBounds badList badDef badUse badEnd badSpan
-    badKind badFixedUse countBelow bestUse useTable rowsFrom carries splitUse addedToRow partOf costOf frequencyAt firstInst lastInst valueOf ofBits spillCost
+    badKind badFixedUse countBelow anyBelow bestUse useTable rowsFrom carries splitUse addedToRow partOf costOf frequencyAt firstInst lastInst valueOf ofBits spillCost
     scaled firstBelow blockOf add sub mul round eq lt table gapsOf gapsBetween cuts cutGaps plus joined follow lowerLink isLower sumBelow overlapWith overlapsOf
     anyOf meets countsAsFixed spillWeight ofRegister fixedAgainst weighsAgainst fixedMet weightsWhere weightsMet fixedMetAny weightsMetAll picked numbersFrom
     weightTest passes sideOpen leftFirst sideTried came tryOn try growth grown splitCost endOf proposalWith regionOf normalised fraction exceeds
@@ -187,7 +183,7 @@ as-printed = (refl, refl)
 
 others-hold : map (λ (c : Case). c .given) others ≡ map (λ (c : Case). c .said) others
 unfolding toBits firstBroken badParameters someLong badSizes isBad badBounds badList badDef badUse badEnd badSpan
-    badKind badFixedUse countBelow bestUse useTable rowsFrom carries splitUse addedToRow partOf costOf frequencyAt firstInst lastInst valueOf ofBits spillCost
+    badKind badFixedUse countBelow anyBelow bestUse useTable rowsFrom carries splitUse addedToRow partOf costOf frequencyAt firstInst lastInst valueOf ofBits spillCost
     scaled firstBelow blockOf add sub mul round eq lt table gapsOf gapsBetween cuts cutGaps plus joined follow lowerLink isLower sumBelow overlapWith overlapsOf
     anyOf meets countsAsFixed spillWeight ofRegister fixedAgainst weighsAgainst fixedMet weightsWhere weightsMet fixedMetAny weightsMetAll picked numbersFrom
     weightTest passes sideOpen leftFirst sideTried came tryOn try growth grown splitCost endOf proposalWith regionOf normalised fraction exceeds

@@ -2,4 +2,4 @@
 pub mod UseFilling
 pub mod GapFilling
 pub mod SourceTables
-pub mod GapLaws
+pub mod TableLaws

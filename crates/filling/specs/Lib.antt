@@ -2,4 +2,4 @@
 pub mod UseTables
 pub mod GapTables
 pub mod SourceTables
-pub mod GapLaws
+pub mod TableLaws

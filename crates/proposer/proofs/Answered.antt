@@ -15,6 +15,9 @@ use Rattle.use_rows.specs.declared.row.BestUse.{BestUse}
 use Rattle.use_rows.specs.declared.row.BestUse.the-variants as BestUse·is
 use Rattle.use_rows.specs.Uses.{IsBest}
 use Rattle.filling.specs.UseTables.{bestOf}
+use Rattle.filling.specs.SourceTables.{tablesOfBest}
+use Rattle.filling.specs.TableLaws.{TableLaws}
+use Rattle.filling.proofs.TableLaws.{table-laws}
 use Rattle.growth.specs.Proposal.{regionOf}
 use Rattle.growth.specs.Evictions.{Each}
 use Rattle.growth.specs.declared.proposal.SplitProposal.{SplitProposal}
@@ -25,6 +28,7 @@ use Rattle.refusals.specs.Job.{Job, sourceOfJob}
 use Rattle.refusals.specs.Refusals.{Reported}
 use Rattle.rooms.specs.Rooms.{lines, refusalOf}
 use Rattle.rooms.proofs.Refused.{job-accepted, job-refused-exactly}
+use Rattle.tables.specs.JobTables.{noTables, ifAccepted, tablesOf}
 use Rattle.views.specs.View.{seenOfJob}
 use Rattle.outcome.specs.Outcome.{ofRegion, refused, none, proposal, numbered}
 use Rattle.proposer.specs.Answer.{ofBest, ofChecked, answerOf}
@@ -164,6 +168,15 @@ module _ (job : Job) (rooms : Rooms) where
   pub proposal-exactly : (l r : MaybeInst) (w n i c : ℕ) → (numbered (answerOf job rooms) ≡ proposal l r w n i c)
       ↔ ((p : SplitProposal) × (answerOf job rooms ≡ Answer·is.Found p) × (numbered (Answer·is.Found p) ≡ proposal l r w n i c))
   proposal-exactly l r w n i c = (number-found (answerOf job rooms) l r w n i c, λ h. ap numbered (h .1) ∙ h .2)
+
+  -- the laws of the tables that an accepted job with a best use fills, whatever it is answered
+  pub answered-tables : refusalOf job rooms ≡ Checked·is.Sound → (best : ℕ) → IsBest (mainsOf job) best → TableLaws (sourceOfJob job) best (tablesOf job rooms)
+  answered-tables e best is =
+      let a = job-accepted job rooms e in
+      let b = job-best-exactly job a best .1 is in
+      subst (TableLaws (sourceOfJob job) best)
+      (sym (ap₂ (λ (c : Checked) (u : BestUse). ifAccepted c (tablesOfBest (sourceOfJob job) u) noTables) e b))
+      (table-laws (sourceOfJob job) (a .uses) (a .blocks) best (job-best-inside job a best b))
 
   -- around its best use
   pub found-proposed : (p : SplitProposal) → answerOf job rooms ≡ Answer·is.Found p → ProposalOf job (bestNumber job) p

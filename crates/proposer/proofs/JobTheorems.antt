@@ -237,8 +237,11 @@ module _ (job : Job) (best : ℕ) (p : SplitProposal) (given : ProposalOf job be
   pub region-no-fixed : FixedMet job best (InRegion job best p) → ⊥
   region-no-fixed m =
       let k = m .segment in
-      job-no-fixed job best p given (gapOfSegment job best k, region-gaps k (m .counts .meet .segment) .0 (m .is-among),
-      gap-fixed job best (given .accepted) k (m .row) (m .counts))
+      job-no-fixed job best p given (
+        gapOfSegment job best k,
+        region-gaps k (m .counts .meet .segment) .0 (m .is-among),
+        gap-fixed job best (given .accepted) k (m .row) (m .counts),
+      )
 
   -- no kind 0 weight that it meets is heavier than its interference weight
   pub region-none-heavier : (w : Float) → WeightMet job best (InRegion job best p) w → unitsOf w ≤ unitsOf (p .«interference_weight»)

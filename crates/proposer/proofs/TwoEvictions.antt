@@ -10,7 +10,7 @@ use Rattle.numbers.specs.Cost.{spillCost, scaled}
 use Rattle.numbers.specs.declared.MaybeInst.the-variants as MaybeInst·is
 use Rattle.columns.specs.First.{firstBelow}
 use Rattle.columns.specs.Table.{table, anyOf}
-use Rattle.columns.specs.Below.{countBelow, sumBelow, joined, picked}
+use Rattle.columns.specs.Below.{countBelow, anyBelow, sumBelow, joined, picked}
 use Rattle.links.specs.Blocks.{isBad, blockOf}
 use Rattle.links.specs.Links.{isLower, lowerLink}
 use Rattle.links.specs.Split.{follow}
@@ -53,7 +53,7 @@ evicting = jobLikeA 0 (blocksOfA 1073741824) segmentOfA usesOfA (1056964608 ∷ 
 
 pub both-answered : (answerOf plain (enough plain) ≡ Found (boundless 1073741824 0))
     × (answerOf evicting (enough evicting) ≡ Found (boundless 1082130432 1056964608))
-unfolding toBits firstBroken badParameters someLong badSizes isBad badBounds badList badDef badUse badEnd badSpan badKind badFixedUse countBelow bestUse
+unfolding toBits firstBroken badParameters someLong badSizes isBad badBounds badList badDef badUse badEnd badSpan badKind badFixedUse countBelow anyBelow bestUse
     useTable rowsFrom carries splitUse addedToRow partOf costOf frequencyAt firstInst lastInst valueOf ofBits spillCost scaled firstBelow blockOf add sub mul
     round eq lt table gapsOf gapsBetween cuts cutGaps plus joined follow lowerLink isLower sumBelow overlapWith overlapsOf anyOf meets countsAsFixed spillWeight
     ofRegister fixedAgainst weighsAgainst fixedMet weightsWhere weightsMet fixedMetAny weightsMetAll picked numbersFrom weightTest passes sideOpen leftFirst
@@ -71,11 +71,13 @@ pub two-evictions : Evictions (map entryOf (first-answered ∷ second-answered �
 unfolding toBits bestUse
     useTable rowsFrom carries splitUse addedToRow partOf costOf frequencyAt firstInst lastInst valueOf ofBits spillCost scaled firstBelow blockOf add sub mul
     round eq lt table gapsOf gapsBetween cuts cutGaps plus joined follow lowerLink isLower sumBelow overlapWith overlapsOf meets picked normalised div ofInt
-two-evictions =
-    (record {
-      segment = 1;
-      row = 0;
-      in-region = tt;
-      weighs = record { meet = record { segment = lit< tt; row = lit< tt; overlap = tt }; kind = refl };
-      carries = refl;
-    }, tt)
+two-evictions = (
+  record {
+    segment = 1;
+    row = 0;
+    in-region = tt;
+    weighs = record { meet = record { segment = lit< tt; row = lit< tt; overlap = tt }; kind = refl };
+    carries = refl;
+  },
+  tt,
+)

@@ -2,19 +2,18 @@
 use mathlib.Core.Path.{_≡_, ap, _∙_}
 use mathlib.Core.Logic.{_⊎_, inl, inr, _↔_}
 use mathlib.Core.List.{[], _∷_}
-use Prim.Native.Nat.{ℕ, _+_, _-_, _*_, _/_, _≤_, _<_}
+use Prim.Native.Nat.{ℕ, _+_, _*_, _/_, _≤_, _<_}
 use native.Mathlib.Omega.{arith}
 use lib.Ieee.{nan}
-use lib.ListN.{length, getD, List·getD-map}
-use lib.Seq.{getD-append-seam}
+use lib.ListN.{length, getD}
 use Rattle.numbers.specs.Sum.{plus}
 use Rattle.columns.proofs.Firsts.{split}
-use Rattle.links.specs.declared.lower.Side.the-variants.{Previous, Next}
 use Rattle.overlaps.specs.Live.{Gaps}
 use Rattle.overlaps.proofs.LiveLaws.{gap-order}
-use Rattle.gaps.specs.Gaps.{Gap, gapWeight, gapsOn, gapsOf, ownGap}
+use Rattle.gaps.specs.Gaps.{Gap, gapWeight}
 use Rattle.filling.specs.GapTables.{fromsOf, tosOf}
-use Rattle.refusals.specs.Job.{Job}
+use Rattle.filling.proofs.TableLaws.{own-at}
+use Rattle.refusals.specs.Job.{Job, sourceOfJob}
 use Rattle.refusals.proofs.Accepted.{Accepted}
 use Rattle.tables.specs.JobTables.{usesOfJob, gapsOfJob, ownOfJob, segmentsOfJob}
 use Rattle.views.specs.View.{seenOfJob}
@@ -23,32 +22,20 @@ use Rattle.overlaps.proofs.SegmentOrder.{InGap, fromColumn, toColumn}
 use Rattle.views.proofs.JobView.{job-tiles, job-sound, segment-in-gap}
 
 module _ (job : Job) (best : ℕ) where
+  abbrev none : Gap
+  none = record { from = 0; to = 0; weights = nan ∷ []; freq = nan }
+
   -- among the job's gaps it is the best use's, of one instruction
-  pub own-gap-is : (d : Gap) → getD (gapsOfJob job best) (ownOfJob job best) d ≡ ownGap (job .blocks) (bestRow job best)
-  unfolding gapsOf
-  own-gap-is d =
-      getD-append-seam (gapsOn Previous (job .blocks) (usesOfJob job) 0 best) (ownGap (job .blocks) (bestRow job best))
-      (gapsOn Next (job .blocks) (usesOfJob job) best (length (usesOfJob job) - 1 - best)) d
+  own-from : getD (fromsOf (gapsOfJob job best)) (ownOfJob job best) 0 ≡ bestRow job best .inst .0
+  own-from = own-at (sourceOfJob job) best (λ (g : Gap). g .from) none
 
-  abbrev own : Gap
-  own = ownGap (job .blocks) (bestRow job best)
-
-  pub own-from : getD (fromsOf (gapsOfJob job best)) (ownOfJob job best) 0 ≡ bestRow job best .inst .0
-  own-from =
-      let none : Gap = record { from = 0; to = 0; weights = own .weights; freq = own .freq } in
-      List·getD-map (λ (g : Gap). g .from) (gapsOfJob job best) (ownOfJob job best) none ∙ ap (λ (g : Gap). g .from) (own-gap-is none)
-
-  pub own-to : getD (tosOf (gapsOfJob job best)) (ownOfJob job best) 0 ≡ bestRow job best .inst .0 + 1
-  own-to =
-      let none : Gap = record { from = 0; to = 0; weights = own .weights; freq = own .freq } in
-      List·getD-map (λ (g : Gap). g .to) (gapsOfJob job best) (ownOfJob job best) none ∙ ap (λ (g : Gap). g .to) (own-gap-is none)
+  own-to : getD (tosOf (gapsOfJob job best)) (ownOfJob job best) 0 ≡ bestRow job best .inst .0 + 1
+  own-to = own-at (sourceOfJob job) best (λ (g : Gap). g .to) none
 
   -- growth sees it with the best use's main weight
   pub own-weight : seenOfJob job best .weight (ownOfJob job best) ≡ bestRow job best .weight
   unfolding plus
-  own-weight =
-      let none : Gap = record { from = 0; to = 0; weights = nan ∷ []; freq = own .freq } in
-      List·getD-map gapWeight (gapsOfJob job best) (ownOfJob job best) none ∙ ap gapWeight (own-gap-is none)
+  own-weight = own-at (sourceOfJob job) best gapWeight none
 
   -- a gap segment lies in the best use's instruction exactly if it is of that gap
   module _ (accepted : Accepted job) (h : best < length (usesOfJob job)) (k : ℕ) (l : k < length (segmentsOfJob job best)) where
