@@ -1,4 +1,4 @@
--- Document 01's cases A to E, G and J as growth sees them, and the order of tries on three gaps: computed tables
+-- The order of tries on three gaps: a computed table
 use mathlib.Core.Path.{_≡_, refl}
 use Prim.Native.Nat.{ℕ}
 use mathlib.Core.Bool.{Bool, true, false}
@@ -12,7 +12,7 @@ use Rattle.growth.specs.Growth.{numbersFrom, weightsIn, weightTest, pass
 use Rattle.growth.specs.Proposal.{splitCost, endOf, proposalWith, regionOf}
 use Rattle.growth.specs.Columns.{seenIn}
 use Rattle.growth.specs.declared.proposal.Region.{Region}
-use Rattle.growth.specs.declared.proposal.Region.the-variants.{Found, Nothing}
+use Rattle.growth.specs.declared.proposal.Region.the-variants.{Found}
 
 value : ℕ → Float
 unfolding ofBits
@@ -57,31 +57,6 @@ found left right weight insts heaviest cost =
       «split_cost» =
           value cost;
     })
-
--- the own gap of 1 instruction and one of 3 behind it, all weights and frequencies alike
-twoGaps : ℕ → Bool → Bool → List ℕ → List Gap
-unfolding gap
-twoGaps bits own-fixed later-fixed met = gap 0 bits 1 bits own-fixed [] ∷ gap 1 bits 3 bits later-fixed met ∷ []
-
--- A, B, C, D; E's and G's fixed ones; J with k = 1 and k = 0
-document-cases : answer 0 0 (twoGaps 1065353216 false false [])
-    ∷ answer 0 0 (twoGaps 1065353216 false false (1048576000 ∷ []))
-    ∷ answer 0 0 (twoGaps 1065353216 false false (1056628736 ∷ []))
-    ∷ answer 0 0 (twoGaps 1065353216 false false (1056628735 ∷ []))
-    ∷ answer 0 0 (twoGaps 1065353216 false true [])
-    ∷ answer 0 0 (twoGaps 1065353216 true false [])
-    ∷ answer 0 1 (twoGaps 1 false false [])
-    ∷ answer 0 0 (twoGaps 1 false false []) ∷ []
-    ≡ found Absent Absent 1073741824 4 0 0
-    ∷ found Absent Absent 1073741824 4 1048576000 0
-    ∷ found Absent (At (record { 0 = 1 })) 1065353216 1 0 1065353216
-    ∷ found Absent Absent 1073741824 4 1056628735 0
-    ∷ found Absent (At (record { 0 = 1 })) 1065353216 1 0 1065353216
-    ∷ Nothing
-    ∷ Nothing
-    ∷ found Absent (At (record { 0 = 1 })) 1 1 0 1 ∷ []
-unfolding answer found twoGaps
-document-cases = refl
 
 -- the own gap of weight 8.0 between two gaps of frequency 1.0 without weight; only one of them can be grown
 threeGaps : ℕ → ℕ → List Gap
