@@ -12,7 +12,7 @@ use libc::STDOUT_FILENO;
 use numbers::normal::normalize_spill_weight;
 use numbers::normal::strictly_exceeds;
 use numbers::weights::FREQUENCY_LIMIT;
-use numbers::weights::bits_shown;
+use numbers::weights::bits_of;
 use numbers::weights::weight_of;
 use outcome::grow::Answer;
 use sheet::column_of;
@@ -138,13 +138,13 @@ fn is_member(answer: Answer, weight: u32, before: u32) -> bool {
     if p.live_insts != 1 {
         return false;
     }
-    if bits_shown(p.interference_weight) != before {
+    if bits_of(p.interference_weight) != before {
         return false;
     }
-    if bits_shown(p.use_weight) != weight {
+    if bits_of(p.use_weight) != weight {
         return false;
     }
-    bits_shown(normalize_spill_weight(p.use_weight, p.live_insts, 0)) == weight
+    bits_of(normalize_spill_weight(p.use_weight, p.live_insts, 0)) == weight
 }
 
 // The least bits whose weight passes the test over another weight, by halves; one above the highest where none passes.
