@@ -98,6 +98,7 @@ fn row_of(i: usize, read: usize) -> usize
     read - 1
 }
 
+// Stores a number where the column goes so far.
 fn put(column: &mut [u32], at: usize, number: u32) {
     if at < column.len() {
         column[at] = number;
@@ -117,13 +118,14 @@ fn lengthen_column(long: &mut [u32], cells: &[u32], column: usize, read: usize, 
     }
 }
 
-// How many items of a kind were read, and how many the job has.
+// How many items of each kind were read; the kind whose table is lengthened, and to how many items.
 struct Sizes {
     read: [usize; 8],
     table: usize,
     items: usize,
 }
 
+// How many items of a kind were read.
 fn read_of(sizes: Sizes, k: usize) -> usize {
     let read = sizes.read;
     if k < 8 {
@@ -132,6 +134,7 @@ fn read_of(sizes: Sizes, k: usize) -> usize {
     0
 }
 
+// How many the job has, within the room of a column.
 fn items_of(sizes: Sizes, k: usize) -> usize
     ensures { λ r. ⌜ r ≤ 4097 ⌝ }
 {
