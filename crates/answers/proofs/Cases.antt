@@ -41,19 +41,29 @@ use Rattle.proposer.specs.Answer.{answerOf}
 use Rattle.answers.specs.SheetAnswer.{answerOfText}
 use Rattle.answers.specs.SheetRooms.{sheetRooms}
 
--- the bytes of a text of document 01
+-- the bytes of a line of document 01, and of its lines one after the other
 pub bytes : String → List ℕ
 bytes []ᵗ = []
 bytes (c ∷ᵗ s) = code c ∷ bytes s
 
+pub bytesOf : List String → List ℕ
+bytesOf [] = []
+bytesOf (l ∷ ls) = bytes l ++ bytesOf ls
+
 -- case A's sheet as document 01 prints it
-pub sheetOfA : String
+pub sheetOfA : List String
 sheetOfA =
-    "P          0 1065353216 1065353216 1065353216          1\nB 1065353216          0          4\nV          0\nS          2         14          0          0          2          0\nU          0          5 1065353216\nU          3          4 1065353216\n"
+    "P          0 1065353216 1065353216 1065353216          1\n"
+    ∷ "B 1065353216          0          4\n"
+    ∷ "V          0\n"
+    ∷ "S          2         14          0          0          2          0\n"
+    ∷ "U          0          5 1065353216\n"
+    ∷ "U          3          4 1065353216\n"
+    ∷ []
 
 -- and its answer
-pub answerOfA : String
-answerOfA = "Q          -          - 1073741824          4          0          0\nH        500\n"
+pub answerOfA : List String
+answerOfA = "Q          -          - 1073741824          4          0          0\n" ∷ "H        500\n" ∷ []
 
 -- the same two, byte by byte
 pub textOfA : List ℕ
@@ -114,8 +124,8 @@ inst n = At (record { 0 = n })
 abbrev caseA : List Case
 caseA =
     case (Text (answerOfText textOfA sheetRooms)) (Text printedOfA)
-    ∷ case (Text textOfA) (Text (bytes sheetOfA))
-    ∷ case (Text printedOfA) (Text (bytes answerOfA))
+    ∷ case (Text textOfA) (Text (bytesOf sheetOfA))
+    ∷ case (Text printedOfA) (Text (bytesOf answerOfA))
     ∷ []
 
 -- the others
@@ -168,23 +178,23 @@ cases = caseA ++ others
 -- every case holds; the text is computed by itself, as it takes most steps
 sheet-read : answerOfText textOfA sheetRooms ≡ printedOfA
 unfolding textOfA printedOfA letter fields limit width position kindOf digitOrBlank digits field valueBehind value sameText isField fieldsText lineText line
-    linesText textFrom render linesOf areFields isLine kindOfLine latest ofKind isInOrder fault verdictBelow verdict numbers rowOf sheetOf column endText endsText weightsText
-    figuresText answerText figure unitsOf toBits firstBroken badParameters someLong badSizes isBad badBounds badList badDef badUse badEnd badSpan
-    badKind badFixedUse countBelow anyBelow bestUse useTable rowsFrom carries splitUse addedToRow partOf costOf frequencyAt firstInst lastInst valueOf ofBits spillCost
-    scaled firstBelow blockOf add sub mul round eq lt table gapsOf gapsBetween cuts cutGaps plus joined follow lowerLink isLower sumBelow overlapWith overlapsOf
+    linesText textFrom render linesOf areFields isLine kindOfLine latest ofKind isInOrder fault verdictBelow verdict numbers rowOf sheetOf column endText endsText
+    weightsText figuresText answerText figure unitsOf toBits firstBroken badParameters someLong badSizes isBad badBounds badList badDef badUse badEnd badSpan
+    badKind badFixedUse countBelow anyBelow bestUse useTable rowsFrom carries splitUse addedToRow partOf costOf frequencyAt firstInst lastInst valueOf ofBits
+    spillCost scaled firstBelow blockOf add sub mul round eq lt table gapsOf gapsBetween cuts cutGaps plus joined follow lowerLink isLower sumBelow overlapWith overlapsOf
     anyOf meets countsAsFixed spillWeight ofRegister fixedAgainst weighsAgainst fixedMet weightsWhere weightsMet fixedMetAny weightsMetAll picked numbersFrom
     weightTest passes sideOpen leftFirst sideTried came tryOn try growth grown splitCost endOf proposalWith regionOf normalised fraction exceeds
     div ofInt weightsIn
 sheet-read = refl
 
-as-printed : (textOfA ≡ bytes sheetOfA) × (printedOfA ≡ bytes answerOfA)
-unfolding textOfA printedOfA sheetOfA answerOfA bytes
+as-printed : (textOfA ≡ bytesOf sheetOfA) × (printedOfA ≡ bytesOf answerOfA)
+unfolding textOfA printedOfA sheetOfA answerOfA bytes bytesOf
 as-printed = (refl, refl)
 
 others-hold : map (λ (c : Case). c .given) others ≡ map (λ (c : Case). c .said) others
 unfolding toBits firstBroken badParameters someLong badSizes isBad badBounds badList badDef badUse badEnd badSpan
-    badKind badFixedUse countBelow anyBelow bestUse useTable rowsFrom carries splitUse addedToRow partOf costOf frequencyAt firstInst lastInst valueOf ofBits spillCost
-    scaled firstBelow blockOf add sub mul round eq lt table gapsOf gapsBetween cuts cutGaps plus joined follow lowerLink isLower sumBelow overlapWith overlapsOf
+    badKind badFixedUse countBelow anyBelow bestUse useTable rowsFrom carries splitUse addedToRow partOf costOf frequencyAt firstInst lastInst valueOf ofBits
+    spillCost scaled firstBelow blockOf add sub mul round eq lt table gapsOf gapsBetween cuts cutGaps plus joined follow lowerLink isLower sumBelow overlapWith overlapsOf
     anyOf meets countsAsFixed spillWeight ofRegister fixedAgainst weighsAgainst fixedMet weightsWhere weightsMet fixedMetAny weightsMetAll picked numbersFrom
     weightTest passes sideOpen leftFirst sideTried came tryOn try growth grown splitCost endOf proposalWith regionOf normalised fraction exceeds
     div ofInt weightsIn

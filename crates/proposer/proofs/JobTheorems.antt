@@ -205,7 +205,8 @@ module _ (job : Job) (best : ℕ) (p : SplitProposal) (given : ProposalOf job be
       (λ r.
           let last = covers-inst (to - 1) (up from to (inside .some)) (down from to (inside .some)) .1 (region-gaps .0 r) in (
             left-of (p .left) from (and-l (fromEnd (p .left) (instOf from)) (beforeEnd (p .right) (instOf from)) r),
-            right-of (p .right) to (lt-of-le-of-lt zero-le (inside .some)) (and-r (fromEnd (p .left) (instOf (to - 1))) (beforeEnd (p .right) (instOf (to - 1))) last),
+            right-of (p .right) to (lt-of-le-of-lt zero-le (inside .some))
+                (and-r (fromEnd (p .left) (instOf (to - 1))) (beforeEnd (p .right) (instOf (to - 1))) last),
           )),
       (λ w. and-i (fromEnd (p .left) (instOf from)) (beforeEnd (p .right) (instOf from)) (of-left (p .left) from (w .0))
           (of-right (p .right) from to (inside .some) (w .1))),

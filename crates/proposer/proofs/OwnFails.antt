@@ -60,7 +60,9 @@ module _ (job : Job) (accepted : Accepted job) (best : ℕ) (h : best < length (
   one o = omega arith
 
   met-own : Weights (weightsIn (seenOfJob job best .met) (gapsIn (ownSpan (seenOfJob job best))))
-  met-own = met-weights seen (ownSpan seen) (λ g i. subst (λ (x : ℕ). Weights (seen .met x)) (sym (in-own g (seen .own) (i .0) (i .1))) (sound .met (seen .own) (sound .inside)))
+  met-own =
+      met-weights seen (ownSpan seen)
+      (λ g i. subst (λ (x : ℕ). Weights (seen .met x)) (sym (in-own g (seen .own) (i .0) (i .1))) (sound .met (seen .own) (sound .inside)))
 
   own-finite : Finite (ownNormalised job best)
   own-finite =
@@ -74,7 +76,8 @@ module _ (job : Job) (accepted : Accepted job) (best : ℕ) (h : best < length (
       few k h = omega (arith, h)
 
   -- the weight test of the own gap alone
-  own-test : weightTest (seenOfJob job best) (ownSpan (seenOfJob job best)) ≡ exceeds 2007 (ownNormalised job best) (heaviestIn (seenOfJob job best) (ownSpan (seenOfJob job best)))
+  own-test : weightTest (seenOfJob job best) (ownSpan (seenOfJob job best))
+      ≡ exceeds 2007 (ownNormalised job best) (heaviestIn (seenOfJob job best) (ownSpan (seenOfJob job best)))
   unfolding weightTest
   own-test = ap (λ (w : Float). exceeds 2007 (normalised w 1 (job .k)) (heaviestIn seen (ownSpan seen))) (own-weight job best)
 
@@ -87,13 +90,15 @@ module _ (job : Job) (accepted : Accepted job) (best : ℕ) (h : best < length (
         record {
           segment = m .segment;
           row = m .row;
-          is-among = at-best-exactly job best accepted h (m .segment) (m .weighs .meet .segment) .1 (m .is-among ∙ in-own (g .0) (seen .own) (g .1 .0) (g .1 .1));
+          is-among =
+              at-best-exactly job best accepted h (m .segment) (m .weighs .meet .segment) .1 (m .is-among ∙ in-own (g .0) (seen .own) (g .1 .0) (g .1 .1));
           weighs = m .weighs;
           has = m .has;
         }),
     (λ m. met-of-gap seen (ownSpan seen) (seen .own) w (le-refl (seen .own), one (seen .own))
         (subst (λ (g : ℕ). Among w (seen .met g)) (at-best-exactly job best accepted h (m .segment) (m .weighs .meet .segment) .0 (m .is-among))
-        (subst (λ (v : Float). Among v (seen .met (gapOfSegment job best (m .segment)))) (m .has) (gap-weighs job best accepted (m .segment) (m .row) (m .weighs))))),
+        (subst (λ (v : Float). Among v (seen .met (gapOfSegment job best (m .segment)))) (m .has)
+        (gap-weighs job best accepted (m .segment) (m .row) (m .weighs))))),
   )
 
   -- so for what counts as fixed
@@ -120,7 +125,8 @@ module _ (job : Job) (accepted : Accepted job) (best : ℕ) (h : best < length (
       let all = nothing-exactly seen in
       let test = heaviest-fails 2007 (lit≤ tt) (ownNormalised job best) (weightsIn (seen .met) (gapsIn (ownSpan seen))) own-finite met-own in (
         (λ e. ⊎-elim (λ f. inl (own-fixed .0 f))
-            (λ t. inr (⊎-elim (λ z. inl z) (λ w. inr (w .0, own-met (w .0) .0 (w .1), w .2)) (test .0 (subst (λ (b : Bool). T (not b)) own-test t)))) (all .0 e)),
+            (λ t. inr (⊎-elim (λ z. inl z) (λ w. inr (w .0, own-met (w .0) .0 (w .1), w .2))
+            (test .0 (subst (λ (b : Bool). T (not b)) own-test t)))) (all .0 e)),
         (λ c. all .1 (⊎-elim (λ m. inl (own-fixed .1 m))
             (λ t. inr (subst (λ (b : Bool). T (not b)) (sym own-test) (test .1 (⊎-elim (λ z. inl z) (λ w. inr (w .0, own-met (w .0) .1 (w .1), w .2)) t)))) c)),
       )

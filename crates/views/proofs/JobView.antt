@@ -184,7 +184,8 @@ module _ (job : Job) (best : ℕ) where
   unfolding fixedMet
   gap-fixed-by g f =
       let s = picked-some (fixed-one (registerOf job) (reservedOfJob job)) (ofGap columns g) (segmentIn columns) (columns .used) f in
-      let r = one-some (any-one (fixedAgainst (registerOf job) (job .fixedUses) (segmentOfJob job best (s .at)))) noReservation (job .reservations) (s .is .1) in
+      let r =
+      one-some (any-one (fixedAgainst (registerOf job) (job .fixedUses) (segmentOfJob job best (s .at)))) noReservation (job .reservations) (s .is .1) in
       record {
         segment = s .at;
         row = r .at;

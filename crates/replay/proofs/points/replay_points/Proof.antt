@@ -5,7 +5,8 @@ use Rattle.replay.proofs.points.replay_points.Statement.{statement}
 use Rattle.replay.proofs.points.replay_points.Tie as tie
 
 abbrev Inv-loop : tie.InvT-loop
-Inv-loop text records calls₀ agree₀ record₀ at₀ t8 calls agree «record» at = («record» ≤ records) × (records < 1000000) × (calls ≤ 1000000 * «record») × (agree ≤ 1000000 * «record»)
+Inv-loop text records calls₀ agree₀ record₀ at₀ t8 calls agree «record» at =
+    («record» ≤ records) × (records < 1000000) × (calls ≤ 1000000 * «record») × (agree ≤ 1000000 * «record»)
 
 abbrev μ-loop : tie.MeasureT-loop
 μ-loop text records calls₀ agree₀ record₀ at₀ t8 calls agree «record» at = records - «record»
