@@ -178,13 +178,13 @@ cases = caseA ++ others
 -- every case holds; the text is computed by itself, as it takes most steps
 sheet-read : answerOfText textOfA sheetRooms ≡ printedOfA
 unfolding textOfA printedOfA letter fields limit width position kindOf digitOrBlank digits field valueBehind value sameText isField fieldsText lineText line
-    linesText textFrom render linesOf areFields isLine kindOfLine latest ofKind isInOrder fault verdictBelow verdict numbers rowOf sheetOf column endText endsText
-    weightsText figuresText answerText figure unitsOf toBits firstBroken badParameters someLong badSizes isBad badBounds badList badDef badUse badEnd badSpan
-    badKind badFixedUse countBelow anyBelow bestUse useTable rowsFrom carries splitUse addedToRow partOf costOf frequencyAt firstInst lastInst valueOf ofBits
-    spillCost scaled firstBelow blockOf add sub mul round eq lt table gapsOf gapsBetween cuts cutGaps plus joined follow lowerLink isLower sumBelow overlapWith overlapsOf
-    anyOf meets countsAsFixed spillWeight ofRegister fixedAgainst weighsAgainst fixedMet weightsWhere weightsMet fixedMetAny weightsMetAll picked numbersFrom
-    weightTest passes sideOpen leftFirst sideTried came tryOn try growth grown splitCost endOf proposalWith regionOf normalised fraction exceeds
-    div ofInt weightsIn
+    linesText textFrom render linesOf areFields isLine kindOfLine latest ofKind isInOrder fault verdictBelow verdict numbers rowOf sheetOf column endText
+    endsText weightsText figuresText answerText figure unitsOf toBits firstBroken badParameters someLong badSizes isBad badBounds badList badDef badUse badEnd
+    badSpan badKind badFixedUse countBelow anyBelow bestUse useTable rowsFrom carries splitUse addedToRow partOf costOf frequencyAt firstInst lastInst valueOf
+    ofBits spillCost scaled firstBelow blockOf add sub mul round eq lt table gapsOf gapsBetween cuts cutGaps plus joined follow lowerLink isLower sumBelow
+    overlapWith overlapsOf anyOf meets countsAsFixed spillWeight ofRegister fixedAgainst weighsAgainst fixedMet weightsWhere weightsMet fixedMetAny
+    weightsMetAll picked numbersFrom weightTest passes sideOpen leftFirst sideTried came tryOn try growth grown splitCost endOf proposalWith regionOf
+    normalised fraction exceeds div ofInt weightsIn
 sheet-read = refl
 
 as-printed : (textOfA ≡ bytesOf sheetOfA) × (printedOfA ≡ bytesOf answerOfA)
@@ -192,12 +192,11 @@ unfolding textOfA printedOfA sheetOfA answerOfA bytes bytesOf
 as-printed = (refl, refl)
 
 others-hold : map (λ (c : Case). c .given) others ≡ map (λ (c : Case). c .said) others
-unfolding toBits firstBroken badParameters someLong badSizes isBad badBounds badList badDef badUse badEnd badSpan
-    badKind badFixedUse countBelow anyBelow bestUse useTable rowsFrom carries splitUse addedToRow partOf costOf frequencyAt firstInst lastInst valueOf ofBits
-    spillCost scaled firstBelow blockOf add sub mul round eq lt table gapsOf gapsBetween cuts cutGaps plus joined follow lowerLink isLower sumBelow overlapWith overlapsOf
-    anyOf meets countsAsFixed spillWeight ofRegister fixedAgainst weighsAgainst fixedMet weightsWhere weightsMet fixedMetAny weightsMetAll picked numbersFrom
-    weightTest passes sideOpen leftFirst sideTried came tryOn try growth grown splitCost endOf proposalWith regionOf normalised fraction exceeds
-    div ofInt weightsIn
+unfolding toBits firstBroken badParameters someLong badSizes isBad badBounds badList badDef badUse badEnd badSpan badKind badFixedUse countBelow anyBelow
+    bestUse useTable rowsFrom carries splitUse addedToRow partOf costOf frequencyAt firstInst lastInst valueOf ofBits spillCost scaled firstBelow blockOf add
+    sub mul round eq lt table gapsOf gapsBetween cuts cutGaps plus joined follow lowerLink isLower sumBelow overlapWith overlapsOf anyOf meets countsAsFixed
+    spillWeight ofRegister fixedAgainst weighsAgainst fixedMet weightsWhere weightsMet fixedMetAny weightsMetAll picked numbersFrom weightTest passes sideOpen
+    leftFirst sideTried came tryOn try growth grown splitCost endOf proposalWith regionOf normalised fraction exceeds div ofInt weightsIn
 others-hold = refl
 
 pub cases-hold : map (λ (c : Case). c .given) cases ≡ map (λ (c : Case). c .said) cases

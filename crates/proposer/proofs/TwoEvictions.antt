@@ -54,10 +54,10 @@ evicting = jobLikeA 0 (blocksOfA 1073741824) segmentOfA usesOfA (1056964608 ∷ 
 pub both-answered : (answerOf plain (enough plain) ≡ Found (boundless 1073741824 0))
     × (answerOf evicting (enough evicting) ≡ Found (boundless 1082130432 1056964608))
 unfolding toBits firstBroken badParameters someLong badSizes isBad badBounds badList badDef badUse badEnd badSpan badKind badFixedUse countBelow anyBelow
-    bestUse useTable rowsFrom carries splitUse addedToRow partOf costOf frequencyAt firstInst lastInst valueOf ofBits spillCost scaled firstBelow blockOf add sub mul
-    round eq lt table gapsOf gapsBetween cuts cutGaps plus joined follow lowerLink isLower sumBelow overlapWith overlapsOf anyOf meets countsAsFixed spillWeight
-    ofRegister fixedAgainst weighsAgainst fixedMet weightsWhere weightsMet fixedMetAny weightsMetAll picked numbersFrom weightTest passes sideOpen leftFirst
-    sideTried came tryOn try growth grown splitCost endOf proposalWith regionOf normalised fraction exceeds div ofInt weightsIn
+    bestUse useTable rowsFrom carries splitUse addedToRow partOf costOf frequencyAt firstInst lastInst valueOf ofBits spillCost scaled firstBelow blockOf add
+    sub mul round eq lt table gapsOf gapsBetween cuts cutGaps plus joined follow lowerLink isLower sumBelow overlapWith overlapsOf anyOf meets countsAsFixed
+    spillWeight ofRegister fixedAgainst weighsAgainst fixedMet weightsWhere weightsMet fixedMetAny weightsMetAll picked numbersFrom weightTest passes sideOpen
+    leftFirst sideTried came tryOn try growth grown splitCost endOf proposalWith regionOf normalised fraction exceeds div ofInt weightsIn
 both-answered = (refl, refl)
 
 abbrev pub first-answered : AnsweredJob
@@ -68,9 +68,9 @@ second-answered = record { job = evicting; rooms = enough evicting; proposal = b
 
 -- the second meets a reservation that carries the first one's normalised weight: the only row, by its second gap segment
 pub two-evictions : Evictions (map entryOf (first-answered ∷ second-answered ∷ []))
-unfolding toBits bestUse
-    useTable rowsFrom carries splitUse addedToRow partOf costOf frequencyAt firstInst lastInst valueOf ofBits spillCost scaled firstBelow blockOf add sub mul
-    round eq lt table gapsOf gapsBetween cuts cutGaps plus joined follow lowerLink isLower sumBelow overlapWith overlapsOf meets picked normalised div ofInt
+unfolding toBits bestUse useTable rowsFrom carries splitUse addedToRow partOf costOf frequencyAt firstInst lastInst valueOf ofBits spillCost scaled firstBelow
+    blockOf add sub mul round eq lt table gapsOf gapsBetween cuts cutGaps plus joined follow lowerLink isLower sumBelow overlapWith overlapsOf meets picked
+    normalised div ofInt
 two-evictions = (
   record {
     segment = 1;
