@@ -24,6 +24,12 @@ shortest-at-most (n ∷ m ∷ ns) (suc k) h = le-trans (second n (shortest (m �
     second : (a b : ℕ) → min a b ≤ b
     second a b = omega arith
 
+-- what stands past a column does not matter to its rows
+pub row-any : {A : Type 0} (xs : List A) (d e : A) (i : ℕ) → i < length xs → getD xs i d ≡ getD xs i e
+row-any [] d e i h = absurd (not-suc-le-zero h)
+row-any (x ∷ xs) d e zero h = refl
+row-any (x ∷ xs) d e (suc i) h = row-any xs d e i (omega (arith, h))
+
 module _ {A : Type 0} where
   pub table-length : (row : ℕ → A) (n : ℕ) → length (table row n) ≡ n
   unfolding table

@@ -35,12 +35,6 @@ tableOf : List BlockRow → List SplitUse → ℕ → List (List ℕ)
 unfolding gapsOf gapsBetween cuts cutGaps joined follow lowerLink isLower firstBelow blockOf frequencyAt valueOf ofBits lt
 tableOf blocks uses best = map shown (gapsOf blocks uses best)
 
--- document 01's case A: the best use's own gap, and the rest
-caseA-gaps : tableOf (record { frequency = 1065353216; first = 0; end = 4 } ∷ []) (row 0 1065353216 0 0 ∷ row 3 1065353216 0 0 ∷ []) 0
-    ≡ (0 ∷ 1 ∷ 1065353216 ∷ 1065353216 ∷ []) ∷ (1 ∷ 4 ∷ 1065353216 ∷ 1065353216 ∷ []) ∷ []
-unfolding tableOf shown row
-caseA-gaps = refl
-
 -- two cuts on the left, one on the right, where a right weight stands before the cut
 two-one : tableOf (record { frequency = 2; first = 0; end = 5 } ∷ record { frequency = 8388609; first = 5; end = 6 } ∷ record
     { frequency = 0; first = 6; end = 7 } ∷ record { frequency = 1065353216; first = 7; end = 12 } ∷ record { frequency = 2; first = 12; end = 17 } ∷ [])

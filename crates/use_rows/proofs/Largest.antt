@@ -19,12 +19,6 @@ use Rattle.use_rows.specs.Uses.{AllWeights, isLargest, bestUse}
 use Rattle.use_rows.specs.declared.row.BestUse.the-variants.{At, Nothing}
 use Rattle.columns.proofs.Tests.{cond-true, cond-false}
 
--- what stands past a column does not matter to its rows
-pub row-any : {A : Type 0} (xs : List A) (d e : A) (i : ℕ) → i < length xs → getD xs i d ≡ getD xs i e
-row-any [] d e i h = absurd (not-suc-le-zero h)
-row-any (x ∷ xs) d e zero h = refl
-row-any (x ∷ xs) d e (suc i) h = row-any xs d e i (omega (arith, h))
-
 -- rows that are weights are a list of weights
 pub weights-of : (ws : List Float) → AllWeights ws → Weights ws
 weights-of [] p = tt

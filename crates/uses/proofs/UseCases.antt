@@ -1,4 +1,4 @@
--- Use tables that the definition gives, by computation: document 01's case A, and answers of the Rust
+-- Use tables that the definition gives, by computation: answers of the Rust
 use mathlib.Core.Path.{_≡_, refl}
 use Prim.Native.Nat.{ℕ}
 use mathlib.Core.List.{List, [], _∷_, map}
@@ -19,28 +19,6 @@ tableOf : Source → List (List ℕ)
 unfolding useTable rowsFrom carries splitUse addedToRow partOf costOf frequencyAt firstInst lastInst valueOf ofBits spillCost scaled firstBelow blockOf add sub
     mul round eq
 tableOf job = map shown (useTableOf job)
-
--- document 01's case A
-caseA : Source
-unfolding valueOf ofBits
-caseA =
-    record {
-      uses = record { position = 0; kind = 5; cost = 1065353216 } ∷ record { position = 3; kind = 4; cost = 1065353216 } ∷ [];
-      segments = record { start = 2; end = 14; value = 0; «first_use» = 0; «end_use» = 2; flags = 0 } ∷ [];
-      codes = 0 ∷ [];
-      scales =
-          record {
-            «cheaper_than_move» = valueOf costLimit 1065353216;
-            «cheaper_than_load» = valueOf costLimit 1065353216;
-            indirect =
-                valueOf costLimit 1065353216;
-          };
-      blocks = record { frequency = 1065353216; first = 0; end = 4 } ∷ [];
-    }
-
-caseA-table : tableOf caseA ≡ (0 ∷ 1065353216 ∷ 0 ∷ 0 ∷ []) ∷ (3 ∷ 1065353216 ∷ 0 ∷ 0 ∷ []) ∷ []
-unfolding tableOf shown caseA
-caseA-table = refl
 
 -- a fixed def goes before the row of a use at the end of the segment before; left and right weights
 unfoldable pub between : Source

@@ -2,7 +2,7 @@
 use mathlib.Core.Path.{_≡_, refl, sym, ap, _∙_}
 use lib.Ieee.{nan, binary32, toBits}
 use lib.ListN.{List·getD-eq-default}
-use Rattle.use_rows.proofs.Largest.{row-any}
+use Rattle.columns.proofs.Tables.{row-any}
 use Rattle.numbers.specs.Weight.{zeroWeight}
 use borrow.Author.Needs.{needs}
 use Rattle.answers.proofs.rows.bits_at.Statement.{statement}

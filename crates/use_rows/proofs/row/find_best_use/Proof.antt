@@ -8,7 +8,8 @@ use borrow.Author.Needs.{needs}
 use lib.Ieee.{lt, ofBits, nan}
 use lib.ListN.{length, getD}
 use Rattle.numbers.specs.Weight.{zeroWeight}
-use Rattle.use_rows.proofs.Largest.{row-any, Largest, largest-none, largest-as, largest-new, largest-same, best-short}
+use Rattle.columns.proofs.Tables.{row-any}
+use Rattle.use_rows.proofs.Largest.{Largest, largest-none, largest-as, largest-new, largest-same, best-short}
 use Rattle.use_rows.proofs.Largest.{best-found, best-none}
 use Rattle.use_rows.proofs.row.find_best_use.Statement.{statement}
 use Rattle.use_rows.proofs.row.find_best_use.Tie as tie

@@ -2,7 +2,7 @@
 use mathlib.Core.Path.{ap, ap₂, _∙_}
 use lib.Ieee.{Float, nan}
 use Rattle.numbers.specs.Weight.{zeroWeight}
-use Rattle.use_rows.proofs.Largest.{row-any}
+use Rattle.columns.proofs.Tables.{row-any}
 use lib.ListN.{getD}
 use borrow.Author.Needs.{needs}
 use Rattle.use_rows.proofs.row.use_at.Statement.{statement}
