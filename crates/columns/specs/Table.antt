@@ -33,3 +33,8 @@ anyOf test (x ∷ xs) = test x || anyOf test xs
 unfoldable pub storedIn : {A C : Type 0} → (A → C → C) → List A → C → C
 storedIn step [] c = c
 storedIn step (r ∷ rows) c = storedIn step rows (step r c)
+
+-- something holds of each item of a list
+abbrev pub Each : {A : Type 0} → (A → Type 0) → List A → Type 0
+Each P [] = Unit {0}
+Each P (x ∷ xs) = P x × Each P xs

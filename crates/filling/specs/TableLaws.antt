@@ -12,7 +12,8 @@ use Rattle.use_rows.specs.Uses.{Source, firstInst, lastInst}
 use Rattle.overlaps.specs.Live.{liveInsts, covered, coveredIn}
 use Rattle.overlaps.specs.GapSegments.{AllOverlaps}
 use Rattle.gaps.specs.Gaps.{useOf, initialGap}
-use Rattle.gaps.specs.Laws.{Run, Each, Least, placed, counted}
+use Rattle.columns.specs.Table.{Each}
+use Rattle.gaps.specs.Laws.{Run, Least, placed, rowMeasure}
 use Rattle.filling.specs.GapTables.{fromsOf, tosOf}
 use Rattle.filling.specs.SourceTables.{freqsOf, startsOf, stopsOf, valuesOf, Tables}
 
@@ -32,7 +33,7 @@ pub record TableLaws (source : Source) (best : ℕ) (t : Tables) : Type 0 where
   pub least : Each (Least (source .blocks)) (t .gaps)
   -- each counted left, main and right weight is placed in one gap: whatever measures weights, with nothing for zero, measures as much in the
   -- gaps as in all rows of the use table
-  pub weights : (f : Float → ℕ) → f zeroWeight ≡ 0 → placed f (t .gaps) ≡ sumBelow (λ (k : ℕ). counted f (useOf (t .uses) k)) (length (t .uses))
+  pub weights : (f : Float → ℕ) → f zeroWeight ≡ 0 → placed f (t .gaps) ≡ sumBelow (λ (k : ℕ). rowMeasure f (useOf (t .uses) k)) (length (t .uses))
   -- a gap's live instructions are those of its instructions that some segment covers
   pub live : (g : ℕ) → g < length (t .gaps) → getD (t .lives) g 0
       ≡ coveredIn (startsOf source) (stopsOf source) (getD (fromsOf (t .gaps)) g 0) (getD (tosOf (t .gaps)) g 0)

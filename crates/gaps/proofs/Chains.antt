@@ -29,7 +29,8 @@ use Rattle.links.proofs.Columns.{last-end}
 use Rattle.use_rows.specs.Uses.{frequencyAt}
 use Rattle.use_rows.specs.declared.row.SplitUse.{SplitUse}
 use Rattle.gaps.specs.Gaps.{Gap, near, far, nearWeight, farWeights, farEnd, spanned, inOrder, cutGaps, frequencyOf, cuts, gapsBetween, ownGap}
-use Rattle.gaps.specs.Laws.{Run, Each, Least}
+use Rattle.columns.specs.Table.{Each}
+use Rattle.gaps.specs.Laws.{Run, Least}
 use Rattle.gaps.proofs.Cuts.{and-parts, all-enough}
 use Rattle.gaps.proofs.Spaces.{cut-gaps-length}
 use Rattle.gaps.proofs.Homes.{Home, home-of, home-only, homes-rise, At, at-home, at-edge, at-beyond, home-block, target-block, at-start, start-beyond}

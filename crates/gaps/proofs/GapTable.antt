@@ -13,7 +13,8 @@ use Rattle.links.specs.declared.lower.Side.the-variants.{Previous, Next}
 use Rattle.columns.specs.Below.{joined}
 use Rattle.use_rows.specs.declared.row.SplitUse.{SplitUse}
 use Rattle.gaps.specs.Gaps.{Gap, gapsBetween, ownGap, useOf, gapsOn, gapsOf}
-use Rattle.gaps.specs.Laws.{Run, Each, Least}
+use Rattle.columns.specs.Table.{Each}
+use Rattle.gaps.specs.Laws.{Run, Least}
 use Rattle.gaps.proofs.Homes.{home-of}
 use Rattle.gaps.proofs.Runs.{run-append, run-joined, fromsOf, tosOf, run-gaps}
 use Rattle.gaps.proofs.Chains.{each-append, between-run, between-least, between-few, own-least}

@@ -17,7 +17,7 @@ use Rattle.use_rows.specs.declared.row.SplitUse.{SplitUse}
 use Rattle.gaps.specs.Gaps.{Gap, gapWeight, near, far, nearWeight, farWeights, farEnd, spanned, cutGaps, frequencyOf, cuts, gapsBetween, ownGap, useOf}
 use Rattle.gaps.specs.Gaps.{gapsOn, gapsOf}
 use Rattle.numbers.specs.Sum.{plus}
-use Rattle.gaps.specs.Laws.{Each}
+use Rattle.columns.specs.Table.{Each}
 use Rattle.gaps.proofs.Chains.{each-append, each-in-order}
 use Rattle.gaps.proofs.GapTable.{each-joined}
 

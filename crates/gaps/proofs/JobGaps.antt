@@ -7,7 +7,7 @@ use lib.Ieee.{Float}
 use lib.ListN.{length, getD, length-map}
 use Rattle.numbers.specs.Weight.{zeroWeight}
 use Rattle.numbers.specs.Point.{instOf, roundUp}
-use Rattle.columns.specs.Table.{table, rowBefore}
+use Rattle.columns.specs.Table.{table, rowBefore, Each}
 use Rattle.links.specs.Blocks.{BlockRow, blocksOf, startOf, SoundBlocks, SoundColumns}
 use Rattle.links.specs.Links.{linkColumn}
 use Rattle.links.specs.declared.lower.Side.the-variants.{Previous, Next}
@@ -24,7 +24,7 @@ use Rattle.uses.proofs.CheckedJob.{first-covers, last-covers}
 use Rattle.uses.proofs.EdgeWeights.{first-no-left, last-no-right}
 use Rattle.overlaps.proofs.LiveTotal.{live-total}
 use Rattle.gaps.specs.Gaps.{Gap, useOf, gapsOf, usesIn, Cuttable}
-use Rattle.gaps.specs.Laws.{Run, Each, Least, placed, counted}
+use Rattle.gaps.specs.Laws.{Run, Least, placed, rowMeasure}
 use Rattle.gaps.proofs.Placed.{all-weights-once}
 use Rattle.gaps.proofs.Runs.{fromsOf, tosOf, run-first, run-last}
 use Rattle.gaps.proofs.GapTable.{Rising, gaps-run, gaps-least, gaps-few, gaps-some, gaps-tile}
@@ -119,7 +119,7 @@ module _ (job : Source) (checked : CheckedUses job) (sound : SoundBlocks (job .b
     -- each counted weight stands in exactly one of them: whatever measures weights, with nothing for zero, measures as much in the gaps as in
     -- all rows of the use table
     pub job-weights-once : (f : Float → ℕ) → f zeroWeight ≡ 0
-        → placed f (gapsOf (job .blocks) (useTableOf job) best) ≡ sumBelow (λ (k : ℕ). counted f (useOf (useTableOf job) k)) (length (useTableOf job))
+        → placed f (gapsOf (job .blocks) (useTableOf job) best) ≡ sumBelow (λ (k : ℕ). rowMeasure f (useOf (useTableOf job) k)) (length (useTableOf job))
     job-weights-once f none =
         all-weights-once f none (job .blocks) uses best h (ap f (first-no-left job checked) ∙ none) (ap f (last-no-right job checked) ∙ none)
 

@@ -15,7 +15,7 @@ use Rattle.columns.specs.Below.{sumBelow, joined}
 use Rattle.use_rows.specs.declared.row.SplitUse.{SplitUse}
 use Rattle.gaps.specs.Gaps.{Gap, near, far, nearWeight, farWeights, farEnd, spanned, inOrder, cutGaps, frequencyOf, cuts, gapsBetween, ownGap, useOf}
 use Rattle.gaps.specs.Gaps.{gapsOn, gapsOf}
-use Rattle.gaps.specs.Laws.{measure, placed, counted}
+use Rattle.gaps.specs.Laws.{measure, placed, rowMeasure}
 
 module _ (f : Float → ℕ) where
   -- of n uses from the i-th on
@@ -126,18 +126,18 @@ module _ (f : Float → ℕ) where
 
       -- all rows: the first one's left weight and the last one's right weight stand in no gap
       rows-once : (m : ℕ) → sumBelow beside m + sumBelow main (suc m) + f (useOf uses 0 .«left_weight») + f (useOf uses m .«right_weight»)
-          ≡ sumBelow (λ (k : ℕ). counted f (useOf uses k)) (suc m)
+          ≡ sumBelow (λ (k : ℕ). rowMeasure f (useOf uses k)) (suc m)
       unfolding sumBelow
       rows-once zero = omega arith
       rows-once (suc m) = let r = rows-once m in let e = ap (λ (k : ℕ). f (useOf uses k .«left_weight»)) (add-one m) in omega (arith, r, e)
 
       pub all-weights-once : (best : ℕ) → best < length uses
           → f (useOf uses 0 .«left_weight») ≡ 0 → f (useOf uses (length uses - 1) .«right_weight») ≡ 0
-          → placed f (gapsOf blocks uses best) ≡ sumBelow (λ (k : ℕ). counted f (useOf uses k)) (length uses)
+          → placed f (gapsOf blocks uses best) ≡ sumBelow (λ (k : ℕ). rowMeasure f (useOf uses k)) (length uses)
       all-weights-once best h first last =
           let w = weights-once best h in
           let r = rows-once (length uses - 1) in
           let one : suc (length uses - 1) ≡ length uses = omega (arith, h) in
           let a = ap (sumBelow main) one in
-          let b = ap (sumBelow (λ (k : ℕ). counted f (useOf uses k))) one in
+          let b = ap (sumBelow (λ (k : ℕ). rowMeasure f (useOf uses k))) one in
           omega (arith, w, r, a, b, first, last)

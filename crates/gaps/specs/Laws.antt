@@ -14,11 +14,6 @@ abbrev pub Run : ℕ → ℕ → List Gap → Type 0
 Run lo hi [] = lo ≡ hi
 Run lo hi (g ∷ gs) = (g .from ≡ lo) × (g .from < g .to) × Run (g .to) hi gs
 
--- something holds of each gap
-abbrev pub Each : (Gap → Type 0) → List Gap → Type 0
-Each P [] = Unit {0}
-Each P (g ∷ gs) = P g × Each P gs
-
 -- a gap's frequency is the least among the blocks it meets: none is lower, and it is that of one of them
 pub record Least (blocks : List BlockRow) (g : Gap) : Type 0 where
   pub least : (i : ℕ) → g .from ≤ i → i < g .to → lt (frequencyAt blocks i) (g .freq) ≡ false
@@ -35,5 +30,5 @@ abbrev pub placed : (Float → ℕ) → List Gap → ℕ
 placed f [] = 0
 placed f (g ∷ gs) = measure f (g .weights) + placed f gs
 
-abbrev pub counted : (Float → ℕ) → SplitUse → ℕ
-counted f u = f (u .«left_weight») + f (u .weight) + f (u .«right_weight»)
+abbrev pub rowMeasure : (Float → ℕ) → SplitUse → ℕ
+rowMeasure f u = f (u .«left_weight») + f (u .weight) + f (u .«right_weight»)

@@ -10,6 +10,7 @@ use lib.Dec.{T, lit<, lit≤}
 use lib.Pow.{pow-pos}
 use lib.Ieee.{Float, nan, binary32, mul, ofBits, toBits}
 use lib.ListN.{length, getD}
+use Rattle.columns.specs.Table.{Each}
 use Rattle.numbers.specs.Weight.{Finite, Weight, finite, unitsOf, infiniteUnits, weightLimit, valueOf, heaviest, Weights, Among}
 use Rattle.numbers.specs.Normal.{fraction, exceeds}
 use Rattle.numbers.specs.Chain.{Chain, ChainFrom, longest}
@@ -23,7 +24,7 @@ use Rattle.numbers.proofs.Chain.{chain-rises, chain-few}
 use Rattle.growth.specs.Growth.{GapsSeen, ownSpan, passes, growth, weightsIn}
 use Rattle.growth.specs.Proposal.{proposalWith, proposalOf}
 use Rattle.growth.specs.Demand.{SoundGaps}
-use Rattle.growth.specs.Evictions.{Promise, Kept, MeetsCarrier, EvictsAfter, Evicts, Each, EachAfter, member, EvictionsEnd, promiseOf, Given, AfterTries}
+use Rattle.growth.specs.Evictions.{Promise, Kept, MeetsCarrier, EvictsAfter, Evicts, EachAfter, member, EvictionsEnd, promiseOf, Given, AfterTries}
 use Rattle.growth.specs.Evictions.{IsFound, promised}
 use Rattle.growth.specs.declared.proposal.SplitProposal.{SplitProposal}
 use Rattle.growth.proofs.Proposals.{growth-met, early-demand3, found-own-passes, found-is-grown}

@@ -5,6 +5,7 @@ use mathlib.Core.List.{List, [], _∷_}
 use lib.Dec.{T}
 use lib.Ieee.{Float, binary32, toBits}
 use lib.ListN.{length, getD}
+use Rattle.columns.specs.Table.{Each}
 use Rattle.numbers.specs.Weight.{Finite, unitsOf, zeroWeight, heaviest, Weights, Among}
 use Rattle.numbers.specs.Normal.{normalised, exceeds}
 use Rattle.numbers.specs.Chain.{longest}
@@ -42,11 +43,6 @@ EvictsAfter p (q ∷ qs) = MeetsCarrier q (p .weight) × EvictsAfter q qs
 abbrev pub Evicts : List Promise → Type 0
 Evicts [] = Unit {0}
 Evicts (p ∷ ps) = EvictsAfter p ps
-
--- each member of a list
-abbrev pub Each : {A : Type 0} → (A → Type 0) → List A → Type 0
-Each P [] = Unit {0}
-Each P (x ∷ xs) = P x × Each P xs
 
 -- each member after the first
 abbrev pub EachAfter : {A : Type 0} → (A → Type 0) → List A → Type 0

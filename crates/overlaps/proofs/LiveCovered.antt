@@ -16,7 +16,7 @@ use Rattle.columns.specs.Below.{countBelow, sumBelow, anyBelow}
 use Rattle.columns.proofs.Firsts.{split}
 use Rattle.columns.proofs.Tests.{test-same, or-T, and-T}
 use Rattle.columns.proofs.Counting.{count-never, count-alike, count-span, any-elim, any-hit}
-use Rattle.overlaps.specs.Live.{liveFrom, liveTo, liveOf, liveInsts, liveAdded, liveInGap, covers, covered, coveredIn, Segments}
+use Rattle.overlaps.specs.Live.{liveFrom, liveTo, liveOf, liveInsts, liveAdded, liveInGap, coversInst, covered, coveredIn, Segments}
 use Rattle.overlaps.proofs.LiveTotal.{sum-same}
 
 module _ (starts ends : List ℕ) (given : Segments starts ends) where
@@ -28,12 +28,12 @@ module _ (starts ends : List ℕ) (given : Segments starts ends) where
 
   -- one of the first m segments covers an instruction
   abbrev coveredBy : ℕ → ℕ → Bool
-  coveredBy m i = anyBelow (covers starts ends i) m
+  coveredBy m i = anyBelow (coversInst starts ends i) m
 
-  covers-in : (i s : ℕ) → start s < 4 * (i + 1) → 4 * i < end s → T (covers starts ends i s)
+  covers-in : (i s : ℕ) → start s < 4 * (i + 1) → 4 * i < end s → T (coversInst starts ends i s)
   covers-in i s p q = rw (lt-ltb (start s) (4 * (i + 1)) p, lt-ltb (4 * i) (end s) q) tt
 
-  covers-out : (i s : ℕ) → T (covers starts ends i s) → (start s < 4 * (i + 1)) × (4 * i < end s)
+  covers-out : (i s : ℕ) → T (coversInst starts ends i s) → (start s < 4 * (i + 1)) × (4 * i < end s)
   covers-out i s t =
       let b = and-T (ltb (start s) (4 * (i + 1))) (ltb (4 * i) (end s)) .0 t in
       (ltb→lt (start s) (4 * (i + 1)) (b .0), ltb→lt (4 * i) (end s) (b .1))
@@ -53,15 +53,15 @@ module _ (starts ends : List ℕ) (given : Segments starts ends) where
   shared (suc m) h i p q =
       let a = given .after (suc m) h in
       let n = given .nonempty m (omega (arith, h)) in
-      any-hit (covers starts ends i) (suc m) m (le-refl (suc m)) (covers-in i m (omega (arith, p, a, n)) (omega (arith, q)))
+      any-hit (coversInst starts ends i) (suc m) m (le-refl (suc m)) (covers-in i m (omega (arith, p, a, n)) (omega (arith, q)))
 
   -- what the next segment adds
   module _ (m : ℕ) (h : m < length starts) where
-    kept : (i : ℕ) → (T (covers starts ends i m) → T (coveredBy m i)) → coveredBy (suc m) i ≡ coveredBy m i
+    kept : (i : ℕ) → (T (coversInst starts ends i m) → T (coveredBy m i)) → coveredBy (suc m) i ≡ coveredBy m i
     unfolding anyBelow
     kept i f =
-        test-same (coveredBy m i || covers starts ends i m) (coveredBy m i) (λ t. ⊎-elim (λ a. a) f (or-T (coveredBy m i) (covers starts ends i m) .0 t))
-        (λ t. or-T (coveredBy m i) (covers starts ends i m) .1 (inl t))
+        test-same (coveredBy m i || coversInst starts ends i m) (coveredBy m i) (λ t. ⊎-elim (λ a. a) f (or-T (coveredBy m i) (coversInst starts ends i m) .0 t))
+        (λ t. or-T (coveredBy m i) (coversInst starts ends i m) .1 (inl t))
 
     low : (i : ℕ) → i < liveFrom starts ends m → coveredBy (suc m) i ≡ coveredBy m i
     low i l = kept i (λ t. let c = covers-out i m t in let p = c .0 in shared m h i p (omega (arith, l, p)))
@@ -71,9 +71,9 @@ module _ (starts ends : List ℕ) (given : Segments starts ends) where
 
     within : (i : ℕ) → liveFrom starts ends m ≤ i → i < liveTo ends m → (coveredBy m i ≡ false) × (coveredBy (suc m) i ≡ true)
     within i l u = (
-      is-false (coveredBy m i) (not-T (coveredBy m i) (any-elim (covers starts ends i) m
+      is-false (coveredBy m i) (not-T (coveredBy m i) (any-elim (coversInst starts ends i) m
           (λ k n t. let q = covers-out i k t .1 in let r = ends-rise m k n (omega (arith, h)) in omega (arith, l, q, r)))),
-      is-true (coveredBy (suc m) i) (any-hit (covers starts ends i) (suc m) m (le-refl (suc m)) (covers-in i m (omega (arith, l)) (omega (arith, u)))),
+      is-true (coveredBy (suc m) i) (any-hit (coversInst starts ends i) (suc m) m (le-refl (suc m)) (covers-in i m (omega (arith, l)) (omega (arith, u)))),
     )
 
   -- of a gap: its instructions that some segment covers

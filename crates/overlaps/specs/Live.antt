@@ -27,12 +27,12 @@ abbrev pub liveInsts : List ℕ → List ℕ → ℕ
 liveInsts starts ends = sumBelow (liveOf starts ends) (length starts)
 
 -- segment s covers instruction i: points of it lie from 4i to before 4(i + 1)
-abbrev pub covers : List ℕ → List ℕ → ℕ → ℕ → Bool
-covers starts ends i s = ltb (getD starts s 0) (4 * (i + 1)) && ltb (4 * i) (getD ends s 0)
+abbrev pub coversInst : List ℕ → List ℕ → ℕ → ℕ → Bool
+coversInst starts ends i s = ltb (getD starts s 0) (4 * (i + 1)) && ltb (4 * i) (getD ends s 0)
 
 -- some segment covers it
 abbrev pub covered : List ℕ → List ℕ → ℕ → Bool
-covered starts ends i = anyBelow (covers starts ends i) (length starts)
+covered starts ends i = anyBelow (coversInst starts ends i) (length starts)
 
 -- how many of the instructions from one to before another some segment covers
 abbrev pub coveredIn : List ℕ → List ℕ → ℕ → ℕ → ℕ

@@ -19,7 +19,7 @@ use Rattle.filling.specs.SourceTables.{tablesOfBest}
 use Rattle.filling.specs.TableLaws.{TableLaws}
 use Rattle.filling.proofs.TableLaws.{table-laws}
 use Rattle.growth.specs.Proposal.{regionOf}
-use Rattle.growth.specs.Evictions.{Each}
+use Rattle.columns.specs.Table.{Each}
 use Rattle.growth.specs.declared.proposal.SplitProposal.{SplitProposal}
 use Rattle.growth.specs.declared.proposal.Region.{Region}
 use Rattle.growth.specs.declared.proposal.Region.the-variants as Region·is

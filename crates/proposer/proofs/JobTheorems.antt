@@ -29,7 +29,8 @@ use Rattle.filling.specs.GapTables.{fromsOf, tosOf}
 use Rattle.growth.specs.Growth.{GapsSeen, Span, ownSpan, weightsIn, heaviestIn, usedUp, growth, endOfGrowth}
 use Rattle.growth.specs.Proposal.{regionOf, fromEnd, beforeEnd, covers, gapsCovered}
 use Rattle.growth.specs.Demand.{Around, Ended, In, FailedBefore, MeetsFixed, SoundGaps, Demand3, sumOver, addedTo, gapsBeside, gapsGrown}
-use Rattle.growth.specs.Evictions.{Promise, Each, EachAfter, EvictsAfter, Evicts, EvictionsEnd, MeetsCarrier, member, promiseOf, Given, IsFound, promised}
+use Rattle.columns.specs.Table.{Each}
+use Rattle.growth.specs.Evictions.{Promise, EachAfter, EvictsAfter, Evicts, EvictionsEnd, MeetsCarrier, member, promiseOf, Given, IsFound, promised}
 use Rattle.growth.specs.declared.proposal.SplitProposal.{SplitProposal}
 use Rattle.growth.specs.declared.proposal.Region.the-variants as Region·is
 use Rattle.growth.proofs.Tries.{ends-once}

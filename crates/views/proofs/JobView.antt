@@ -19,7 +19,7 @@ use Rattle.links.specs.Blocks.{endLimit}
 use Rattle.columns.proofs.Firsts.{split}
 use Rattle.columns.proofs.Tables.{table-length}
 use Rattle.jobs.specs.Rows.{noReservation}
-use Rattle.columns.specs.Table.{rowBefore}
+use Rattle.columns.specs.Table.{rowBefore, Each}
 use Rattle.use_rows.specs.Uses.{Source, AllWeights, noWeights}
 use Rattle.columns.specs.Below.{sumBelow}
 use Rattle.overlaps.specs.Live.{liveInGap, Gaps}
@@ -32,7 +32,6 @@ use Rattle.jobs.specs.Lines.{badSpan}
 use Rattle.walks.specs.Gaps.{segmentIn, ofGap, segmentsOfGap}
 use Rattle.walks.proofs.Sets.{where-one, fixed-one, weight-one, all-weights}
 use Rattle.gaps.specs.Gaps.{Gap, gapWeight, useOf, gapsOn, gapsOf, ownGap, initialGap}
-use Rattle.gaps.specs.Laws.{Each}
 use Rattle.gaps.proofs.GapWeights.{Weighed, Weighty, gaps-weighed}
 use Rattle.links.specs.declared.lower.Side.the-variants.{Previous, Next}
 use Rattle.filling.specs.GapTables.{fromsOf, tosOf}

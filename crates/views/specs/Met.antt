@@ -31,19 +31,19 @@ abbrev pub reservationOf : Job → ℕ → Reservation
 reservationOf job i = getD (job .reservations) i noReservation
 
 -- gap segment k meets reservation i of a job: they overlap
-pub record Meets (job : Job) (best k i : ℕ) : Type 0 where
+pub record RowMeets (job : Job) (best k i : ℕ) : Type 0 where
   pub segment : k < length (segmentsOfJob job best)
   pub row : i < length (job .reservations)
   pub overlap : T (meets (segmentOfJob job best k) (reservationOf job i))
 
 -- they meet, and the reservation is kind 0: its weight counts
 pub record Weighs (job : Job) (best k i : ℕ) : Type 0 where
-  pub meet : Meets job best k i
+  pub meet : RowMeets job best k i
   pub kind : reservationOf job i .kind ≡ 0
 
 -- they meet, and the reservation counts as fixed
 pub record CountsAsFixed (job : Job) (best k i : ℕ) : Type 0 where
-  pub meet : Meets job best k i
+  pub meet : RowMeets job best k i
   pub fixed : T (countsAsFixed (job .fixedUses) (segmentOfJob job best k) (reservationOf job i))
 
 -- of some gap segments one meets a reservation that counts as fixed
