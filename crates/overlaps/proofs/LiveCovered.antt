@@ -60,7 +60,8 @@ module _ (starts ends : List ℕ) (given : Segments starts ends) where
     kept : (i : ℕ) → (T (coversInst starts ends i m) → T (coveredBy m i)) → coveredBy (suc m) i ≡ coveredBy m i
     unfolding anyBelow
     kept i f =
-        test-same (coveredBy m i || coversInst starts ends i m) (coveredBy m i) (λ t. ⊎-elim (λ a. a) f (or-T (coveredBy m i) (coversInst starts ends i m) .0 t))
+        test-same (coveredBy m i || coversInst starts ends i m) (coveredBy m i)
+        (λ t. ⊎-elim (λ a. a) f (or-T (coveredBy m i) (coversInst starts ends i m) .0 t))
         (λ t. or-T (coveredBy m i) (coversInst starts ends i m) .1 (inl t))
 
     low : (i : ℕ) → i < liveFrom starts ends m → coveredBy (suc m) i ≡ coveredBy m i
