@@ -66,19 +66,6 @@ pub record IsAnswered (text cells cells-now : List ℕ) (lent now : WorkColumns)
   pub segments : r .«gap_segments» ≡ length (tablesOfText cells text (roomsOf lent) .segments)
   pub tables : FilledBy (tablesOfText cells text (roomsOf lent)) lent now
 
--- ---- for contracts of private functions
--- a text was not read
-abbrev pub isUnread : Verdict → Bool
-isUnread Verdict·is.Sound = false
-isUnread (Verdict·is.Refused number line) = true
-isUnread Verdict·is.NoRoom = true
-
--- what is written where no text was read
-abbrev pub Unread : Verdict → List ℕ → List ℕ → Written → Type 0
-Unread (Verdict·is.Refused number line) out out-now w = Wrote (answerText (Shown·is.Refused number line)) out out-now w
-Unread Verdict·is.Sound out out-now w = (w ≡ Written·is.NoRoom) × (out-now ≡ out)
-Unread Verdict·is.NoRoom out out-now w = (w ≡ Written·is.NoRoom) × (out-now ≡ out)
-
 -- how many links are filled: one a block, and none where the job is refused
 abbrev pub linksUsed : Answer → ℕ → ℕ
 linksUsed (Answer·is.Refused r) blocks = 0
@@ -93,3 +80,16 @@ pub record IsShown (p : Proposed) (k blocks : ℕ) (out out-now : List ℕ) (r :
   pub uses : r .uses ≡ p .uses
   pub gaps : r .gaps ≡ p .gaps
   pub segments : r .«gap_segments» ≡ p .«gap_segments»
+
+-- ---- for contracts of private functions
+-- a text was not read
+abbrev pub isUnread : Verdict → Bool
+isUnread Verdict·is.Sound = false
+isUnread (Verdict·is.Refused number line) = true
+isUnread Verdict·is.NoRoom = true
+
+-- what is written where no text was read
+abbrev pub Unread : Verdict → List ℕ → List ℕ → Written → Type 0
+Unread (Verdict·is.Refused number line) out out-now w = Wrote (answerText (Shown·is.Refused number line)) out out-now w
+Unread Verdict·is.Sound out out-now w = (w ≡ Written·is.NoRoom) × (out-now ≡ out)
+Unread Verdict·is.NoRoom out out-now w = (w ≡ Written·is.NoRoom) × (out-now ≡ out)

@@ -1,8 +1,9 @@
 // What a job is answered, in the figures of its text.
 ghost use mathlib.Core.Path.{_≡_};
+ghost use lib.Ieee.{binary32, toBits};
 ghost use Rattle.outcome.specs.declared.grow.Answer.the-variants.{Found};
 ghost use Rattle.sheet.specs.declared.write.Answer.the-variants.{Proposal};
-ghost use Rattle.figures.specs.Figures.{endShown, shownOf};
+ghost use Rattle.figures.specs.Figures.{endShown, thousandths, shownOf};
 use growth::proposal::SplitProposal;
 use numbers::MaybeInst;
 use numbers::normal::h_figure;
@@ -22,6 +23,13 @@ fn end_shown(e: MaybeInst) -> End
     End::At(i.0)
 }
 
+// The H figure of a use weight over so many instructions.
+fn thousandths_of(use_weight: f32, live_insts: u32, k: u32) -> u32
+    ensures { λ r. ⌜ r ≡ thousandths (toBits binary32 «use_weight») «live_insts» k ⌝ }
+{
+    h_figure(normalize_spill_weight(use_weight, live_insts, k))
+}
+
 // A proposal, and its normalised use weight in thousandths.
 fn figures_of(p: SplitProposal, k: u32) -> Figures
     ensures { λ r. ⌜ Proposal r ≡ shownOf k (Found p) ⌝ }
@@ -35,7 +43,7 @@ fn figures_of(p: SplitProposal, k: u32) -> Figures
         live_insts: p.live_insts,
         interference_weight: bits_of(p.interference_weight),
         split_cost: bits_of(p.split_cost),
-        thousandths: h_figure(normalize_spill_weight(p.use_weight, p.live_insts, k)),
+        thousandths: thousandths_of(p.use_weight, p.live_insts, k),
     }
 }
 

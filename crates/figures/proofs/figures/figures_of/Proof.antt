@@ -1,6 +1,4 @@
 -- `figures_of` answers each field
-use mathlib.Core.Path.{ap, _∙_}
-use Rattle.numbers.specs.Figure.{figure}
 use Rattle.sheet.specs.declared.write.Answer.the-variants.{Proposal}
 use borrow.Author.Needs.{needs}
 use Rattle.figures.proofs.figures.figures_of.Statement.{statement}
@@ -21,22 +19,19 @@ bits-of-requires-2 c κs = search needs
 bits-of-requires-3 : tie.Need-bits-of-requires-3
 bits-of-requires-3 c κs = search needs
 
-normalize-spill-weight-requires : tie.Need-normalize-spill-weight-requires
-normalize-spill-weight-requires c κs = search needs
-
-h-figure-requires : tie.Need-h-figure-requires
-h-figure-requires c κs = search needs
+thousandths-of-requires : tie.Need-thousandths-of-requires
+thousandths-of-requires c κs = search needs
 
 returns : tie.Need-returns
 returns c =
     λ i. Proposal (record {
-      left = c .before .before .before .before .before .before .end-shown .ensures i;
-      right = c .before .before .before .before .before .end-shown2 .ensures i;
-      «use_weight» = c .before .before .before .before .bits-of .ensures i;
-      «live_insts» = c .before .before .before .before .before .before .before .args .p .«live_insts»;
-      «interference_weight» = c .before .before .before .bits-of2 .ensures i;
-      «split_cost» = c .before .before .bits-of3 .ensures i;
-      thousandths = (c .h-figure .ensures ∙ ap figure (c .before .normalize-spill-weight .ensures)) i;
+      left = c .before .before .before .before .before .end-shown .ensures i;
+      right = c .before .before .before .before .end-shown2 .ensures i;
+      «use_weight» = c .before .before .before .bits-of .ensures i;
+      «live_insts» = c .before .before .before .before .before .before .args .p .«live_insts»;
+      «interference_weight» = c .before .before .bits-of2 .ensures i;
+      «split_cost» = c .before .bits-of3 .ensures i;
+      thousandths = c .thousandths-of .ensures i;
     })
 
 pub figures-of-spec : {M : Type 1} → statement M
@@ -48,6 +43,5 @@ figures-of-spec =
     bits-of-requires
     bits-of-requires-2
     bits-of-requires-3
-    normalize-spill-weight-requires
-    h-figure-requires
+    thousandths-of-requires
     returns)
