@@ -23,7 +23,7 @@ int main(void)
     const uint32_t u_kind[] = {5, 4};
     const uint32_t cost[] = {1065353216, 1065353216};
     const uint32_t none[1] = {0};
-    uint32_t prev[1], next[1], inst[4], from[5], to[5], live[5], out_from[6], out_to[6], out_value[6], out_gap[6];
+    uint32_t prev[1], next[1], inst[4], from[5], to[5], live[5], segment_from[6], segment_to[6], segment_value[6], segment_gap[6];
     float weight[4], left[4], right[4], gap_weight[5], min_freq[5];
     uint64_t answer[10];
 
@@ -38,7 +38,7 @@ int main(void)
         COLUMN(prev), COLUMN(next),
         COLUMN(inst), COLUMN(weight), COLUMN(left), COLUMN(right),
         COLUMN(from), COLUMN(to), COLUMN(gap_weight), COLUMN(live), COLUMN(min_freq),
-        COLUMN(out_from), COLUMN(out_to), COLUMN(out_value), COLUMN(out_gap),
+        COLUMN(segment_from), COLUMN(segment_to), COLUMN(segment_value), COLUMN(segment_gap),
         answer);
 
     const uint64_t expected[10] = {GELDUVRA_PROPOSAL, GELDUVRA_ABSENT, GELDUVRA_ABSENT, 1073741824, 4, 0, 0, 2, 2, 2};

@@ -73,10 +73,10 @@ void gelduvra_propose_split(
     uint32_t *live, size_t live_len,
     float *min_freq, size_t min_freq_len,
     /* gap segments: from and to point, value, gap */
-    uint32_t *out_from, size_t out_from_len,
-    uint32_t *out_to, size_t out_to_len,
-    uint32_t *out_value, size_t out_value_len,
-    uint32_t *out_gap, size_t out_gap_len,
+    uint32_t *segment_from, size_t segment_from_len,
+    uint32_t *segment_to, size_t segment_to_len,
+    uint32_t *segment_value, size_t segment_value_len,
+    uint32_t *segment_gap, size_t segment_gap_len,
     uint64_t answer[10]);
 
 /* The lower-cost split point between two instructions. The words: 0 and the instruction, or 1 and a refusal's number and place. */

@@ -31,7 +31,7 @@ int main(void)
     const uint32_t r_index[] = {0, 0};
     const uint32_t r_fixed[] = {4294967295u, 4294967295u};
     const uint32_t none[1] = {0};
-    uint32_t prev[11], next[11], inst[6], from[17], to[17], live[17], out_from[23], out_to[23], out_value[23], out_gap[23];
+    uint32_t prev[11], next[11], inst[6], from[17], to[17], live[17], segment_from[23], segment_to[23], segment_value[23], segment_gap[23];
     float weight[6], left[6], right[6], gap_weight[17], min_freq[17];
     uint64_t answer[10];
 
@@ -46,7 +46,7 @@ int main(void)
         COLUMN(prev), COLUMN(next),
         COLUMN(inst), COLUMN(weight), COLUMN(left), COLUMN(right),
         COLUMN(from), COLUMN(to), COLUMN(gap_weight), COLUMN(live), COLUMN(min_freq),
-        COLUMN(out_from), COLUMN(out_to), COLUMN(out_value), COLUMN(out_gap),
+        COLUMN(segment_from), COLUMN(segment_to), COLUMN(segment_value), COLUMN(segment_gap),
         answer);
 
     const uint64_t expected[10] = {GELDUVRA_PROPOSAL, 1, 4, 6291456, 3, 1233101, 1065353216, 5, 7, 9};

@@ -42,10 +42,10 @@ unsafe extern "C" {
         gap_weight: *mut f32, gap_weight_len: usize,
         live: *mut u32, live_len: usize,
         min_freq: *mut f32, min_freq_len: usize,
-        out_from: *mut u32, out_from_len: usize,
-        out_to: *mut u32, out_to_len: usize,
-        out_value: *mut u32, out_value_len: usize,
-        out_gap: *mut u32, out_gap_len: usize,
+        segment_from: *mut u32, segment_from_len: usize,
+        segment_to: *mut u32, segment_to_len: usize,
+        segment_value: *mut u32, segment_value_len: usize,
+        segment_gap: *mut u32, segment_gap_len: usize,
         answer: *mut [u64; 10],
     );
 
@@ -108,10 +108,10 @@ pub(crate) fn propose_split(job: &Job<'_>, work: &mut WorkTables<'_>) -> [u64; 1
             work.gap_weight.as_mut_ptr(), work.gap_weight.len(),
             work.live.as_mut_ptr(), work.live.len(),
             work.min_freq.as_mut_ptr(), work.min_freq.len(),
-            work.out_from.as_mut_ptr(), work.out_from.len(),
-            work.out_to.as_mut_ptr(), work.out_to.len(),
-            work.out_value.as_mut_ptr(), work.out_value.len(),
-            work.out_gap.as_mut_ptr(), work.out_gap.len(),
+            work.segment_from.as_mut_ptr(), work.segment_from.len(),
+            work.segment_to.as_mut_ptr(), work.segment_to.len(),
+            work.segment_value.as_mut_ptr(), work.segment_value.len(),
+            work.segment_gap.as_mut_ptr(), work.segment_gap.len(),
             &mut answer,
         );
     }

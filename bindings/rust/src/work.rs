@@ -34,13 +34,13 @@ pub struct WorkTables<'a> {
     /// The gaps: the least frequency of the blocks met.
     pub min_freq: &'a mut [f32],
     /// The gap segments: the first point.
-    pub out_from: &'a mut [u32],
+    pub segment_from: &'a mut [u32],
     /// The gap segments: the point after the last.
-    pub out_to: &'a mut [u32],
+    pub segment_to: &'a mut [u32],
     /// The gap segments: the value.
-    pub out_value: &'a mut [u32],
+    pub segment_value: &'a mut [u32],
     /// The gap segments: the gap.
-    pub out_gap: &'a mut [u32],
+    pub segment_gap: &'a mut [u32],
 }
 
 impl WorkTables<'_> {
@@ -50,7 +50,7 @@ impl WorkTables<'_> {
         same_length(Table::UseTable, uses)?;
         let gaps = [self.from.len(), self.to.len(), self.gap_weight.len(), self.live.len(), self.min_freq.len()];
         same_length(Table::Gaps, gaps)?;
-        let out = [self.out_from.len(), self.out_to.len(), self.out_value.len(), self.out_gap.len()];
+        let out = [self.segment_from.len(), self.segment_to.len(), self.segment_value.len(), self.segment_gap.len()];
         same_length(Table::GapSegments, out)
     }
 }
@@ -123,10 +123,10 @@ pub struct Scratch {
     gap_weight: Vec<f32>,
     live: Vec<u32>,
     min_freq: Vec<f32>,
-    out_from: Vec<u32>,
-    out_to: Vec<u32>,
-    out_value: Vec<u32>,
-    out_gap: Vec<u32>,
+    segment_from: Vec<u32>,
+    segment_to: Vec<u32>,
+    segment_value: Vec<u32>,
+    segment_gap: Vec<u32>,
     blocks: usize,
     rows: Rows,
 }
@@ -193,10 +193,10 @@ impl Scratch {
     pub fn gap_segments(&self) -> GapSegments<'_> {
         let n = self.rows.gap_segments;
         GapSegments {
-            from: &self.out_from[..n],
-            to: &self.out_to[..n],
-            value: &self.out_value[..n],
-            gap: &self.out_gap[..n],
+            from: &self.segment_from[..n],
+            to: &self.segment_to[..n],
+            value: &self.segment_value[..n],
+            gap: &self.segment_gap[..n],
         }
     }
 
@@ -216,8 +216,8 @@ impl Scratch {
             resize([&mut self.from, &mut self.to, &mut self.live], gaps);
             resize([&mut self.gap_weight, &mut self.min_freq], gaps);
         }
-        if self.out_from.len() < gap_segments {
-            resize([&mut self.out_from, &mut self.out_to, &mut self.out_value, &mut self.out_gap], gap_segments);
+        if self.segment_from.len() < gap_segments {
+            resize([&mut self.segment_from, &mut self.segment_to, &mut self.segment_value, &mut self.segment_gap], gap_segments);
         }
     }
 
@@ -234,10 +234,10 @@ impl Scratch {
             gap_weight: &mut self.gap_weight,
             live: &mut self.live,
             min_freq: &mut self.min_freq,
-            out_from: &mut self.out_from,
-            out_to: &mut self.out_to,
-            out_value: &mut self.out_value,
-            out_gap: &mut self.out_gap,
+            segment_from: &mut self.segment_from,
+            segment_to: &mut self.segment_to,
+            segment_value: &mut self.segment_value,
+            segment_gap: &mut self.segment_gap,
         }
     }
 }

@@ -88,7 +88,7 @@ fn rooms() {
         let [weight, left_weight, right_weight] = &mut uses;
         let [from, to, live] = &mut gaps;
         let [gap_weight, min_freq] = &mut gap_floats;
-        let [out_from, out_to, out_value, out_gap] = &mut out;
+        let [segment_from, segment_to, segment_value, segment_gap] = &mut out;
         let mut work = WorkTables {
             prev_lower_freq,
             next_lower_freq,
@@ -101,10 +101,10 @@ fn rooms() {
             gap_weight,
             live,
             min_freq,
-            out_from,
-            out_to,
-            out_value,
-            out_gap,
+            segment_from,
+            segment_to,
+            segment_value,
+            segment_gap,
         };
         let answer = refusal_of(propose_split(&sheet.job(), &mut work));
         let rows = answer.map_or(Rows::default(), |proposed| proposed.rows);

@@ -106,10 +106,10 @@ none-filled lent =
       weight = refl;
       live = refl;
       freq = refl;
-      out-from = refl;
-      out-to = refl;
-      out-value = refl;
-      out-gap = refl;
+      segment-from = refl;
+      segment-to = refl;
+      segment-value = refl;
+      segment-gap = refl;
     }
 
 module _ {text cells cells-now counts : List ℕ} {v : Verdict} (read : Read text cells cells-now v counts) (lent : WorkColumns) where

@@ -29,7 +29,7 @@ abbrev pub rowFields : Table → WorkColumns → ℕ → List ℕ
 rowFields Links c i = numberIn (c .prevs) i ∷ numberIn (c .nexts) i ∷ []
 rowFields Uses c i = numberIn (c .insts) i ∷ bitsIn (c .mains) i ∷ bitsIn (c .lefts) i ∷ bitsIn (c .rights) i ∷ []
 rowFields Gaps c i = numberIn (c .froms) i ∷ numberIn (c .tos) i ∷ bitsIn (c .weights) i ∷ numberIn (c .lives) i ∷ bitsIn (c .freqs) i ∷ []
-rowFields GapSegments c i = numberIn (c .out-froms) i ∷ numberIn (c .out-tos) i ∷ numberIn (c .out-values) i ∷ numberIn (c .out-gaps) i ∷ []
+rowFields GapSegments c i = numberIn (c .segment-froms) i ∷ numberIn (c .segment-tos) i ∷ numberIn (c .segment-values) i ∷ numberIn (c .segment-gaps) i ∷ []
 
 -- its line
 abbrev pub rowText : Table → WorkColumns → ℕ → List ℕ

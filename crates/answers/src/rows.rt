@@ -99,15 +99,15 @@ pub fn write_row(
     weight: &[f32],
     left: &[f32],
     right: &[f32],
-    from: &[u32],
-    to: &[u32],
+    gap_from: &[u32],
+    gap_to: &[u32],
     gap_weight: &[f32],
     live: &[u32],
     freq: &[f32],
-    out_from: &[u32],
-    out_to: &[u32],
-    out_value: &[u32],
-    out_gap: &[u32],
+    segment_from: &[u32],
+    segment_to: &[u32],
+    segment_value: &[u32],
+    segment_gap: &[u32],
     i: usize,
     out: &mut [u8],
 ) -> Written
@@ -115,8 +115,8 @@ pub fn write_row(
         (let lent = workColumns
         (now (prev .entry)) (now (next .entry))
         (now (inst .entry)) (now (weight .entry)) (now (left .entry)) (now (right .entry))
-        (now (from .entry)) (now (to .entry)) (now («gap_weight» .entry)) (now (live .entry)) (now (freq .entry))
-        (now («out_from» .entry)) (now («out_to» .entry)) (now («out_value» .entry)) (now («out_gap» .entry)) in
+        (now («gap_from» .entry)) (now («gap_to» .entry)) (now («gap_weight» .entry)) (now (live .entry)) (now (freq .entry))
+        (now («segment_from» .entry)) (now («segment_to» .entry)) (now («segment_value» .entry)) (now («segment_gap» .entry)) in
         Wrote (rowText table lent i) (now (out .entry)) (now (out .exit)) r) ⌝ }
 {
     match table {
@@ -129,11 +129,11 @@ pub fn write_row(
             write_line(out, b'u', &row)
         }
         Table::Gaps => {
-            let row = gap_row(from, to, gap_weight, live, freq, i);
+            let row = gap_row(gap_from, gap_to, gap_weight, live, freq, i);
             write_line(out, b'g', &row)
         }
         Table::GapSegments => {
-            let row = gap_segment_row(out_from, out_to, out_value, out_gap, i);
+            let row = gap_segment_row(segment_from, segment_to, segment_value, segment_gap, i);
             write_line(out, b'o', &row)
         }
     }

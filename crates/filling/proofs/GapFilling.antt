@@ -73,13 +73,13 @@ module _ (gaps : List Gap) (starts ends values : List ℕ) (lent : GapTables) (r
       })
 
   pub segments-room : SegmentRoom (length (gapSegments (take n (now .froms)) (take n (now .tos)) starts ends values))
-      (segmentColumns (lent .out-froms) (lent .out-tos) (lent .out-values) (lent .out-gaps) 0)
+      (segmentColumns (lent .segment-froms) (lent .segment-tos) (lent .segment-values) (lent .segment-gaps) 0)
   segments-room =
       subst (λ (l : List ℕ). SegmentRoom (length (gapSegments l (take n (now .tos)) starts ends values))
-      (segmentColumns (lent .out-froms) (lent .out-tos) (lent .out-values) (lent .out-gaps) 0)) (sym froms-cut)
+      (segmentColumns (lent .segment-froms) (lent .segment-tos) (lent .segment-values) (lent .segment-gaps) 0)) (sym froms-cut)
       (subst (λ (l : List ℕ). SegmentRoom (length (gapSegments (fromsOf gaps) l starts ends values))
-      (segmentColumns (lent .out-froms) (lent .out-tos) (lent .out-values) (lent .out-gaps) 0)) (sym tos-cut)
-      (let a = room .out-from in let b = room .out-to in let c = room .out-value in let d = room .out-gap in
+      (segmentColumns (lent .segment-froms) (lent .segment-tos) (lent .segment-values) (lent .segment-gaps) 0)) (sym tos-cut)
+      (let a = room .segment-from in let b = room .segment-to in let c = room .segment-value in let d = room .segment-gap in
       record { from = omega (arith, a); to = omega (arith, b); value = omega (arith, c); gap = omega (arith, d) }))
 
   lives-long : length (livesOf gaps starts ends) ≡ length zeros
@@ -90,7 +90,7 @@ module _ (gaps : List Gap) (starts ends values : List ℕ) (lent : GapTables) (r
   pub all-filled : (live' : List ℕ) (froms' tos' values' gaps' : List ℕ) (m : ℕ)
       → live' ≡ filled (liveColumn starts ends (take n (now .froms)) (take n (now .tos))) live
       → Filled (gapSegments (take n (now .froms)) (take n (now .tos)) starts ends values)
-      (segmentColumns (lent .out-froms) (lent .out-tos) (lent .out-values) (lent .out-gaps) 0) (segmentColumns froms' tos' values' gaps' m)
+      (segmentColumns (lent .segment-froms) (lent .segment-tos) (lent .segment-values) (lent .segment-gaps) 0) (segmentColumns froms' tos' values' gaps' m)
       → GapsFilled gaps starts ends values lent (lentTables (now .froms) (now .tos) (now .weights) live' (now .freqs) froms' tos' values' gaps') n m
   all-filled live' froms' tos' values' gaps' m l f =
       let s = ap₂ (λ (a b : List ℕ). gapSegments a b starts ends values) froms-cut tos-cut in
@@ -104,8 +104,8 @@ module _ (gaps : List Gap) (starts ends values : List ℕ) (lent : GapTables) (r
             l ∙ ap₂ (λ (a b : List ℕ). filled (liveColumn starts ends a b) live) froms-cut tos-cut ∙ ap (filled (livesOf gaps starts ends)) (held .live)
             ∙ filled-again (livesOf gaps starts ends) zeros (lent .lives) lives-long;
         freq = held .freq;
-        out-from = f .from ∙ ap (λ (x : List Overlap). filled (map (λ (s : Overlap). s .from) x) (lent .out-froms)) s;
-        out-to = f .to ∙ ap (λ (x : List Overlap). filled (map (λ (s : Overlap). s .to) x) (lent .out-tos)) s;
-        out-value = f .value ∙ ap (λ (x : List Overlap). filled (map (λ (s : Overlap). s .value) x) (lent .out-values)) s;
-        out-gap = f .gap ∙ ap (λ (x : List Overlap). filled (map (λ (s : Overlap). s .gap) x) (lent .out-gaps)) s;
+        segment-from = f .from ∙ ap (λ (x : List Overlap). filled (map (λ (s : Overlap). s .from) x) (lent .segment-froms)) s;
+        segment-to = f .to ∙ ap (λ (x : List Overlap). filled (map (λ (s : Overlap). s .to) x) (lent .segment-tos)) s;
+        segment-value = f .value ∙ ap (λ (x : List Overlap). filled (map (λ (s : Overlap). s .value) x) (lent .segment-values)) s;
+        segment-gap = f .gap ∙ ap (λ (x : List Overlap). filled (map (λ (s : Overlap). s .gap) x) (lent .segment-gaps)) s;
       }

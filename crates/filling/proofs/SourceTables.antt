@@ -117,10 +117,11 @@ module _ (source : Source) (checked : CheckedUses source) (sound : SoundBlocks (
     -- and for all of them in lent columns
     pub source-gap-room : (lent : WorkColumns) → Roomy (length (source .uses)) (length (source .blocks)) (length (source .segments)) (roomsOf lent)
         → GapRoom (gapsFrom source best) (startsOf source) (stopsOf source) (valuesOf source)
-        (lentTables (lent .froms) (lent .tos) (lent .weights) (lent .lives) (lent .freqs) (lent .out-froms) (lent .out-tos) (lent .out-values) (lent .out-gaps))
+        (lentTables (lent .froms) (lent .tos) (lent .weights) (lent .lives) (lent .freqs) (lent .segment-froms) (lent .segment-tos) (lent .segment-values)
+        (lent .segment-gaps))
     source-gap-room lent roomy =
         let gap-lengths = length (lent .froms) ∷ length (lent .tos) ∷ length (lent .weights) ∷ length (lent .lives) ∷ length (lent .freqs) ∷ [] in
-        let segment-lengths = length (lent .out-froms) ∷ length (lent .out-tos) ∷ length (lent .out-values) ∷ length (lent .out-gaps) ∷ [] in
+        let segment-lengths = length (lent .segment-froms) ∷ length (lent .segment-tos) ∷ length (lent .segment-values) ∷ length (lent .segment-gaps) ∷ [] in
         let g = le-trans source-gaps-few (roomy .gaps) in
         let s = le-trans source-segments-few (roomy .gap-segments) in
         record {
@@ -129,8 +130,8 @@ module _ (source : Source) (checked : CheckedUses source) (sound : SoundBlocks (
           weight = le-trans g (shortest-at-most gap-lengths 2 (omega arith));
           live = le-trans g (shortest-at-most gap-lengths 3 (omega arith));
           freq = le-trans g (shortest-at-most gap-lengths 4 (omega arith));
-          out-from = le-trans s (shortest-at-most segment-lengths 0 (omega arith));
-          out-to = le-trans s (shortest-at-most segment-lengths 1 (omega arith));
-          out-value = le-trans s (shortest-at-most segment-lengths 2 (omega arith));
-          out-gap = le-trans s (shortest-at-most segment-lengths 3 (omega arith));
+          segment-from = le-trans s (shortest-at-most segment-lengths 0 (omega arith));
+          segment-to = le-trans s (shortest-at-most segment-lengths 1 (omega arith));
+          segment-value = le-trans s (shortest-at-most segment-lengths 2 (omega arith));
+          segment-gap = le-trans s (shortest-at-most segment-lengths 3 (omega arith));
         }

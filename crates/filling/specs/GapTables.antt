@@ -31,24 +31,24 @@ pub record GapTables : Type 0 where
   pub weights : List Float
   pub lives : List ℕ
   pub freqs : List Float
-  pub out-froms : List ℕ
-  pub out-tos : List ℕ
-  pub out-values : List ℕ
-  pub out-gaps : List ℕ
+  pub segment-froms : List ℕ
+  pub segment-tos : List ℕ
+  pub segment-values : List ℕ
+  pub segment-gaps : List ℕ
 
 -- the nine as one
 abbrev pub lentTables : List ℕ → List ℕ → List Float → List ℕ → List Float → List ℕ → List ℕ → List ℕ → List ℕ → GapTables
-lentTables froms tos weights lives freqs out-froms out-tos out-values out-gaps =
+lentTables froms tos weights lives freqs segment-froms segment-tos segment-values segment-gaps =
     record {
       froms = froms;
       tos = tos;
       weights = weights;
       lives = lives;
       freqs = freqs;
-      out-froms = out-froms;
-      out-tos = out-tos;
-      out-values = out-values;
-      out-gaps = out-gaps;
+      segment-froms = segment-froms;
+      segment-tos = segment-tos;
+      segment-values = segment-values;
+      segment-gaps = segment-gaps;
     }
 
 -- they have room for gaps and gap segments
@@ -58,10 +58,10 @@ pub record GapRoom (gaps : List Gap) (starts ends values : List ℕ) (lent : Gap
   pub weight : length gaps ≤ length (lent .weights)
   pub live : length gaps ≤ length (lent .lives)
   pub freq : length gaps ≤ length (lent .freqs)
-  pub out-from : length (gapSegmentsOf gaps starts ends values) ≤ length (lent .out-froms)
-  pub out-to : length (gapSegmentsOf gaps starts ends values) ≤ length (lent .out-tos)
-  pub out-value : length (gapSegmentsOf gaps starts ends values) ≤ length (lent .out-values)
-  pub out-gap : length (gapSegmentsOf gaps starts ends values) ≤ length (lent .out-gaps)
+  pub segment-from : length (gapSegmentsOf gaps starts ends values) ≤ length (lent .segment-froms)
+  pub segment-to : length (gapSegmentsOf gaps starts ends values) ≤ length (lent .segment-tos)
+  pub segment-value : length (gapSegmentsOf gaps starts ends values) ≤ length (lent .segment-values)
+  pub segment-gap : length (gapSegmentsOf gaps starts ends values) ≤ length (lent .segment-gaps)
 
 -- they hold gaps with their live instructions, and their gap segments; later rows are unchanged; so many rows are used
 pub record GapsFilled (gaps : List Gap) (starts ends values : List ℕ) (lent now : GapTables) (used segments : ℕ) : Type 0 where
@@ -72,10 +72,10 @@ pub record GapsFilled (gaps : List Gap) (starts ends values : List ℕ) (lent no
   pub weight : now .weights ≡ filled (map gapWeight gaps) (lent .weights)
   pub live : now .lives ≡ filled (livesOf gaps starts ends) (lent .lives)
   pub freq : now .freqs ≡ filled (map (λ (g : Gap). g .freq) gaps) (lent .freqs)
-  pub out-from : now .out-froms ≡ filled (map (λ (s : Overlap). s .from) (gapSegmentsOf gaps starts ends values)) (lent .out-froms)
-  pub out-to : now .out-tos ≡ filled (map (λ (s : Overlap). s .to) (gapSegmentsOf gaps starts ends values)) (lent .out-tos)
-  pub out-value : now .out-values ≡ filled (map (λ (s : Overlap). s .value) (gapSegmentsOf gaps starts ends values)) (lent .out-values)
-  pub out-gap : now .out-gaps ≡ filled (map (λ (s : Overlap). s .gap) (gapSegmentsOf gaps starts ends values)) (lent .out-gaps)
+  pub segment-from : now .segment-froms ≡ filled (map (λ (s : Overlap). s .from) (gapSegmentsOf gaps starts ends values)) (lent .segment-froms)
+  pub segment-to : now .segment-tos ≡ filled (map (λ (s : Overlap). s .to) (gapSegmentsOf gaps starts ends values)) (lent .segment-tos)
+  pub segment-value : now .segment-values ≡ filled (map (λ (s : Overlap). s .value) (gapSegmentsOf gaps starts ends values)) (lent .segment-values)
+  pub segment-gap : now .segment-gaps ≡ filled (map (λ (s : Overlap). s .gap) (gapSegmentsOf gaps starts ends values)) (lent .segment-gaps)
 
 -- rows that the use columns, links for so many blocks that the columns of links, and segments that their columns have
 pub record CutInside (rows : ℕ) (uses : UseColumns) (blocks : ℕ) (prevs nexts : List ℕ) (segments : ℕ) (starts ends values : List ℕ) : Type 0 where

@@ -131,15 +131,15 @@ pub record WorkColumns : Type 0 where
   pub weights : List Float
   pub lives : List ℕ
   pub freqs : List Float
-  pub out-froms : List ℕ
-  pub out-tos : List ℕ
-  pub out-values : List ℕ
-  pub out-gaps : List ℕ
+  pub segment-froms : List ℕ
+  pub segment-tos : List ℕ
+  pub segment-values : List ℕ
+  pub segment-gaps : List ℕ
 
 -- the fifteen as one
 abbrev pub workColumns : List ℕ → List ℕ → List ℕ → List Float → List Float → List Float
     → List ℕ → List ℕ → List Float → List ℕ → List Float → List ℕ → List ℕ → List ℕ → List ℕ → WorkColumns
-workColumns prevs nexts insts mains lefts rights froms tos weights lives freqs out-froms out-tos out-values out-gaps =
+workColumns prevs nexts insts mains lefts rights froms tos weights lives freqs segment-froms segment-tos segment-values segment-gaps =
     record {
       prevs = prevs;
       nexts = nexts;
@@ -152,10 +152,10 @@ workColumns prevs nexts insts mains lefts rights froms tos weights lives freqs o
       weights = weights;
       lives = lives;
       freqs = freqs;
-      out-froms = out-froms;
-      out-tos = out-tos;
-      out-values = out-values;
-      out-gaps = out-gaps;
+      segment-froms = segment-froms;
+      segment-tos = segment-tos;
+      segment-values = segment-values;
+      segment-gaps = segment-gaps;
     }
 
 -- a table has as many rows as its shortest column
@@ -164,7 +164,7 @@ roomsOf c =
     record {
       uses = shortest (length (c .insts) ∷ length (c .mains) ∷ length (c .lefts) ∷ length (c .rights) ∷ []);
       gaps = shortest (length (c .froms) ∷ length (c .tos) ∷ length (c .weights) ∷ length (c .lives) ∷ length (c .freqs) ∷ []);
-      «gap_segments» = shortest (length (c .out-froms) ∷ length (c .out-tos) ∷ length (c .out-values) ∷ length (c .out-gaps) ∷ []);
+      «gap_segments» = shortest (length (c .segment-froms) ∷ length (c .segment-tos) ∷ length (c .segment-values) ∷ length (c .segment-gaps) ∷ []);
       links = shortest (length (c .prevs) ∷ length (c .nexts) ∷ []);
     }
 
@@ -188,7 +188,7 @@ pub record FilledBy (t : Tables) (lent now : WorkColumns) : Type 0 where
   pub weight : now .weights ≡ filled (map gapWeight (t .gaps)) (lent .weights)
   pub live : now .lives ≡ filled (t .lives) (lent .lives)
   pub freq : now .freqs ≡ filled (map (λ (g : Gap). g .freq) (t .gaps)) (lent .freqs)
-  pub out-from : now .out-froms ≡ filled (map (λ (s : Overlap). s .from) (t .segments)) (lent .out-froms)
-  pub out-to : now .out-tos ≡ filled (map (λ (s : Overlap). s .to) (t .segments)) (lent .out-tos)
-  pub out-value : now .out-values ≡ filled (map (λ (s : Overlap). s .value) (t .segments)) (lent .out-values)
-  pub out-gap : now .out-gaps ≡ filled (map (λ (s : Overlap). s .gap) (t .segments)) (lent .out-gaps)
+  pub segment-from : now .segment-froms ≡ filled (map (λ (s : Overlap). s .from) (t .segments)) (lent .segment-froms)
+  pub segment-to : now .segment-tos ≡ filled (map (λ (s : Overlap). s .to) (t .segments)) (lent .segment-tos)
+  pub segment-value : now .segment-values ≡ filled (map (λ (s : Overlap). s .value) (t .segments)) (lent .segment-values)
+  pub segment-gap : now .segment-gaps ≡ filled (map (λ (s : Overlap). s .gap) (t .segments)) (lent .segment-gaps)

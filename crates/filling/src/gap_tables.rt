@@ -26,38 +26,38 @@ fn fill_segments(
     start: &[u32],
     segment_end: &[u32],
     value: &[u32],
-    from: &[u32],
-    to: &[u32],
+    gap_from: &[u32],
+    gap_to: &[u32],
     live: &mut [u32],
-    out_from: &mut [u32],
-    out_to: &mut [u32],
-    out_value: &mut [u32],
-    out_gap: &mut [u32],
+    segment_from: &mut [u32],
+    segment_to: &mut [u32],
+    segment_value: &mut [u32],
+    segment_gap: &mut [u32],
 ) -> usize
-    requires { ⌜ Valued (now start) (now «segment_end») (now value) × Gaps (now from) (now to) × Uncounted (length (now from)) (now live) ⌝ }
+    requires { ⌜ Valued (now start) (now «segment_end») (now value) × Gaps (now «gap_from») (now «gap_to») × Uncounted (length (now «gap_from»)) (now live) ⌝ }
     requires { ⌜
-        (let rows = gapSegments (now from) (now to) (now start) (now «segment_end») (now value) in
-        SegmentRoom (length rows) (segmentColumns (now «out_from») (now «out_to») (now «out_value») (now «out_gap») 0))
+        (let rows = gapSegments (now «gap_from») (now «gap_to») (now start) (now «segment_end») (now value) in
+        SegmentRoom (length rows) (segmentColumns (now «segment_from») (now «segment_to») (now «segment_value») (now «segment_gap») 0))
         ⌝ }
     ensures { λ r. ⌜
-        (let counted = liveColumn (now (start .entry)) (now («segment_end» .entry)) (now (from .entry)) (now (to .entry)) in
-        let rows = gapSegments (now (from .entry)) (now (to .entry)) (now (start .entry)) (now («segment_end» .entry)) (now (value .entry)) in
-        let lent = segmentColumns (now («out_from» .entry)) (now («out_to» .entry)) (now («out_value» .entry)) (now («out_gap» .entry)) 0 in
-        let after = segmentColumns (now («out_from» .exit)) (now («out_to» .exit)) (now («out_value» .exit)) (now («out_gap» .exit)) r in
+        (let counted = liveColumn (now (start .entry)) (now («segment_end» .entry)) (now («gap_from» .entry)) (now («gap_to» .entry)) in
+        let rows = gapSegments (now («gap_from» .entry)) (now («gap_to» .entry)) (now (start .entry)) (now («segment_end» .entry)) (now (value .entry)) in
+        let lent = segmentColumns (now («segment_from» .entry)) (now («segment_to» .entry)) (now («segment_value» .entry)) (now («segment_gap» .entry)) 0 in
+        let after = segmentColumns (now («segment_from» .exit)) (now («segment_to» .exit)) (now («segment_value» .exit)) (now («segment_gap» .exit)) r in
         (now (live .exit) ≡ filled counted (now (live .entry))) × Filled rows lent after)
         ⌝ }
 {
-    count_live_insts(start, segment_end, from, to, live);
+    count_live_insts(start, segment_end, gap_from, gap_to, live);
     build_gap_segments(
         start,
         segment_end,
         value,
-        from,
-        to,
-        out_from,
-        out_to,
-        out_value,
-        out_gap,
+        gap_from,
+        gap_to,
+        segment_from,
+        segment_to,
+        segment_value,
+        segment_gap,
     )
 }
 
@@ -76,15 +76,15 @@ fn fill_gaps(
     start: &[u32],
     segment_end: &[u32],
     value: &[u32],
-    from: &mut [u32],
-    to: &mut [u32],
+    gap_from: &mut [u32],
+    gap_to: &mut [u32],
     gap_weight: &mut [f32],
     live: &mut [u32],
     min_freq: &mut [f32],
-    out_from: &mut [u32],
-    out_to: &mut [u32],
-    out_value: &mut [u32],
-    out_gap: &mut [u32],
+    segment_from: &mut [u32],
+    segment_to: &mut [u32],
+    segment_value: &mut [u32],
+    segment_gap: &mut [u32],
 ) -> GapCounts
     requires { ⌜
         (let uses = useColumns (now inst) (now weight) (now «left_weight») (now «right_weight») in
@@ -95,8 +95,8 @@ fn fill_gaps(
         (let uses = useColumns (now inst) (now weight) (now «left_weight») (now «right_weight») in
         let gaps = gapsOf (blocksOf (now freq) (now first) (now end)) (usesIn uses) best in
         let lent = lentTables
-        (now from) (now to) (now «gap_weight») (now live) (now «min_freq»)
-        (now «out_from») (now «out_to») (now «out_value») (now «out_gap») in
+        (now «gap_from») (now «gap_to») (now «gap_weight») (now live) (now «min_freq»)
+        (now «segment_from») (now «segment_to») (now «segment_value») (now «segment_gap») in
         GapRoom gaps (now start) (now «segment_end») (now value) lent)
         ⌝ }
     ensures { λ r. ⌜
@@ -104,11 +104,11 @@ fn fill_gaps(
         let blocks = blocksOf (now (freq .entry)) (now (first .entry)) (now (end .entry)) in
         let gaps = gapsOf blocks (usesIn uses) best in
         let lent = lentTables
-        (now (from .entry)) (now (to .entry)) (now («gap_weight» .entry)) (now (live .entry)) (now («min_freq» .entry))
-        (now («out_from» .entry)) (now («out_to» .entry)) (now («out_value» .entry)) (now («out_gap» .entry)) in
+        (now («gap_from» .entry)) (now («gap_to» .entry)) (now («gap_weight» .entry)) (now (live .entry)) (now («min_freq» .entry))
+        (now («segment_from» .entry)) (now («segment_to» .entry)) (now («segment_value» .entry)) (now («segment_gap» .entry)) in
         let after = lentTables
-        (now (from .exit)) (now (to .exit)) (now («gap_weight» .exit)) (now (live .exit)) (now («min_freq» .exit))
-        (now («out_from» .exit)) (now («out_to» .exit)) (now («out_value» .exit)) (now («out_gap» .exit)) in
+        (now («gap_from» .exit)) (now («gap_to» .exit)) (now («gap_weight» .exit)) (now (live .exit)) (now («min_freq» .exit))
+        (now («segment_from» .exit)) (now («segment_to» .exit)) (now («segment_value» .exit)) (now («segment_gap» .exit)) in
         GapsFilled gaps (now (start .entry)) (now («segment_end» .entry)) (now (value .entry)) lent after (r .gaps) (r .segments)
         × (r .initial ≡ initialGap blocks (usesIn uses) best))
         ⌝ }
@@ -124,8 +124,8 @@ fn fill_gaps(
         end,
         prev_lower_freq,
         next_lower_freq,
-        from,
-        to,
+        gap_from,
+        gap_to,
         gap_weight,
         live,
         min_freq,
@@ -135,13 +135,13 @@ fn fill_gaps(
         start,
         segment_end,
         value,
-        &from[..n],
-        &to[..n],
+        &gap_from[..n],
+        &gap_to[..n],
         live,
-        out_from,
-        out_to,
-        out_value,
-        out_gap,
+        segment_from,
+        segment_to,
+        segment_value,
+        segment_gap,
     );
     GapCounts {
         gaps: n,
@@ -168,15 +168,15 @@ pub fn fill_gap_tables(
     segment_end: &[u32],
     value: &[u32],
     segments: usize,
-    from: &mut [u32],
-    to: &mut [u32],
+    gap_from: &mut [u32],
+    gap_to: &mut [u32],
     gap_weight: &mut [f32],
     live: &mut [u32],
     min_freq: &mut [f32],
-    out_from: &mut [u32],
-    out_to: &mut [u32],
-    out_value: &mut [u32],
-    out_gap: &mut [u32],
+    segment_from: &mut [u32],
+    segment_to: &mut [u32],
+    segment_value: &mut [u32],
+    segment_gap: &mut [u32],
 ) -> GapCounts
     requires { ⌜
         (let uses = useColumns (now inst) (now weight) (now «left_weight») (now «right_weight») in
@@ -192,8 +192,8 @@ pub fn fill_gap_tables(
         (let uses = useColumns (take rows (now inst)) (take rows (now weight)) (take rows (now «left_weight»)) (take rows (now «right_weight»)) in
         let gaps = gapsOf (blocksOf (now freq) (now first) (now end)) (usesIn uses) best in
         let lent = lentTables
-        (now from) (now to) (now «gap_weight») (now live) (now «min_freq»)
-        (now «out_from») (now «out_to») (now «out_value») (now «out_gap») in
+        (now «gap_from») (now «gap_to») (now «gap_weight») (now live) (now «min_freq»)
+        (now «segment_from») (now «segment_to») (now «segment_value») (now «segment_gap») in
         GapRoom gaps (take segments (now start)) (take segments (now «segment_end»)) (take segments (now value)) lent)
         ⌝ }
     ensures { λ r. ⌜
@@ -203,11 +203,11 @@ pub fn fill_gap_tables(
         let blocks = blocksOf (now (freq .entry)) (now (first .entry)) (now (end .entry)) in
         let gaps = gapsOf blocks (usesIn uses) best in
         let lent = lentTables
-        (now (from .entry)) (now (to .entry)) (now («gap_weight» .entry)) (now (live .entry)) (now («min_freq» .entry))
-        (now («out_from» .entry)) (now («out_to» .entry)) (now («out_value» .entry)) (now («out_gap» .entry)) in
+        (now («gap_from» .entry)) (now («gap_to» .entry)) (now («gap_weight» .entry)) (now (live .entry)) (now («min_freq» .entry))
+        (now («segment_from» .entry)) (now («segment_to» .entry)) (now («segment_value» .entry)) (now («segment_gap» .entry)) in
         let after = lentTables
-        (now (from .exit)) (now (to .exit)) (now («gap_weight» .exit)) (now (live .exit)) (now («min_freq» .exit))
-        (now («out_from» .exit)) (now («out_to» .exit)) (now («out_value» .exit)) (now («out_gap» .exit)) in
+        (now («gap_from» .exit)) (now («gap_to» .exit)) (now («gap_weight» .exit)) (now (live .exit)) (now («min_freq» .exit))
+        (now («segment_from» .exit)) (now («segment_to» .exit)) (now («segment_value» .exit)) (now («segment_gap» .exit)) in
         GapsFilled gaps (take segments (now (start .entry))) (take segments (now («segment_end» .entry)))
         (take segments (now (value .entry))) lent after (r .gaps) (r .segments)
         × (r .initial ≡ initialGap blocks (usesIn uses) best))
@@ -228,14 +228,14 @@ pub fn fill_gap_tables(
         &start[..segments],
         &segment_end[..segments],
         &value[..segments],
-        from,
-        to,
+        gap_from,
+        gap_to,
         gap_weight,
         live,
         min_freq,
-        out_from,
-        out_to,
-        out_value,
-        out_gap,
+        segment_from,
+        segment_to,
+        segment_value,
+        segment_gap,
     )
 }

@@ -99,15 +99,15 @@ fn answer_of(job: Cells) -> Answer {
     let mut weight = [0f32; 4];
     let mut left = [0f32; 4];
     let mut right = [0f32; 4];
-    let mut from = [0u32; 5];
-    let mut to = [0u32; 5];
+    let mut gap_from = [0u32; 5];
+    let mut gap_to = [0u32; 5];
     let mut gap_weight = [0f32; 5];
     let mut live = [0u32; 5];
     let mut freq = [0f32; 5];
-    let mut out_from = [0u32; 6];
-    let mut out_to = [0u32; 6];
-    let mut out_value = [0u32; 6];
-    let mut out_gap = [0u32; 6];
+    let mut segment_from = [0u32; 6];
+    let mut segment_to = [0u32; 6];
+    let mut segment_value = [0u32; 6];
+    let mut segment_gap = [0u32; 6];
     let proposed = propose_cells(
         &cells,
         [1, 1, 1, 1, 2, 1, 2, 0],
@@ -117,15 +117,15 @@ fn answer_of(job: Cells) -> Answer {
         &mut weight,
         &mut left,
         &mut right,
-        &mut from,
-        &mut to,
+        &mut gap_from,
+        &mut gap_to,
         &mut gap_weight,
         &mut live,
         &mut freq,
-        &mut out_from,
-        &mut out_to,
-        &mut out_value,
-        &mut out_gap,
+        &mut segment_from,
+        &mut segment_to,
+        &mut segment_value,
+        &mut segment_gap,
     );
     proposed.answer
 }

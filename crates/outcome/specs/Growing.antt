@@ -24,31 +24,31 @@ pub record GrowthColumns : Type 0 where
   pub weights : List Float
   pub lives : List ℕ
   pub freqs : List Float
-  pub out-froms : List ℕ
-  pub out-tos : List ℕ
-  pub out-values : List ℕ
-  pub out-gaps : List ℕ
+  pub segment-froms : List ℕ
+  pub segment-tos : List ℕ
+  pub segment-values : List ℕ
+  pub segment-gaps : List ℕ
 
 -- the eight as one
 abbrev pub growthColumns : List ℕ → List Float → List ℕ → List Float → List ℕ → List ℕ → List ℕ → List ℕ → GrowthColumns
-growthColumns froms weights lives freqs out-froms out-tos out-values out-gaps =
+growthColumns froms weights lives freqs segment-froms segment-tos segment-values segment-gaps =
     record {
       froms = froms;
       weights = weights;
       lives = lives;
       freqs = freqs;
-      out-froms = out-froms;
-      out-tos = out-tos;
-      out-values = out-values;
-      out-gaps = out-gaps;
+      segment-froms = segment-froms;
+      segment-tos = segment-tos;
+      segment-values = segment-values;
+      segment-gaps = segment-gaps;
     }
 
 -- the gap segments, cut to the rows used
 abbrev pub segmentsReady : GrowthColumns → ReadyTables → SegmentColumns
 segmentsReady g r =
-    segmentColumns (take (r .«gap_segments») (g .out-froms)) (take (r .«gap_segments») (g .out-tos))
-    (take (r .«gap_segments») (g .out-values)) (take (r .«gap_segments») (g .out-gaps))
-    (length (take (r .«gap_segments») (g .out-froms)))
+    segmentColumns (take (r .«gap_segments») (g .segment-froms)) (take (r .«gap_segments») (g .segment-tos))
+    (take (r .«gap_segments») (g .segment-values)) (take (r .«gap_segments») (g .segment-gaps))
+    (length (take (r .«gap_segments») (g .segment-froms)))
 
 -- what growth sees of tables that are ready
 abbrev pub seenReady : Register → Reserved → ℕ → GrowthColumns → ReadyTables → GapsSeen
@@ -57,7 +57,8 @@ seenReady p t k g r =
 
 -- what growth relies on
 pub record Growable (p : Register) (t : Reserved) (k : ℕ) (g : GrowthColumns) (r : ReadyTables) : Type 0 where
-  pub rows : RowsInside (r .gaps) (g .froms) (g .weights) (g .lives) (g .freqs) (r .«gap_segments») (g .out-froms) (g .out-tos) (g .out-values) (g .out-gaps)
+  pub rows : RowsInside (r .gaps) (g .froms) (g .weights) (g .lives) (g .freqs) (r .«gap_segments») (g .segment-froms) (g .segment-tos)
+      (g .segment-values) (g .segment-gaps)
   pub known : Known p
   pub walkable : Walkable t (segmentsReady g r)
   pub in-table : InTable (seenReady p t k g r) (take (r .gaps) (g .weights)) (take (r .gaps) (g .lives)) (take (r .gaps) (g .freqs))

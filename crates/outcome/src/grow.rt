@@ -38,14 +38,14 @@ fn answer_of(region: Region) -> Answer
 
 // Where tables are ready, grows a region in them.
 pub fn grow_filled<'a, 'b>(
-    from: &[u32],
+    gap_from: &[u32],
     gap_weight: &[f32],
     live: &[u32],
     min_freq: &[f32],
-    out_from: &'a [u32],
-    out_to: &'a [u32],
-    out_value: &'a [u32],
-    out_gap: &'a [u32],
+    segment_from: &'a [u32],
+    segment_to: &'a [u32],
+    segment_value: &'a [u32],
+    segment_gap: &'a [u32],
     r_unit: &'b [u32],
     r_start: &'b [u32],
     r_end: &'b [u32],
@@ -66,8 +66,8 @@ pub fn grow_filled<'a, 'b>(
         (now «f_unit») (now «f_point») (now «f_value»)
         (now «spill_weight») in
         let gaps = growthColumns
-        (now from) (now «gap_weight») (now live) (now «min_freq»)
-        (now «out_from») (now «out_to») (now «out_value») (now «out_gap») in
+        (now «gap_from») (now «gap_weight») (now live) (now «min_freq»)
+        (now «segment_from») (now «segment_to») (now «segment_value») (now «segment_gap») in
         GrowableIf register reserved k gaps filled)
         ⌝ }
     ensures { λ r. ⌜
@@ -77,8 +77,8 @@ pub fn grow_filled<'a, 'b>(
         (now («f_unit» .entry)) (now («f_point» .entry)) (now («f_value» .entry))
         (now («spill_weight» .entry)) in
         let gaps = growthColumns
-        (now (from .entry)) (now («gap_weight» .entry)) (now (live .entry)) (now («min_freq» .entry))
-        (now («out_from» .entry)) (now («out_to» .entry)) (now («out_value» .entry)) (now («out_gap» .entry)) in
+        (now («gap_from» .entry)) (now («gap_weight» .entry)) (now (live .entry)) (now («min_freq» .entry))
+        (now («segment_from» .entry)) (now («segment_to» .entry)) (now («segment_value» .entry)) (now («segment_gap» .entry)) in
         r ≡ grownFrom register reserved k gaps filled)
         ⌝ }
 {
@@ -97,16 +97,16 @@ pub fn grow_filled<'a, 'b>(
         },
         FilledTables::Ready(t) => {
             let region = find_in_tables(
-                from,
+                gap_from,
                 gap_weight,
                 live,
                 min_freq,
                 t.gaps,
                 t.own,
-                out_from,
-                out_to,
-                out_value,
-                out_gap,
+                segment_from,
+                segment_to,
+                segment_value,
+                segment_gap,
                 t.gap_segments,
                 r_unit,
                 r_start,

@@ -11,10 +11,10 @@ ghost use Rattle.overlaps.specs.GapSegments.{nonempty, overlapsOf, gapSe
 
 // Stores a gap segment behind the rows used, if it has any points. Answers how many rows are used then.
 fn put_overlap(
-    out_from: &mut [u32],
-    out_to: &mut [u32],
-    out_value: &mut [u32],
-    out_gap: &mut [u32],
+    segment_from: &mut [u32],
+    segment_to: &mut [u32],
+    segment_value: &mut [u32],
+    segment_gap: &mut [u32],
     used: usize,
     from: Point,
     to: Point,
@@ -22,20 +22,20 @@ fn put_overlap(
     gap: u32,
 ) -> usize
     requires { ⌜
-        (let lent = segmentColumns (now «out_from») (now «out_to») (now «out_value») (now «out_gap») used in
+        (let lent = segmentColumns (now «segment_from») (now «segment_to») (now «segment_value») (now «segment_gap») used in
         SegmentRoom (length (nonempty (from .0) (to .0) (value .0) gap)) lent) ⌝ }
     ensures { λ r. ⌜
-        (let lent = segmentColumns (now («out_from» .entry)) (now («out_to» .entry)) (now («out_value» .entry)) (now («out_gap» .entry)) used in
-        let after = segmentColumns (now («out_from» .exit)) (now («out_to» .exit)) (now («out_value» .exit)) (now («out_gap» .exit)) r in
+        (let lent = segmentColumns (now («segment_from» .entry)) (now («segment_to» .entry)) (now («segment_value» .entry)) (now («segment_gap» .entry)) used in
+        let after = segmentColumns (now («segment_from» .exit)) (now («segment_to» .exit)) (now («segment_value» .exit)) (now («segment_gap» .exit)) r in
         after ≡ put (nonempty (from .0) (to .0) (value .0) gap) lent) ⌝ }
 {
     if from.0 >= to.0 {
         return used;
     }
-    out_from[used] = from.0;
-    out_to[used] = to.0;
-    out_value[used] = value.0;
-    out_gap[used] = gap;
+    segment_from[used] = from.0;
+    segment_to[used] = to.0;
+    segment_value[used] = value.0;
+    segment_gap[used] = gap;
     used + 1
 }
 
@@ -52,10 +52,10 @@ fn cut_segment(
     start: Point,
     end: Point,
     value: Value,
-    out_from: &mut [u32],
-    out_to: &mut [u32],
-    out_value: &mut [u32],
-    out_gap: &mut [u32],
+    segment_from: &mut [u32],
+    segment_to: &mut [u32],
+    segment_value: &mut [u32],
+    segment_gap: &mut [u32],
     gap: usize,
     used: usize,
 ) -> Cut
@@ -63,12 +63,13 @@ fn cut_segment(
     requires { ⌜ (start .0 < end .0) × EndedBy (now from) (now to) (start .0) gap ⌝ }
     requires { ⌜
         (let overlaps = overlapsOf (now from) (now to) (start .0) (end .0) (value .0) in
-        let lent = segmentColumns (now «out_from») (now «out_to») (now «out_value») (now «out_gap») used in
+        let lent = segmentColumns (now «segment_from») (now «segment_to») (now «segment_value») (now «segment_gap») used in
         SegmentRoom (length overlaps) lent) ⌝ }
     ensures { λ r. ⌜
         (let overlaps = overlapsOf (now (from .entry)) (now (to .entry)) (start .0) (end .0) (value .0) in
-        let lent = segmentColumns (now («out_from» .entry)) (now («out_to» .entry)) (now («out_value» .entry)) (now («out_gap» .entry)) used in
-        let after = segmentColumns (now («out_from» .exit)) (now («out_to» .exit)) (now («out_value» .exit)) (now («out_gap» .exit)) (r .used) in
+        let lent = segmentColumns (now («segment_from» .entry)) (now («segment_to» .entry)) (now («segment_value» .entry)) (now («segment_gap» .entry)) used in
+        let after = segmentColumns
+        (now («segment_from» .exit)) (now («segment_to» .exit)) (now («segment_value» .exit)) (now («segment_gap» .exit)) (r .used) in
         EndedBy (now (from .entry)) (now (to .entry)) (end .0) (r .gap) × (after ≡ put overlaps lent)) ⌝ }
 {
     let mut g = gap;
@@ -78,10 +79,10 @@ fn cut_segment(
         let a = Point(most(start.0, 4 * from[g]));
         let e = Point(least(end.0, t));
         n = put_overlap(
-            out_from,
-            out_to,
-            out_value,
-            out_gap,
+            segment_from,
+            segment_to,
+            segment_value,
+            segment_gap,
             n,
             a,
             e,
@@ -103,21 +104,21 @@ pub fn build_gap_segments(
     value: &[u32],
     from: &[u32],
     to: &[u32],
-    out_from: &mut [u32],
-    out_to: &mut [u32],
-    out_value: &mut [u32],
-    out_gap: &mut [u32],
+    segment_from: &mut [u32],
+    segment_to: &mut [u32],
+    segment_value: &mut [u32],
+    segment_gap: &mut [u32],
 ) -> usize
     requires { ⌜ Valued (now start) (now end) (now value) ⌝ }
     requires { ⌜ Gaps (now from) (now to) ⌝ }
     requires { ⌜
         (let found = gapSegments (now from) (now to) (now start) (now end) (now value) in
-        let lent = segmentColumns (now «out_from») (now «out_to») (now «out_value») (now «out_gap») 0 in
+        let lent = segmentColumns (now «segment_from») (now «segment_to») (now «segment_value») (now «segment_gap») 0 in
         SegmentRoom (length found) lent) ⌝ }
     ensures { λ r. ⌜
         (let found = gapSegments (now (from .entry)) (now (to .entry)) (now (start .entry)) (now (end .entry)) (now (value .entry)) in
-        let lent = segmentColumns (now («out_from» .entry)) (now («out_to» .entry)) (now («out_value» .entry)) (now («out_gap» .entry)) 0 in
-        let after = segmentColumns (now («out_from» .exit)) (now («out_to» .exit)) (now («out_value» .exit)) (now («out_gap» .exit)) r in
+        let lent = segmentColumns (now («segment_from» .entry)) (now («segment_to» .entry)) (now («segment_value» .entry)) (now («segment_gap» .entry)) 0 in
+        let after = segmentColumns (now («segment_from» .exit)) (now («segment_to» .exit)) (now («segment_value» .exit)) (now («segment_gap» .exit)) r in
         Filled found lent after) ⌝ }
 {
     let mut gap: usize = 0;
@@ -130,10 +131,10 @@ pub fn build_gap_segments(
             Point(start[i]),
             Point(end[i]),
             Value(value[i]),
-            out_from,
-            out_to,
-            out_value,
-            out_gap,
+            segment_from,
+            segment_to,
+            segment_value,
+            segment_gap,
             gap,
             used,
         );

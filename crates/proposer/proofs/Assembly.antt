@@ -30,7 +30,7 @@ use Rattle.outcome.specs.declared.grow.Answer.the-variants as Answer·is
 module _ (job : Job) (lent now : WorkColumns) where
   -- the columns that growth reads
   abbrev read : GrowthColumns
-  read = growthColumns (now .froms) (now .weights) (now .lives) (now .freqs) (now .out-froms) (now .out-tos) (now .out-values) (now .out-gaps)
+  read = growthColumns (now .froms) (now .weights) (now .lives) (now .freqs) (now .segment-froms) (now .segment-tos) (now .segment-values) (now .segment-gaps)
 
   -- ---- tables that are ready
   module _ (r : ReadyTables) (done : IsFilled job lent now (FilledTables·is.Ready r)) where
@@ -145,14 +145,14 @@ module _ (job : Job) (lent now : WorkColumns) where
   -- ---- whatever came of filling: growth may rely on it, and its answer is the job's
   pub filled-growable : (t : FilledTables) → IsFilled job lent now t
       → GrowableIf (registerOf job) (reservedOfJob job) (job .k)
-      (growthColumns (now .froms) (now .weights) (now .lives) (now .freqs) (now .out-froms) (now .out-tos) (now .out-values) (now .out-gaps)) t
+      (growthColumns (now .froms) (now .weights) (now .lives) (now .freqs) (now .segment-froms) (now .segment-tos) (now .segment-values) (now .segment-gaps)) t
   filled-growable (FilledTables·is.Ready r) done = ready-growable r done
   filled-growable (FilledTables·is.NoBestUse n) done = tt
   filled-growable (FilledTables·is.Refused x) done = tt
 
   pub filled-proposed : (t : FilledTables) → IsFilled job lent now t
       → IsProposed job lent now (grownFrom (registerOf job) (reservedOfJob job) (job .k)
-      (growthColumns (now .froms) (now .weights) (now .lives) (now .freqs) (now .out-froms) (now .out-tos) (now .out-values) (now .out-gaps)) t)
+      (growthColumns (now .froms) (now .weights) (now .lives) (now .freqs) (now .segment-froms) (now .segment-tos) (now .segment-values) (now .segment-gaps)) t)
   filled-proposed (FilledTables·is.Ready r) done = ready-proposed r done
   filled-proposed (FilledTables·is.NoBestUse n) done = none-proposed n done
   filled-proposed (FilledTables·is.Refused x) done = refused-proposed x done

@@ -36,10 +36,10 @@ none-filled lent now f =
       weights = f .weight i;
       lives = f .live i;
       freqs = f .freq i;
-      out-froms = f .out-from i;
-      out-tos = f .out-to i;
-      out-values = f .out-value i;
-      out-gaps = f .out-gap i;
+      segment-froms = f .segment-from i;
+      segment-tos = f .segment-to i;
+      segment-values = f .segment-value i;
+      segment-gaps = f .segment-gap i;
     }
 
 -- a refused job leaves each lent column as it was

@@ -40,15 +40,15 @@ pub record InTable (seen : GapsSeen) (weights : List Float) (lives : List ℕ) (
 
 -- rows that the columns of gaps and those of gap segments have
 pub record RowsInside (gaps : ℕ) (froms : List ℕ) (weights : List Float) (lives : List ℕ) (freqs : List Float)
-    (segments : ℕ) (out-froms out-tos out-values out-gaps : List ℕ) : Type 0 where
+    (segments : ℕ) (segment-froms segment-tos segment-values segment-gaps : List ℕ) : Type 0 where
   pub from : gaps ≤ length froms
   pub weight : gaps ≤ length weights
   pub live : gaps ≤ length lives
   pub freq : gaps ≤ length freqs
-  pub out-from : segments ≤ length out-froms
-  pub out-to : segments ≤ length out-tos
-  pub out-value : segments ≤ length out-values
-  pub out-gap : segments ≤ length out-gaps
+  pub segment-from : segments ≤ length segment-froms
+  pub segment-to : segments ≤ length segment-tos
+  pub segment-value : segments ≤ length segment-values
+  pub segment-gap : segments ≤ length segment-gaps
 
 -- ---- for contracts of private functions
 -- what walks rely on: a known register, columns that have their rows, of 32-bit points, and all in order

@@ -73,11 +73,11 @@ fn grow<'a, 'b>(
 }
 
 // Where a row's gap segment begins, and past the last one the last point.
-fn point_at(out_from: &[u32], next: usize) -> Point
-    ensures { λ r. ⌜ r .0 ≡ pointAt (now («out_from» .entry)) next ⌝ }
+fn point_at(segment_from: &[u32], next: usize) -> Point
+    ensures { λ r. ⌜ r .0 ≡ pointAt (now («segment_from» .entry)) next ⌝ }
 {
-    if next < out_from.len() {
-        return Point(out_from[next]);
+    if next < segment_from.len() {
+        return Point(segment_from[next]);
     }
     Point(4294967295)
 }
@@ -104,10 +104,10 @@ fn find_split_region<'a, 'b>(
         (now (from .entry)) (now (weight .entry)) (now (live .entry)) (now («min_freq» .entry)) initial k in
         r ≡ regionOf seen) ⌝ }
 {
-    let out_from = segments[0];
-    let out_gap = segments[3];
-    let next = first_at_least(out_gap, 0, out_from.len(), initial as u32);
-    let point = point_at(out_from, next);
+    let segment_from = segments[0];
+    let segment_gap = segments[3];
+    let next = first_at_least(segment_gap, 0, segment_from.len(), initial as u32);
+    let point = point_at(segment_from, next);
     let walkers = Walkers::new(
         reserved[0],
         reserved[1],
@@ -145,10 +145,10 @@ pub fn find_in_tables<'a, 'b>(
     min_freq: &[f32],
     gaps: usize,
     initial: usize,
-    out_from: &'a [u32],
-    out_to: &'a [u32],
-    out_value: &'a [u32],
-    out_gap: &'a [u32],
+    segment_from: &'a [u32],
+    segment_to: &'a [u32],
+    segment_value: &'a [u32],
+    segment_gap: &'a [u32],
     segments: usize,
     unit: &'b [u32],
     start: &'b [u32],
@@ -165,14 +165,14 @@ pub fn find_in_tables<'a, 'b>(
 ) -> Region
     requires { ⌜ RowsInside
         gaps (now from) (now weight) (now live) (now «min_freq»)
-        segments (now «out_from») (now «out_to») (now «out_value») (now «out_gap») ⌝ }
+        segments (now «segment_from») (now «segment_to») (now «segment_value») (now «segment_gap») ⌝ }
     requires { ⌜
         (let reserved = reservedOf
         (now unit) (now start) (now end) (now kind) (now index) (now fixed)
         (now «f_unit») (now «f_point») (now «f_value») (now «spill_weight») in
         let gapSegments = segmentColumns
-        (take segments (now «out_from»)) (take segments (now «out_to»)) (take segments (now «out_value»)) (take segments (now «out_gap»))
-        (length (take segments (now «out_from»))) in
+        (take segments (now «segment_from»)) (take segments (now «segment_to»)) (take segments (now «segment_value»)) (take segments (now «segment_gap»))
+        (length (take segments (now «segment_from»))) in
         let seen = seenBy register reserved gapSegments
         (take gaps (now from)) (take gaps (now weight)) (take gaps (now live)) (take gaps (now «min_freq»)) initial k in
         Known register × Walkable reserved gapSegments ×
@@ -182,19 +182,19 @@ pub fn find_in_tables<'a, 'b>(
         (now (unit .entry)) (now (start .entry)) (now (end .entry)) (now (kind .entry)) (now (index .entry)) (now (fixed .entry))
         (now («f_unit» .entry)) (now («f_point» .entry)) (now («f_value» .entry)) (now («spill_weight» .entry)) in
         let gapSegments = segmentColumns
-        (take segments (now («out_from» .entry))) (take segments (now («out_to» .entry)))
-        (take segments (now («out_value» .entry))) (take segments (now («out_gap» .entry)))
-        (length (take segments (now («out_from» .entry)))) in
+        (take segments (now («segment_from» .entry))) (take segments (now («segment_to» .entry)))
+        (take segments (now («segment_value» .entry))) (take segments (now («segment_gap» .entry)))
+        (length (take segments (now («segment_from» .entry)))) in
         let seen = seenBy register reserved gapSegments
         (take gaps (now (from .entry))) (take gaps (now (weight .entry))) (take gaps (now (live .entry))) (take gaps (now («min_freq» .entry)))
         initial k in
         r ≡ regionOf seen) ⌝ }
 {
     let segments = [
-        &out_from[..segments],
-        &out_to[..segments],
-        &out_value[..segments],
-        &out_gap[..segments],
+        &segment_from[..segments],
+        &segment_to[..segments],
+        &segment_value[..segments],
+        &segment_gap[..segments],
     ];
     let reserved = [
         unit,

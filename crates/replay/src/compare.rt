@@ -40,15 +40,15 @@ fn rows_same(
     weight: &[f32],
     left: &[f32],
     right: &[f32],
-    from: &[u32],
-    to: &[u32],
+    gap_from: &[u32],
+    gap_to: &[u32],
     gap_weight: &[f32],
     live: &[u32],
     freq: &[f32],
-    out_from: &[u32],
-    out_to: &[u32],
-    out_value: &[u32],
-    out_gap: &[u32],
+    segment_from: &[u32],
+    segment_to: &[u32],
+    segment_value: &[u32],
+    segment_gap: &[u32],
 ) -> usize {
     let mut i: usize = 0;
     while i < rows {
@@ -61,15 +61,15 @@ fn rows_same(
             weight,
             left,
             right,
-            from,
-            to,
+            gap_from,
+            gap_to,
             gap_weight,
             live,
             freq,
-            out_from,
-            out_to,
-            out_value,
-            out_gap,
+            segment_from,
+            segment_to,
+            segment_value,
+            segment_gap,
             i,
             &mut line,
         );
@@ -161,15 +161,15 @@ pub(crate) fn tables_agree(
     weight: &[f32],
     left: &[f32],
     right: &[f32],
-    from: &[u32],
-    to: &[u32],
+    gap_from: &[u32],
+    gap_to: &[u32],
     gap_weight: &[f32],
     live: &[u32],
     freq: &[f32],
-    out_from: &[u32],
-    out_to: &[u32],
-    out_value: &[u32],
-    out_gap: &[u32],
+    segment_from: &[u32],
+    segment_to: &[u32],
+    segment_value: &[u32],
+    segment_gap: &[u32],
 ) -> bool {
     let after_links = behind(text, 24, recorded.links);
     let after_uses = behind(after_links, 46, recorded.uses);
@@ -185,15 +185,15 @@ pub(crate) fn tables_agree(
         weight,
         left,
         right,
-        from,
-        to,
+        gap_from,
+        gap_to,
         gap_weight,
         live,
         freq,
-        out_from,
-        out_to,
-        out_value,
-        out_gap,
+        segment_from,
+        segment_to,
+        segment_value,
+        segment_gap,
     );
     let u = rows_same(
         Table::Uses,
@@ -206,15 +206,15 @@ pub(crate) fn tables_agree(
         weight,
         left,
         right,
-        from,
-        to,
+        gap_from,
+        gap_to,
         gap_weight,
         live,
         freq,
-        out_from,
-        out_to,
-        out_value,
-        out_gap,
+        segment_from,
+        segment_to,
+        segment_value,
+        segment_gap,
     );
     let g = rows_same(
         Table::Gaps,
@@ -227,15 +227,15 @@ pub(crate) fn tables_agree(
         weight,
         left,
         right,
-        from,
-        to,
+        gap_from,
+        gap_to,
         gap_weight,
         live,
         freq,
-        out_from,
-        out_to,
-        out_value,
-        out_gap,
+        segment_from,
+        segment_to,
+        segment_value,
+        segment_gap,
     );
     let o = rows_same(
         Table::GapSegments,
@@ -248,15 +248,15 @@ pub(crate) fn tables_agree(
         weight,
         left,
         right,
-        from,
-        to,
+        gap_from,
+        gap_to,
         gap_weight,
         live,
         freq,
-        out_from,
-        out_to,
-        out_value,
-        out_gap,
+        segment_from,
+        segment_to,
+        segment_value,
+        segment_gap,
     );
     let a = table_agrees(record, Table::Links, found.links, recorded.links, l);
     let b = table_agrees(record, Table::Uses, found.uses, recorded.uses, u);
@@ -304,15 +304,15 @@ fn replay_lent(
     weight: &mut [f32],
     left: &mut [f32],
     right: &mut [f32],
-    from: &mut [u32],
-    to: &mut [u32],
+    gap_from: &mut [u32],
+    gap_to: &mut [u32],
     gap_weight: &mut [f32],
     live: &mut [u32],
     freq: &mut [f32],
-    out_from: &mut [u32],
-    out_to: &mut [u32],
-    out_value: &mut [u32],
-    out_gap: &mut [u32],
+    segment_from: &mut [u32],
+    segment_to: &mut [u32],
+    segment_value: &mut [u32],
+    segment_gap: &mut [u32],
     out: &mut [u8],
 ) -> bool {
     let r = answer_sheet(
@@ -324,15 +324,15 @@ fn replay_lent(
         weight,
         left,
         right,
-        from,
-        to,
+        gap_from,
+        gap_to,
         gap_weight,
         live,
         freq,
-        out_from,
-        out_to,
-        out_value,
-        out_gap,
+        segment_from,
+        segment_to,
+        segment_value,
+        segment_gap,
         out,
     );
     let w = r.written;
@@ -354,15 +354,15 @@ fn replay_lent(
         weight,
         left,
         right,
-        from,
-        to,
+        gap_from,
+        gap_to,
         gap_weight,
         live,
         freq,
-        out_from,
-        out_to,
-        out_value,
-        out_gap,
+        segment_from,
+        segment_to,
+        segment_value,
+        segment_gap,
     );
     both(a, t)
 }
@@ -398,15 +398,15 @@ pub(crate) fn replay_record(
     let mut weight = [0f32; USE_ROWS];
     let mut left = [0f32; USE_ROWS];
     let mut right = [0f32; USE_ROWS];
-    let mut from = [0u32; GAP_ROWS];
-    let mut to = [0u32; GAP_ROWS];
+    let mut gap_from = [0u32; GAP_ROWS];
+    let mut gap_to = [0u32; GAP_ROWS];
     let mut gap_weight = [0f32; GAP_ROWS];
     let mut live = [0u32; GAP_ROWS];
     let mut freq = [0f32; GAP_ROWS];
-    let mut out_from = [0u32; GAP_SEGMENT_ROWS];
-    let mut out_to = [0u32; GAP_SEGMENT_ROWS];
-    let mut out_value = [0u32; GAP_SEGMENT_ROWS];
-    let mut out_gap = [0u32; GAP_SEGMENT_ROWS];
+    let mut segment_from = [0u32; GAP_SEGMENT_ROWS];
+    let mut segment_to = [0u32; GAP_SEGMENT_ROWS];
+    let mut segment_value = [0u32; GAP_SEGMENT_ROWS];
+    let mut segment_gap = [0u32; GAP_SEGMENT_ROWS];
     let mut out = [0u8; 81];
     replay_lent(
         record,
@@ -421,15 +421,15 @@ pub(crate) fn replay_record(
         weights_lent(&mut weight, lent.uses),
         weights_lent(&mut left, lent.uses),
         weights_lent(&mut right, lent.uses),
-        numbers_lent(&mut from, lent.gaps),
-        numbers_lent(&mut to, lent.gaps),
+        numbers_lent(&mut gap_from, lent.gaps),
+        numbers_lent(&mut gap_to, lent.gaps),
         weights_lent(&mut gap_weight, lent.gaps),
         numbers_lent(&mut live, lent.gaps),
         weights_lent(&mut freq, lent.gaps),
-        numbers_lent(&mut out_from, lent.gap_segments),
-        numbers_lent(&mut out_to, lent.gap_segments),
-        numbers_lent(&mut out_value, lent.gap_segments),
-        numbers_lent(&mut out_gap, lent.gap_segments),
+        numbers_lent(&mut segment_from, lent.gap_segments),
+        numbers_lent(&mut segment_to, lent.gap_segments),
+        numbers_lent(&mut segment_value, lent.gap_segments),
+        numbers_lent(&mut segment_gap, lent.gap_segments),
         &mut out,
     )
 }

@@ -203,15 +203,15 @@ fn replay_stored(
     let mut weight = [0f32; USE_ROWS];
     let mut left = [0f32; USE_ROWS];
     let mut right = [0f32; USE_ROWS];
-    let mut from = [0u32; GAP_ROWS];
-    let mut to = [0u32; GAP_ROWS];
+    let mut gap_from = [0u32; GAP_ROWS];
+    let mut gap_to = [0u32; GAP_ROWS];
     let mut gap_weight = [0f32; GAP_ROWS];
     let mut live = [0u32; GAP_ROWS];
     let mut freq = [0f32; GAP_ROWS];
-    let mut out_from = [0u32; GAP_SEGMENT_ROWS];
-    let mut out_to = [0u32; GAP_SEGMENT_ROWS];
-    let mut out_value = [0u32; GAP_SEGMENT_ROWS];
-    let mut out_gap = [0u32; GAP_SEGMENT_ROWS];
+    let mut segment_from = [0u32; GAP_SEGMENT_ROWS];
+    let mut segment_to = [0u32; GAP_SEGMENT_ROWS];
+    let mut segment_value = [0u32; GAP_SEGMENT_ROWS];
+    let mut segment_gap = [0u32; GAP_SEGMENT_ROWS];
     let mut out = [0u8; 81];
     let proposed = propose_split(
         [
@@ -246,15 +246,15 @@ fn replay_stored(
         &mut weight,
         &mut left,
         &mut right,
-        &mut from,
-        &mut to,
+        &mut gap_from,
+        &mut gap_to,
         &mut gap_weight,
         &mut live,
         &mut freq,
-        &mut out_from,
-        &mut out_to,
-        &mut out_value,
-        &mut out_gap,
+        &mut segment_from,
+        &mut segment_to,
+        &mut segment_value,
+        &mut segment_gap,
     );
     let r = answer_job(proposed, parameters.k, items_of(sizes, 1), &mut out);
     let found = Rows {
@@ -276,15 +276,15 @@ fn replay_stored(
         &weight,
         &left,
         &right,
-        &from,
-        &to,
+        &gap_from,
+        &gap_to,
         &gap_weight,
         &live,
         &freq,
-        &out_from,
-        &out_to,
-        &out_value,
-        &out_gap,
+        &segment_from,
+        &segment_to,
+        &segment_value,
+        &segment_gap,
     );
     both(a, t)
 }

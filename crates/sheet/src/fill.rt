@@ -30,7 +30,7 @@ const F_AT: usize = E_AT + 6 * kinds::MANY;
 const P_AT: usize = F_AT + 3 * kinds::FEW;
 
 // How many cells a sheet needs.
-const CELLS: usize = P_AT + 5;
+pub const CELLS: usize = P_AT + 5;
 
 const BASES: [usize; 8] = [P_AT, 0, V_AT, S_AT, U_AT, W_AT, E_AT, F_AT];
 

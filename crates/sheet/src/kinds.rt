@@ -3,7 +3,23 @@ ghost use mathlib.Core.Path.{_≡_};
 ghost use Prim.Native.Nat.{_<_, _≤_};
 ghost use Rattle.sheet.specs.Kinds.{letter, fields, limit, width, kindOf};
 
-pub(crate) const KINDS: usize = 8;
+pub const P: usize = 0;
+
+pub const B: usize = P + 1;
+
+pub const V: usize = B + 1;
+
+pub const S: usize = V + 1;
+
+pub const U: usize = S + 1;
+
+pub const W: usize = U + 1;
+
+pub const E: usize = W + 1;
+
+pub const F: usize = E + 1;
+
+pub const KINDS: usize = F + 1;
 
 // The limits are this layer's alone: uses and reservations are many, the others few.
 pub(crate) const FEW: usize = 128;
@@ -27,7 +43,7 @@ pub(crate) fn letter_of(k: usize) -> u8
 }
 
 // How many fields a line of a kind has.
-pub(crate) fn fields_of(k: usize) -> usize
+pub fn fields_of(k: usize) -> usize
     ensures { λ r. ⌜ (r ≡ fields k) × (r ≤ 6) ⌝ }
 {
     if k >= KINDS {

@@ -12,12 +12,13 @@
 mod check;
 mod field;
 mod fill;
-mod kinds;
+pub mod kinds;
 mod write;
 
 pub use check::Reading;
 pub use check::Verdict;
 pub use field::same;
+pub use fill::CELLS;
 pub use fill::column_of;
 pub use fill::read_sheet;
 pub use write::Answer;

@@ -196,15 +196,15 @@ fn print_table(
     weight: &[f32],
     left: &[f32],
     right: &[f32],
-    from: &[u32],
-    to: &[u32],
+    gap_from: &[u32],
+    gap_to: &[u32],
     gap_weight: &[f32],
     live: &[u32],
     freq: &[f32],
-    out_from: &[u32],
-    out_to: &[u32],
-    out_value: &[u32],
-    out_gap: &[u32],
+    segment_from: &[u32],
+    segment_to: &[u32],
+    segment_value: &[u32],
+    segment_gap: &[u32],
 ) -> bool {
     let mut i: usize = 0;
     while i < rows {
@@ -217,15 +217,15 @@ fn print_table(
             weight,
             left,
             right,
-            from,
-            to,
+            gap_from,
+            gap_to,
             gap_weight,
             live,
             freq,
-            out_from,
-            out_to,
-            out_value,
-            out_gap,
+            segment_from,
+            segment_to,
+            segment_value,
+            segment_gap,
             i,
             &mut line,
         );
@@ -251,15 +251,15 @@ fn print_tables(
     weight: &[f32],
     left: &[f32],
     right: &[f32],
-    from: &[u32],
-    to: &[u32],
+    gap_from: &[u32],
+    gap_to: &[u32],
     gap_weight: &[f32],
     live: &[u32],
     freq: &[f32],
-    out_from: &[u32],
-    out_to: &[u32],
-    out_value: &[u32],
-    out_gap: &[u32],
+    segment_from: &[u32],
+    segment_to: &[u32],
+    segment_value: &[u32],
+    segment_gap: &[u32],
 ) -> bool {
     if !is_written {
         return false;
@@ -276,15 +276,15 @@ fn print_tables(
         weight,
         left,
         right,
-        from,
-        to,
+        gap_from,
+        gap_to,
         gap_weight,
         live,
         freq,
-        out_from,
-        out_to,
-        out_value,
-        out_gap,
+        segment_from,
+        segment_to,
+        segment_value,
+        segment_gap,
     );
     let b = print_table(
         Table::Uses,
@@ -295,15 +295,15 @@ fn print_tables(
         weight,
         left,
         right,
-        from,
-        to,
+        gap_from,
+        gap_to,
         gap_weight,
         live,
         freq,
-        out_from,
-        out_to,
-        out_value,
-        out_gap,
+        segment_from,
+        segment_to,
+        segment_value,
+        segment_gap,
     );
     let c = print_table(
         Table::Gaps,
@@ -314,15 +314,15 @@ fn print_tables(
         weight,
         left,
         right,
-        from,
-        to,
+        gap_from,
+        gap_to,
         gap_weight,
         live,
         freq,
-        out_from,
-        out_to,
-        out_value,
-        out_gap,
+        segment_from,
+        segment_to,
+        segment_value,
+        segment_gap,
     );
     let d = print_table(
         Table::GapSegments,
@@ -333,15 +333,15 @@ fn print_tables(
         weight,
         left,
         right,
-        from,
-        to,
+        gap_from,
+        gap_to,
         gap_weight,
         live,
         freq,
-        out_from,
-        out_to,
-        out_value,
-        out_gap,
+        segment_from,
+        segment_to,
+        segment_value,
+        segment_gap,
     );
     a && b && c && d
 }
@@ -357,15 +357,15 @@ fn print_lent(
     weight: &mut [f32],
     left: &mut [f32],
     right: &mut [f32],
-    from: &mut [u32],
-    to: &mut [u32],
+    gap_from: &mut [u32],
+    gap_to: &mut [u32],
     gap_weight: &mut [f32],
     live: &mut [u32],
     freq: &mut [f32],
-    out_from: &mut [u32],
-    out_to: &mut [u32],
-    out_value: &mut [u32],
-    out_gap: &mut [u32],
+    segment_from: &mut [u32],
+    segment_to: &mut [u32],
+    segment_value: &mut [u32],
+    segment_gap: &mut [u32],
     out: &mut [u8],
 ) -> bool {
     let r = answer_sheet(
@@ -377,15 +377,15 @@ fn print_lent(
         weight,
         left,
         right,
-        from,
-        to,
+        gap_from,
+        gap_to,
         gap_weight,
         live,
         freq,
-        out_from,
-        out_to,
-        out_value,
-        out_gap,
+        segment_from,
+        segment_to,
+        segment_value,
+        segment_gap,
         out,
     );
     let w = r.written;
@@ -403,15 +403,15 @@ fn print_lent(
         weight,
         left,
         right,
-        from,
-        to,
+        gap_from,
+        gap_to,
         gap_weight,
         live,
         freq,
-        out_from,
-        out_to,
-        out_value,
-        out_gap,
+        segment_from,
+        segment_to,
+        segment_value,
+        segment_gap,
     )
 }
 
@@ -424,15 +424,15 @@ fn print_answer(text: &[u8], tables: bool) -> bool {
     let mut weight = [0f32; USE_ROWS];
     let mut left = [0f32; USE_ROWS];
     let mut right = [0f32; USE_ROWS];
-    let mut from = [0u32; GAP_ROWS];
-    let mut to = [0u32; GAP_ROWS];
+    let mut gap_from = [0u32; GAP_ROWS];
+    let mut gap_to = [0u32; GAP_ROWS];
     let mut gap_weight = [0f32; GAP_ROWS];
     let mut live = [0u32; GAP_ROWS];
     let mut freq = [0f32; GAP_ROWS];
-    let mut out_from = [0u32; GAP_SEGMENT_ROWS];
-    let mut out_to = [0u32; GAP_SEGMENT_ROWS];
-    let mut out_value = [0u32; GAP_SEGMENT_ROWS];
-    let mut out_gap = [0u32; GAP_SEGMENT_ROWS];
+    let mut segment_from = [0u32; GAP_SEGMENT_ROWS];
+    let mut segment_to = [0u32; GAP_SEGMENT_ROWS];
+    let mut segment_value = [0u32; GAP_SEGMENT_ROWS];
+    let mut segment_gap = [0u32; GAP_SEGMENT_ROWS];
     let mut out = [0u8; 81];
     print_lent(
         text,
@@ -444,15 +444,15 @@ fn print_answer(text: &[u8], tables: bool) -> bool {
         &mut weight,
         &mut left,
         &mut right,
-        &mut from,
-        &mut to,
+        &mut gap_from,
+        &mut gap_to,
         &mut gap_weight,
         &mut live,
         &mut freq,
-        &mut out_from,
-        &mut out_to,
-        &mut out_value,
-        &mut out_gap,
+        &mut segment_from,
+        &mut segment_to,
+        &mut segment_value,
+        &mut segment_gap,
         &mut out,
     )
 }

@@ -51,10 +51,10 @@ refused-filled job lent x e =
             live = refl;
             freq =
                 refl;
-            out-from = refl;
-            out-to = refl;
-            out-value = refl;
-            out-gap = refl;
+            segment-from = refl;
+            segment-to = refl;
+            segment-value = refl;
+            segment-gap = refl;
           });
     }
 

@@ -41,28 +41,28 @@ pub fn fill_tables<'a>(
     weight: &mut [f32],
     left_weight: &mut [f32],
     right_weight: &mut [f32],
-    from: &mut [u32],
-    to: &mut [u32],
+    gap_from: &mut [u32],
+    gap_to: &mut [u32],
     gap_weight: &mut [f32],
     live: &mut [u32],
     min_freq: &mut [f32],
-    out_from: &mut [u32],
-    out_to: &mut [u32],
-    out_value: &mut [u32],
-    out_gap: &mut [u32],
+    segment_from: &mut [u32],
+    segment_to: &mut [u32],
+    segment_value: &mut [u32],
+    segment_gap: &mut [u32],
 ) -> FilledTables
     ensures { λ r. ⌜
         (let job = jobOf parameters (jobColumnsIn (map now (columns .entry))) in
         let lent = workColumns
         (now («prev_lower_freq» .entry)) (now («next_lower_freq» .entry))
         (now (inst .entry)) (now (weight .entry)) (now («left_weight» .entry)) (now («right_weight» .entry))
-        (now (from .entry)) (now (to .entry)) (now («gap_weight» .entry)) (now (live .entry)) (now («min_freq» .entry))
-        (now («out_from» .entry)) (now («out_to» .entry)) (now («out_value» .entry)) (now («out_gap» .entry)) in
+        (now («gap_from» .entry)) (now («gap_to» .entry)) (now («gap_weight» .entry)) (now (live .entry)) (now («min_freq» .entry))
+        (now («segment_from» .entry)) (now («segment_to» .entry)) (now («segment_value» .entry)) (now («segment_gap» .entry)) in
         let after = workColumns
         (now («prev_lower_freq» .exit)) (now («next_lower_freq» .exit))
         (now (inst .exit)) (now (weight .exit)) (now («left_weight» .exit)) (now («right_weight» .exit))
-        (now (from .exit)) (now (to .exit)) (now («gap_weight» .exit)) (now (live .exit)) (now («min_freq» .exit))
-        (now («out_from» .exit)) (now («out_to» .exit)) (now («out_value» .exit)) (now («out_gap» .exit)) in
+        (now («gap_from» .exit)) (now («gap_to» .exit)) (now («gap_weight» .exit)) (now (live .exit)) (now («min_freq» .exit))
+        (now («segment_from» .exit)) (now («segment_to» .exit)) (now («segment_value» .exit)) (now («segment_gap» .exit)) in
         IsFilled job lent after r)
         ⌝ }
 {
@@ -74,17 +74,17 @@ pub fn fill_tables<'a>(
             right_weight.len(),
         ),
         gaps: shortest_of_five(
-            from.len(),
-            to.len(),
+            gap_from.len(),
+            gap_to.len(),
             gap_weight.len(),
             live.len(),
             min_freq.len(),
         ),
         gap_segments: shortest_of_four(
-            out_from.len(),
-            out_to.len(),
-            out_value.len(),
-            out_gap.len(),
+            segment_from.len(),
+            segment_to.len(),
+            segment_value.len(),
+            segment_gap.len(),
         ),
         links: shorter(prev_lower_freq.len(), next_lower_freq.len()),
     };
@@ -128,14 +128,14 @@ pub fn fill_tables<'a>(
         weight,
         left_weight,
         right_weight,
-        from,
-        to,
+        gap_from,
+        gap_to,
         gap_weight,
         live,
         min_freq,
-        out_from,
-        out_to,
-        out_value,
-        out_gap,
+        segment_from,
+        segment_to,
+        segment_value,
+        segment_gap,
     )
 }

@@ -60,14 +60,15 @@ module _ (job : Job) (accepted : Accepted job) (best : ℕ) (h : best < length (
 
   abbrev cutSegments : SegmentColumns
   cutSegments =
-      segmentColumns (take m (now .out-froms)) (take m (now .out-tos)) (take m (now .out-values)) (take m (now .out-gaps)) (length (take m (now .out-froms)))
+      segmentColumns (take m (now .segment-froms)) (take m (now .segment-tos)) (take m (now .segment-values)) (take m (now .segment-gaps))
+      (length (take m (now .segment-froms)))
 
   segments-are : cutSegments ≡ inColumns segments
   segments-are =
-      let a = filled-cut (map (λ (s : Overlap). s .from) segments) (lent .out-froms) (f .out-from) (segment-count (λ s. s .from)) in
-      let t = filled-cut (map (λ (s : Overlap). s .to) segments) (lent .out-tos) (f .out-to) (segment-count (λ s. s .to)) in
-      let v = filled-cut (map (λ (s : Overlap). s .value) segments) (lent .out-values) (f .out-value) (segment-count (λ s. s .value)) in
-      let g = filled-cut (map (λ (s : Overlap). s .gap) segments) (lent .out-gaps) (f .out-gap) (segment-count (λ s. s .gap)) in
+      let a = filled-cut (map (λ (s : Overlap). s .from) segments) (lent .segment-froms) (f .segment-from) (segment-count (λ s. s .from)) in
+      let t = filled-cut (map (λ (s : Overlap). s .to) segments) (lent .segment-tos) (f .segment-to) (segment-count (λ s. s .to)) in
+      let v = filled-cut (map (λ (s : Overlap). s .value) segments) (lent .segment-values) (f .segment-value) (segment-count (λ s. s .value)) in
+      let g = filled-cut (map (λ (s : Overlap). s .gap) segments) (lent .segment-gaps) (f .segment-gap) (segment-count (λ s. s .gap)) in
       λ i. record { from = a i; to = t i; value = v i; gap = g i; used = length (a i) }
 
   abbrev cutSeen : GapsSeen
@@ -76,23 +77,27 @@ module _ (job : Job) (accepted : Accepted job) (best : ℕ) (h : best < length (
       (job .k)
 
   pub seen-is : seenBy (registerOf job) (reservedOfJob job)
-      (segmentColumns (take m (now .out-froms)) (take m (now .out-tos)) (take m (now .out-values)) (take m (now .out-gaps)) (length (take m (now .out-froms))))
+      (segmentColumns (take m (now .segment-froms)) (take m (now .segment-tos)) (take m (now .segment-values)) (take m (now .segment-gaps))
+      (length (take m (now .segment-froms))))
       (take n (now .froms)) (take n (now .weights)) (take n (now .lives)) (take n (now .freqs)) own (job .k) ≡ seenOfJob job best
   seen-is = λ i. seenBy (registerOf job) (reservedOfJob job) (segments-are i) (froms-are i) (weights-are i) (lives-are i) (freqs-are i) (own-is i) (job .k)
 
   pub cut-walkable : Walkable (reservedOfJob job)
-      (segmentColumns (take m (now .out-froms)) (take m (now .out-tos)) (take m (now .out-values)) (take m (now .out-gaps)) (length (take m (now .out-froms))))
+      (segmentColumns (take m (now .segment-froms)) (take m (now .segment-tos)) (take m (now .segment-values)) (take m (now .segment-gaps))
+      (length (take m (now .segment-froms))))
   cut-walkable = subst (Walkable (reservedOfJob job)) (sym segments-are) (job-walkable job accepted best h)
 
   pub cut-in-table : InTable
       (seenBy (registerOf job) (reservedOfJob job)
-      (segmentColumns (take m (now .out-froms)) (take m (now .out-tos)) (take m (now .out-values)) (take m (now .out-gaps)) (length (take m (now .out-froms))))
+      (segmentColumns (take m (now .segment-froms)) (take m (now .segment-tos)) (take m (now .segment-values)) (take m (now .segment-gaps))
+      (length (take m (now .segment-froms))))
       (take n (now .froms)) (take n (now .weights)) (take n (now .lives)) (take n (now .freqs)) own (job .k))
       (take n (now .weights)) (take n (now .lives)) (take n (now .freqs))
   cut-in-table =
       subst (λ (X : Type 0). X) (λ i. InTable (sym seen-is i) (sym weights-are i) (sym lives-are i) (sym freqs-are i)) (job-in-table job accepted best h)
 
-  pub cut-rows : RowsInside n (now .froms) (now .weights) (now .lives) (now .freqs) m (now .out-froms) (now .out-tos) (now .out-values) (now .out-gaps)
+  pub cut-rows : RowsInside n (now .froms) (now .weights) (now .lives) (now .freqs) m (now .segment-froms) (now .segment-tos) (now .segment-values)
+      (now .segment-gaps)
   cut-rows =
       let r = source-gap-room (sourceOfJob job) (accepted .uses) (accepted .blocks) best h lent roomy in
       record {
@@ -104,16 +109,16 @@ module _ (job : Job) (accepted : Accepted job) (best : ℕ) (h : best < length (
         freq =
             rows-of n (map (λ (g : Gap). g .freq) gaps) (lent .freqs) (f .freq) (gap-count (λ g. g .freq))
             (le-trans (le-of-eq (length-map gaps (λ (g : Gap). g .freq))) (r .freq));
-        out-from =
-            rows-of m (map (λ (s : Overlap). s .from) segments) (lent .out-froms) (f .out-from) (segment-count (λ s. s .from))
-            (le-trans (le-of-eq (length-map segments (λ (s : Overlap). s .from))) (r .out-from));
-        out-to =
-            rows-of m (map (λ (s : Overlap). s .to) segments) (lent .out-tos) (f .out-to) (segment-count (λ s. s .to))
-            (le-trans (le-of-eq (length-map segments (λ (s : Overlap). s .to))) (r .out-to));
-        out-value =
-            rows-of m (map (λ (s : Overlap). s .value) segments) (lent .out-values) (f .out-value) (segment-count (λ s. s .value))
-            (le-trans (le-of-eq (length-map segments (λ (s : Overlap). s .value))) (r .out-value));
-        out-gap =
-            rows-of m (map (λ (s : Overlap). s .gap) segments) (lent .out-gaps) (f .out-gap) (segment-count (λ s. s .gap))
-            (le-trans (le-of-eq (length-map segments (λ (s : Overlap). s .gap))) (r .out-gap));
+        segment-from =
+            rows-of m (map (λ (s : Overlap). s .from) segments) (lent .segment-froms) (f .segment-from) (segment-count (λ s. s .from))
+            (le-trans (le-of-eq (length-map segments (λ (s : Overlap). s .from))) (r .segment-from));
+        segment-to =
+            rows-of m (map (λ (s : Overlap). s .to) segments) (lent .segment-tos) (f .segment-to) (segment-count (λ s. s .to))
+            (le-trans (le-of-eq (length-map segments (λ (s : Overlap). s .to))) (r .segment-to));
+        segment-value =
+            rows-of m (map (λ (s : Overlap). s .value) segments) (lent .segment-values) (f .segment-value) (segment-count (λ s. s .value))
+            (le-trans (le-of-eq (length-map segments (λ (s : Overlap). s .value))) (r .segment-value));
+        segment-gap =
+            rows-of m (map (λ (s : Overlap). s .gap) segments) (lent .segment-gaps) (f .segment-gap) (segment-count (λ s. s .gap))
+            (le-trans (le-of-eq (length-map segments (λ (s : Overlap). s .gap))) (r .segment-gap));
       }

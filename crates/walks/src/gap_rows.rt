@@ -9,17 +9,17 @@ ghost use Rattle.walks.specs.Gaps.{gapSegmentRow};
 
 // The gap segment of a row.
 pub(crate) fn segment_at(
-    out_from: &[u32],
-    out_to: &[u32],
-    out_value: &[u32],
+    segment_from: &[u32],
+    segment_to: &[u32],
+    segment_value: &[u32],
     i: usize,
 ) -> GapSegment
-    requires { ⌜ (i < length (now «out_from»)) × (i < length (now «out_to»)) × (i < length (now «out_value»)) ⌝ }
-    ensures { λ r. ⌜ r ≡ gapSegmentRow (now («out_from» .entry)) (now («out_to» .entry)) (now («out_value» .entry)) i ⌝ }
+    requires { ⌜ (i < length (now «segment_from»)) × (i < length (now «segment_to»)) × (i < length (now «segment_value»)) ⌝ }
+    ensures { λ r. ⌜ r ≡ gapSegmentRow (now («segment_from» .entry)) (now («segment_to» .entry)) (now («segment_value» .entry)) i ⌝ }
 {
     GapSegment {
-        from: Point(out_from[i]),
-        to: Point(out_to[i]),
-        value: Value(out_value[i]),
+        from: Point(segment_from[i]),
+        to: Point(segment_to[i]),
+        value: Value(segment_value[i]),
     }
 }

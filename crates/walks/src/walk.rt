@@ -173,16 +173,16 @@ impl Walk {
         ensures { λ r. ⌜
             Takes side register (reservedIn (map now (reserved .entry))) (segmentsIn (map now (segments .entry))) gap heaviest self r ⌝ }
     {
-        let out_from = segments[0];
-        let out_to = segments[1];
-        let out_value = segments[2];
-        let out_gap = segments[3];
+        let segment_from = segments[0];
+        let segment_to = segments[1];
+        let segment_value = segments[2];
+        let segment_gap = segments[3];
         let mut counts = false;
         let mut heaviest = heaviest;
         let mut i = self.next;
-        while ahead_is(side, out_gap, out_from.len(), i, gap) {
+        while ahead_is(side, segment_gap, segment_from.len(), i, gap) {
             let row = row_ahead(side, i);
-            let s = segment_at(out_from, out_to, out_value, row);
+            let s = segment_at(segment_from, segment_to, segment_value, row);
             let seen = Met {
                 fixed: counts,
                 heaviest,

@@ -106,9 +106,9 @@ pub work-columns-are :
       weights = weights 9;
       lives = only 10;
       freqs = weights 11;
-      out-froms = only 12;
-      out-tos = only 13;
-      out-values = only 14;
-      out-gaps = only 15;
+      segment-froms = only 12;
+      segment-tos = only 13;
+      segment-values = only 14;
+      segment-gaps = only 15;
     }
 work-columns-are = refl

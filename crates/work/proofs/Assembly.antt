@@ -73,7 +73,8 @@ module _ (c : SourceColumns) (scales : RematScales) (lent : WorkColumns) (w : So
     -- no best use
     pub none-filled : best ≡ BestUse·is.Nothing
         → IsFilledFrom (sourceIn c scales) lent (workColumns prevs nexts (cols .insts) (cols .mains) (cols .lefts) (cols .rights) (lent .froms) (lent .tos)
-        (lent .weights) (lent .lives) (lent .freqs) (lent .out-froms) (lent .out-tos) (lent .out-values) (lent .out-gaps)) (FilledTables·is.NoBestUse rows)
+        (lent .weights) (lent .lives) (lent .freqs) (lent .segment-froms) (lent .segment-tos) (lent .segment-values) (lent .segment-gaps))
+        (FilledTables·is.NoBestUse rows)
     none-filled n =
         let u = done .uses .cols in
         let b : BestUse·is.Nothing ≡ bestOf source = sym n ∙ done .found in
@@ -81,7 +82,8 @@ module _ (c : SourceColumns) (scales : RematScales) (lent : WorkColumns) (w : So
           answer = ap FilledTables·is.NoBestUse (done .uses .count) ∙ ap (filledOfBest source) b;
           tables =
               subst (λ (t : Tables). FilledBy t lent (workColumns prevs nexts (cols .insts) (cols .mains) (cols .lefts) (cols .rights) (lent .froms) (lent .tos)
-              (lent .weights) (lent .lives) (lent .freqs) (lent .out-froms) (lent .out-tos) (lent .out-values) (lent .out-gaps))) (ap (tablesOfBest source) b)
+              (lent .weights) (lent .lives) (lent .freqs) (lent .segment-froms) (lent .segment-tos) (lent .segment-values) (lent .segment-gaps)))
+              (ap (tablesOfBest source) b)
               (record {
                 prev = links-filled Previous (lent .prevs) (done .prev);
                 next = links-filled Next (lent .nexts) (done .next);
@@ -94,10 +96,10 @@ module _ (c : SourceColumns) (scales : RematScales) (lent : WorkColumns) (w : So
                 weight = refl;
                 live = refl;
                 freq = refl;
-                out-from = refl;
-                out-to = refl;
-                out-value = refl;
-                out-gap = refl;
+                segment-from = refl;
+                segment-to = refl;
+                segment-value = refl;
+                segment-gap = refl;
               });
         }
 
@@ -224,14 +226,14 @@ module _ (c : SourceColumns) (scales : RematScales) (lent : WorkColumns) (w : So
 
         abbrev lentGaps : GapTables
         lentGaps =
-            lentTables (lent .froms) (lent .tos) (lent .weights) (lent .lives) (lent .freqs) (lent .out-froms) (lent .out-tos) (lent .out-values)
-            (lent .out-gaps)
+            lentTables (lent .froms) (lent .tos) (lent .weights) (lent .lives) (lent .freqs) (lent .segment-froms) (lent .segment-tos) (lent .segment-values)
+            (lent .segment-gaps)
 
         pub cut-room : GapRoom
             (gapsOf (blocksIn c) (usesIn (useColumns (take rows (cols .insts)) (take rows (cols .mains)) (take rows (cols .lefts)) (take rows (cols .rights))))
             b) (take segments (c .starts)) (take segments (c .stops)) (take segments (c .values))
-            (lentTables (lent .froms) (lent .tos) (lent .weights) (lent .lives) (lent .freqs) (lent .out-froms) (lent .out-tos) (lent .out-values)
-            (lent .out-gaps))
+            (lentTables (lent .froms) (lent .tos) (lent .weights) (lent .lives) (lent .freqs) (lent .segment-froms) (lent .segment-tos) (lent .segment-values)
+            (lent .segment-gaps))
         cut-room = subst (λ (X : Type 0). X) (same (λ g s e v. GapRoom g s e v lentGaps)) (source-gap-room source checked (w .sound) b b-inside lent roomy)
 
         -- ---- after it
@@ -239,12 +241,12 @@ module _ (c : SourceColumns) (scales : RematScales) (lent : WorkColumns) (w : So
             → GapsFilled (gapsOf (blocksIn c)
             (usesIn (useColumns (take rows (cols .insts)) (take rows (cols .mains)) (take rows (cols .lefts)) (take rows (cols .rights)))) b)
             (take segments (c .starts)) (take segments (c .stops)) (take segments (c .values))
-            (lentTables (lent .froms) (lent .tos) (lent .weights) (lent .lives) (lent .freqs) (lent .out-froms) (lent .out-tos) (lent .out-values)
-            (lent .out-gaps)) now n m
+            (lentTables (lent .froms) (lent .tos) (lent .weights) (lent .lives) (lent .freqs) (lent .segment-froms) (lent .segment-tos) (lent .segment-values)
+            (lent .segment-gaps)) now n m
             → initial ≡ initialGap (blocksIn c)
             (usesIn (useColumns (take rows (cols .insts)) (take rows (cols .mains)) (take rows (cols .lefts)) (take rows (cols .rights)))) b
             → IsFilledFrom (sourceIn c scales) lent (workColumns prevs nexts (cols .insts) (cols .mains) (cols .lefts) (cols .rights) (now .froms) (now .tos)
-            (now .weights) (now .lives) (now .freqs) (now .out-froms) (now .out-tos) (now .out-values) (now .out-gaps))
+            (now .weights) (now .lives) (now .freqs) (now .segment-froms) (now .segment-tos) (now .segment-values) (now .segment-gaps))
             (FilledTables·is.Ready (record { uses = rows; gaps = n; «gap_segments» = m; own = initial }))
         all-filled now n m initial raw own-raw =
             let u = done .uses .cols in
@@ -260,7 +262,7 @@ module _ (c : SourceColumns) (scales : RematScales) (lent : WorkColumns) (w : So
                   ∙ ap (filledOfBest source) k;
               tables =
                   subst (λ (t : Tables). FilledBy t lent (workColumns prevs nexts (cols .insts) (cols .mains) (cols .lefts) (cols .rights) (now .froms)
-                  (now .tos) (now .weights) (now .lives) (now .freqs) (now .out-froms) (now .out-tos) (now .out-values) (now .out-gaps)))
+                  (now .tos) (now .weights) (now .lives) (now .freqs) (now .segment-froms) (now .segment-tos) (now .segment-values) (now .segment-gaps)))
                   (ap (tablesOfBest source) k)
                   (record {
                     prev = links-filled Previous (lent .prevs) (done .prev);
@@ -274,9 +276,9 @@ module _ (c : SourceColumns) (scales : RematScales) (lent : WorkColumns) (w : So
                     weight = d .weight;
                     live = d .live;
                     freq = d .freq;
-                    out-from = d .out-from;
-                    out-to = d .out-to;
-                    out-value = d .out-value;
-                    out-gap = d .out-gap;
+                    segment-from = d .segment-from;
+                    segment-to = d .segment-to;
+                    segment-value = d .segment-value;
+                    segment-gap = d .segment-gap;
                   });
             }

@@ -57,7 +57,7 @@ impl Lent {
         let [weight, left_weight, right_weight] = &mut self.weights;
         let [from, to, live] = &mut self.gaps;
         let [gap_weight, min_freq] = &mut self.gap_weights;
-        let [out_from, out_to, out_value, out_gap] = &mut self.out;
+        let [segment_from, segment_to, segment_value, segment_gap] = &mut self.out;
         WorkTables {
             prev_lower_freq,
             next_lower_freq,
@@ -70,10 +70,10 @@ impl Lent {
             gap_weight,
             live,
             min_freq,
-            out_from,
-            out_to,
-            out_value,
-            out_gap,
+            segment_from,
+            segment_to,
+            segment_value,
+            segment_gap,
         }
     }
 

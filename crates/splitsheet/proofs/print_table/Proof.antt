@@ -6,10 +6,10 @@ use Rattle.splitsheet.proofs.print_table.Statement.{statement}
 use Rattle.splitsheet.proofs.print_table.Tie as tie
 
 abbrev Inv-loop : tie.InvT-loop
-Inv-loop table rows prev next inst weight left right from to gap-weight live freq out-from out-to out-value out-gap i₀ i = i ≤ rows
+Inv-loop table rows prev next inst weight left right from to gap-weight live freq segment-from segment-to segment-value segment-gap i₀ i = i ≤ rows
 
 abbrev μ-loop : tie.MeasureT-loop
-μ-loop table rows prev next inst weight left right from to gap-weight live freq out-from out-to out-value out-gap i₀ i = rows - i
+μ-loop table rows prev next inst weight left right from to gap-weight live freq segment-from segment-to segment-value segment-gap i₀ i = rows - i
 
 loop-holds : tie.Need-loop-holds Inv-loop μ-loop
 loop-holds c = omega arith

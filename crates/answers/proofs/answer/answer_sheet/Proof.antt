@@ -34,8 +34,8 @@ returns c =
     let w = c .before .before .write-unread in
     unread-answered (at-read-sheet .read-sheet .ensures)
     (workColumns (a .prev-lower-freq .now) (a .next-lower-freq .now) (a .inst .now) (a .weight .now) (a .left-weight .now)
-    (a .right-weight .now) (a .from .now) (a .to .now) (a .gap-weight .now) (a .live .now) (a .min-freq .now) (a .out-from .now)
-    (a .out-to .now) (a .out-value .now) (a .out-gap .now)) (sym (at-is-unread .is-unread .ensures) ∙ at-if1 .if1 .taken)
+    (a .right-weight .now) (a .gap-from .now) (a .gap-to .now) (a .gap-weight .now) (a .live .now) (a .min-freq .now) (a .segment-from .now)
+    (a .segment-to .now) (a .segment-value .now) (a .segment-gap .now)) (sym (at-is-unread .is-unread .ensures) ∙ at-if1 .if1 .taken)
     (a .out .now) (w .last .1 .0) (w .result) (w .ensures)
 
 adjustment-requires : tie.Need-adjustment-requires
@@ -210,8 +210,8 @@ returns-2 c =
     let r = at-read-sheet .read-sheet in
     sound-answered (r .ensures)
     (workColumns (a .prev-lower-freq .now) (a .next-lower-freq .now) (a .inst .now) (a .weight .now) (a .left-weight .now)
-    (a .right-weight .now) (a .from .now) (a .to .now) (a .gap-weight .now) (a .live .now) (a .min-freq .now) (a .out-from .now)
-    (a .out-to .now) (a .out-value .now) (a .out-gap .now)) (sym (at-is-unread .is-unread .ensures) ∙ at-if1 .if1 .left)
+    (a .right-weight .now) (a .gap-from .now) (a .gap-to .now) (a .gap-weight .now) (a .live .now) (a .min-freq .now) (a .segment-from .now)
+    (a .segment-to .now) (a .segment-value .now) (a .segment-gap .now)) (sym (at-is-unread .is-unread .ensures) ∙ at-if1 .if1 .left)
     (at-propose-cells .propose-cells .ensures) (at-adjustment .adjustment .ensures) refl
     (c .before .before .answer-job .ensures)
 

@@ -79,9 +79,9 @@ returns c =
     .before .before .before .before in
     let a = at-args .args in
     shown (a .table)
-    (workColumns (a .prev .now) (a .next .now) (a .inst .now) (a .weight .now) (a .left .now) (a .right .now) (a .from .now)
-    (a .to .now) (a .gap-weight .now) (a .live .now) (a .freq .now) (a .out-from .now) (a .out-to .now) (a .out-value .now)
-    (a .out-gap .now)) (a .i) (at-enum-told .enum-told .given .1) (at-link-row .link-row .ensures)
+    (workColumns (a .prev .now) (a .next .now) (a .inst .now) (a .weight .now) (a .left .now) (a .right .now) (a .gap-from .now)
+    (a .gap-to .now) (a .gap-weight .now) (a .live .now) (a .freq .now) (a .segment-from .now) (a .segment-to .now) (a .segment-value .now)
+    (a .segment-gap .now)) (a .i) (at-enum-told .enum-told .given .1) (at-link-row .link-row .ensures)
     (c .before .before .write-line .ensures)
 
 same-length-2 : tie.Need-same-length-2
@@ -96,9 +96,9 @@ returns-2 c =
     .before .before .before .before .before in
     let a = at-args .args in
     shown (a .table)
-    (workColumns (a .prev .now) (a .next .now) (a .inst .now) (a .weight .now) (a .left .now) (a .right .now) (a .from .now)
-    (a .to .now) (a .gap-weight .now) (a .live .now) (a .freq .now) (a .out-from .now) (a .out-to .now) (a .out-value .now)
-    (a .out-gap .now)) (a .i) (at-enum-told2 .enum-told2 .given .1) (at-use-row .use-row .ensures)
+    (workColumns (a .prev .now) (a .next .now) (a .inst .now) (a .weight .now) (a .left .now) (a .right .now) (a .gap-from .now)
+    (a .gap-to .now) (a .gap-weight .now) (a .live .now) (a .freq .now) (a .segment-from .now) (a .segment-to .now) (a .segment-value .now)
+    (a .segment-gap .now)) (a .i) (at-enum-told2 .enum-told2 .given .1) (at-use-row .use-row .ensures)
     (c .before .before .write-line2 .ensures)
 
 same-length-3 : tie.Need-same-length-3
@@ -113,9 +113,9 @@ returns-3 c =
     .before .before .before .before .before in
     let a = at-args .args in
     shown (a .table)
-    (workColumns (a .prev .now) (a .next .now) (a .inst .now) (a .weight .now) (a .left .now) (a .right .now) (a .from .now)
-    (a .to .now) (a .gap-weight .now) (a .live .now) (a .freq .now) (a .out-from .now) (a .out-to .now) (a .out-value .now)
-    (a .out-gap .now)) (a .i) (at-enum-told3 .enum-told3 .given .1) (at-gap-row .gap-row .ensures)
+    (workColumns (a .prev .now) (a .next .now) (a .inst .now) (a .weight .now) (a .left .now) (a .right .now) (a .gap-from .now)
+    (a .gap-to .now) (a .gap-weight .now) (a .live .now) (a .freq .now) (a .segment-from .now) (a .segment-to .now) (a .segment-value .now)
+    (a .segment-gap .now)) (a .i) (at-enum-told3 .enum-told3 .given .1) (at-gap-row .gap-row .ensures)
     (c .before .before .write-line3 .ensures)
 
 same-length-4 : tie.Need-same-length-4
@@ -130,9 +130,9 @@ returns-4 c =
     .before .before .before .before .before in
     let a = at-args .args in
     shown (a .table)
-    (workColumns (a .prev .now) (a .next .now) (a .inst .now) (a .weight .now) (a .left .now) (a .right .now) (a .from .now)
-    (a .to .now) (a .gap-weight .now) (a .live .now) (a .freq .now) (a .out-from .now) (a .out-to .now) (a .out-value .now)
-    (a .out-gap .now)) (a .i) (at-enum-told4 .enum-told4 .given .1) (at-gap-segment-row .gap-segment-row .ensures)
+    (workColumns (a .prev .now) (a .next .now) (a .inst .now) (a .weight .now) (a .left .now) (a .right .now) (a .gap-from .now)
+    (a .gap-to .now) (a .gap-weight .now) (a .live .now) (a .freq .now) (a .segment-from .now) (a .segment-to .now) (a .segment-value .now)
+    (a .segment-gap .now)) (a .i) (at-enum-told4 .enum-told4 .given .1) (at-gap-segment-row .gap-segment-row .ensures)
     (c .before .before .write-line4 .ensures)
 
 pub write-row-spec : {M : Type 1} → statement M

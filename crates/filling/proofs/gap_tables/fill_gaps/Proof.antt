@@ -38,8 +38,8 @@ abbrev lent : tie.Start → GapTables
 lent s =
     let a = s .args in
     lentTables
-    (a .from .now) (a .to .now) (a .gap-weight .now) (a .live .now) (a .min-freq .now)
-    (a .out-from .now) (a .out-to .now) (a .out-value .now) (a .out-gap .now)
+    (a .gap-from .now) (a .gap-to .now) (a .gap-weight .now) (a .live .now) (a .min-freq .now)
+    (a .segment-from .now) (a .segment-to .now) (a .segment-value .now) (a .segment-gap .now)
 
 -- ---- the columns as the gaps are collected, and how many there are
 abbrev held : tie.After-collect-gaps → GapColumns

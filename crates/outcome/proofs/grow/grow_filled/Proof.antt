@@ -23,8 +23,8 @@ abbrev read : tie.Start → GrowthColumns
 read s =
     let a = s .args in
     growthColumns
-    (a .from .now) (a .gap-weight .now) (a .live .now) (a .min-freq .now)
-    (a .out-from .now) (a .out-to .now) (a .out-value .now) (a .out-gap .now)
+    (a .gap-from .now) (a .gap-weight .now) (a .live .now) (a .min-freq .now)
+    (a .segment-from .now) (a .segment-to .now) (a .segment-value .now) (a .segment-gap .now)
 
 abbrev answer : tie.Start → FilledTables → Proposed
 answer s = grownFrom (s .args .register) (reserved s) (s .args .k) (read s)

@@ -15,14 +15,16 @@ use Rattle.overlaps.proofs.gap_segments.build_gap_segments.Statement.{s
 use Rattle.overlaps.proofs.gap_segments.build_gap_segments.Tie as tie
 
 abbrev Inv-loop : tie.InvT-loop
-Inv-loop start end value from to out-from₀ out-to₀ out-value₀ out-gap₀ gap₀ used₀ i₀ out-from out-to out-value out-gap gap used i =
+Inv-loop start end value from to segment-from₀ segment-to₀ segment-value₀ segment-gap₀ gap₀ used₀ i₀ segment-from segment-to segment-value segment-gap gap
+    used i =
     (i ≤ length start) × EndedBy from to (rowBefore end 0 i) gap
     × Left (fromOn (λ (k : ℕ). overlapsOf from to (getD start k 0) (getD end k 0) (getD value k 0)) (length start) i)
-    (gapSegments from to start end value) (segmentColumns out-from₀ out-to₀ out-value₀ out-gap₀ 0)
-    (segmentColumns out-from out-to out-value out-gap used)
+    (gapSegments from to start end value) (segmentColumns segment-from₀ segment-to₀ segment-value₀ segment-gap₀ 0)
+    (segmentColumns segment-from segment-to segment-value segment-gap used)
 
 abbrev μ-loop : tie.MeasureT-loop
-μ-loop start end value from to out-from₀ out-to₀ out-value₀ out-gap₀ gap₀ used₀ i₀ out-from out-to out-value out-gap gap used i = length start - i
+μ-loop start end value from to segment-from₀ segment-to₀ segment-value₀ segment-gap₀ gap₀ used₀ i₀ segment-from segment-to segment-value segment-gap gap
+    used i = length start - i
 
 abbrev begin : tie.In-loop Inv-loop μ-loop → tie.Start Inv-loop μ-loop
 begin c = c .before .before .before .before .before .before .before .before .before .before .before
@@ -32,10 +34,10 @@ head c = c .before .before .before .before .before .before .before
 
 -- the columns as lent, and as a turn finds them
 abbrev lent : tie.Start Inv-loop μ-loop → SegmentColumns
-lent s = segmentColumns (s .args .out-from .now) (s .args .out-to .now) (s .args .out-value .now) (s .args .out-gap .now) 0
+lent s = segmentColumns (s .args .segment-from .now) (s .args .segment-to .now) (s .args .segment-value .now) (s .args .segment-gap .now) 0
 
 abbrev found : tie.In-loop Inv-loop μ-loop → SegmentColumns
-found l = let p = l .before .loop in segmentColumns (p .out-from) (p .out-to) (p .out-value) (p .out-gap) (p .used)
+found l = let p = l .before .loop in segmentColumns (p .segment-from) (p .segment-to) (p .segment-value) (p .segment-gap) (p .used)
 
 abbrev lists : tie.Start Inv-loop μ-loop → ℕ → List Overlap
 lists s k = overlapsOf (s .args .from .now) (s .args .to .now) (getD (s .args .start .now) k 0) (getD (s .args .end .now) k 0) (getD (s .args .value .now) k 0)
@@ -131,7 +133,7 @@ returns c =
     subst (λ (now : SegmentColumns). Filled (all s) (lent s) now)
     (sym
     (left-none (fromOn (lists s) (length (s .args .start .now)) (p .i)) (all s) (lent s)
-    (segmentColumns (p .out-from) (p .out-to) (p .out-value) (p .out-gap) (p .used))
+    (segmentColumns (p .segment-from) (p .segment-to) (p .segment-value) (p .segment-gap) (p .used))
     (fromOn-end (lists s) (length (s .args .start .now)) (p .i) (c .loop-test .left)) (p .inv .2)))
     (all-filled (all s) (lent s) refl (s .pre .1 .1))
 

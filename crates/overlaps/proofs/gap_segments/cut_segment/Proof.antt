@@ -13,13 +13,14 @@ use Rattle.overlaps.proofs.gap_segments.cut_segment.Statement.{statemen
 use Rattle.overlaps.proofs.gap_segments.cut_segment.Tie as tie
 
 abbrev Inv-loop : tie.InvT-loop
-Inv-loop from to start end value out-from₀ out-to₀ out-value₀ out-gap₀ gap used g₀ n₀ out-from out-to out-value out-gap g n =
+Inv-loop from to start end value segment-from₀ segment-to₀ segment-value₀ segment-gap₀ gap used g₀ n₀ segment-from segment-to segment-value segment-gap g n =
     EndedBy from to (end .0) g ×
     Left (fromOn (overlapWith from to (start .0) (end .0) (value .0)) (length from) g) (overlapsOf from to (start .0) (end .0) (value .0))
-    (segmentColumns out-from₀ out-to₀ out-value₀ out-gap₀ used) (segmentColumns out-from out-to out-value out-gap n)
+    (segmentColumns segment-from₀ segment-to₀ segment-value₀ segment-gap₀ used) (segmentColumns segment-from segment-to segment-value segment-gap n)
 
 abbrev μ-loop : tie.MeasureT-loop
-μ-loop from to start end value out-from₀ out-to₀ out-value₀ out-gap₀ gap used g₀ n₀ out-from out-to out-value out-gap g n = length from - g
+μ-loop from to start end value segment-from₀ segment-to₀ segment-value₀ segment-gap₀ gap used g₀ n₀ segment-from segment-to segment-value segment-gap g n =
+    length from - g
 
 abbrev begin : tie.In-loop Inv-loop μ-loop → tie.Start Inv-loop μ-loop
 begin c = c .before .before .before .before .before .before .before .before
@@ -29,10 +30,10 @@ head c = c .before .before .before .before
 
 -- the columns as lent, and as a turn finds them
 abbrev lent : tie.Start Inv-loop μ-loop → SegmentColumns
-lent s = segmentColumns (s .args .out-from .now) (s .args .out-to .now) (s .args .out-value .now) (s .args .out-gap .now) (s .args .used)
+lent s = segmentColumns (s .args .segment-from .now) (s .args .segment-to .now) (s .args .segment-value .now) (s .args .segment-gap .now) (s .args .used)
 
 abbrev found : tie.In-loop Inv-loop μ-loop → SegmentColumns
-found l = let p = l .before .loop in segmentColumns (p .out-from) (p .out-to) (p .out-value) (p .out-gap) (p .n)
+found l = let p = l .before .loop in segmentColumns (p .segment-from) (p .segment-to) (p .segment-value) (p .segment-gap) (p .n)
 
 abbrev lists : tie.Start Inv-loop μ-loop → ℕ → List Overlap
 lists s = overlapWith (s .args .from .now) (s .args .to .now) (s .args .start .0) (s .args .end .0) (s .args .value .0)

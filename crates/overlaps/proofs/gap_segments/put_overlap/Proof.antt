@@ -7,42 +7,43 @@ use Rattle.overlaps.proofs.gap_segments.put_overlap.Statement.{statemen
 use Rattle.overlaps.proofs.gap_segments.put_overlap.Tie as tie
 
 room : (c : tie.Else1) → let a =
-    c .before .before .before .args in SegmentRoom 1 (segmentColumns (a .out-from .now) (a .out-to .now) (a .out-value .now) (a .out-gap .now) (a .used))
+    c .before .before .before .args in
+    SegmentRoom 1 (segmentColumns (a .segment-from .now) (a .segment-to .now) (a .segment-value .now) (a .segment-gap .now) (a .used))
 room c =
     let a = c .before .before .before .args in
     room-one (a .from .0) (a .to .0) (a .value .0) (a .gap)
-    (segmentColumns (a .out-from .now) (a .out-to .now) (a .out-value .now) (a .out-gap .now) (a .used)) (c .if1 .left)
+    (segmentColumns (a .segment-from .now) (a .segment-to .now) (a .segment-value .now) (a .segment-gap .now) (a .used)) (c .if1 .left)
     (c .before .before .before .pre)
 
 returns : tie.Need-returns
 returns c =
     let a = c .before .before .before .args in
     put-none (a .from .0) (a .to .0) (a .value .0) (a .gap)
-    (segmentColumns (a .out-from .now) (a .out-to .now) (a .out-value .now) (a .out-gap .now) (a .used)) (c .if1 .taken)
+    (segmentColumns (a .segment-from .now) (a .segment-to .now) (a .segment-value .now) (a .segment-gap .now) (a .used)) (c .if1 .taken)
 
-mul-out-from : tie.Need-mul-out-from
-mul-out-from c = search needs
+mul-segment-from : tie.Need-mul-segment-from
+mul-segment-from c = search needs
 
-slice-write-out-from : tie.Need-slice-write-out-from
-slice-write-out-from c = let h = room c .from in omega (arith, h)
+slice-write-segment-from : tie.Need-slice-write-segment-from
+slice-write-segment-from c = let h = room c .from in omega (arith, h)
 
-mul-out-to : tie.Need-mul-out-to
-mul-out-to c = search needs
+mul-segment-to : tie.Need-mul-segment-to
+mul-segment-to c = search needs
 
-slice-write-out-to : tie.Need-slice-write-out-to
-slice-write-out-to c = let h = room c .to in omega (arith, h)
+slice-write-segment-to : tie.Need-slice-write-segment-to
+slice-write-segment-to c = let h = room c .to in omega (arith, h)
 
-mul-out-value : tie.Need-mul-out-value
-mul-out-value c = search needs
+mul-segment-value : tie.Need-mul-segment-value
+mul-segment-value c = search needs
 
-slice-write-out-value : tie.Need-slice-write-out-value
-slice-write-out-value c = let h = room c .value in omega (arith, h)
+slice-write-segment-value : tie.Need-slice-write-segment-value
+slice-write-segment-value c = let h = room c .value in omega (arith, h)
 
-mul-out-gap : tie.Need-mul-out-gap
-mul-out-gap c = search needs
+mul-segment-gap : tie.Need-mul-segment-gap
+mul-segment-gap c = search needs
 
-slice-write-out-gap : tie.Need-slice-write-out-gap
-slice-write-out-gap c = let h = room c .gap in omega (arith, h)
+slice-write-segment-gap : tie.Need-slice-write-segment-gap
+slice-write-segment-gap c = let h = room c .gap in omega (arith, h)
 
 add-result : tie.Need-add-result
 add-result c = search needs
@@ -63,21 +64,21 @@ returns-2 : tie.Need-returns-2
 returns-2 c =
     let a = c .before .before .before .args in
     put-some (a .from .0) (a .to .0) (a .value .0) (a .gap)
-    (segmentColumns (a .out-from .now) (a .out-to .now) (a .out-value .now) (a .out-gap .now) (a .used)) (c .if1 .left)
+    (segmentColumns (a .segment-from .now) (a .segment-to .now) (a .segment-value .now) (a .segment-gap .now) (a .used)) (c .if1 .left)
 
 pub put-overlap-spec : {M : Type 1} → statement M
 put-overlap-spec =
     tie.close
     (tie.spec
     returns
-    mul-out-from
-    slice-write-out-from
-    mul-out-to
-    slice-write-out-to
-    mul-out-value
-    slice-write-out-value
-    mul-out-gap
-    slice-write-out-gap
+    mul-segment-from
+    slice-write-segment-from
+    mul-segment-to
+    slice-write-segment-to
+    mul-segment-value
+    slice-write-segment-value
+    mul-segment-gap
+    slice-write-segment-gap
     add-result
     same-length
     same-length-2

@@ -17,16 +17,17 @@ begin c =
     c .before .before .before .before .before .before .before .before .before .before .before .before .before .before .before .before .before .before .before
 
 slice-aggregate-t27 : tie.Need-slice-aggregate-t27
-slice-aggregate-t27 c = let b = begin c in sym (length-take-le (b .args .segments) (b .args .out-from .now) (b .pre .0 .out-from))
+slice-aggregate-t27 c = let b = begin c in sym (length-take-le (b .args .segments) (b .args .segment-from .now) (b .pre .0 .segment-from))
 
 slice-aggregate-t29 : tie.Need-slice-aggregate-t29
-slice-aggregate-t29 c = let b = begin (c .before) in sym (length-take-le (b .args .segments) (b .args .out-to .now) (b .pre .0 .out-to))
+slice-aggregate-t29 c = let b = begin (c .before) in sym (length-take-le (b .args .segments) (b .args .segment-to .now) (b .pre .0 .segment-to))
 
 slice-aggregate-t31 : tie.Need-slice-aggregate-t31
-slice-aggregate-t31 c = let b = begin (c .before .before) in sym (length-take-le (b .args .segments) (b .args .out-value .now) (b .pre .0 .out-value))
+slice-aggregate-t31 c = let b = begin (c .before .before) in sym (length-take-le (b .args .segments) (b .args .segment-value .now) (b .pre .0 .segment-value))
 
 slice-aggregate-t33 : tie.Need-slice-aggregate-t33
-slice-aggregate-t33 c = let b = begin (c .before .before .before) in sym (length-take-le (b .args .segments) (b .args .out-gap .now) (b .pre .0 .out-gap))
+slice-aggregate-t33 c = let b = begin (c .before .before .before) in sym (length-take-le (b .args .segments) (b .args .segment-gap .now)
+    (b .pre .0 .segment-gap))
 
 slice-aggregate-find-split-region : tie.Need-slice-aggregate-find-split-region
 slice-aggregate-find-split-region c =
@@ -68,16 +69,16 @@ find-split-region-requires c κs =
       record {
         known = b .pre .1 .0;
         long = record {
-          few = let e = length-take-le n (a .out-from .now) (r .out-from) in
-              let h = r .out-from in
+          few = let e = length-take-le n (a .segment-from .now) (r .segment-from) in
+              let h = r .segment-from in
               let g = b .good .1 .1 .1 .1 .1 .1 .0 .1 in
               omega (arith, e, h, g);
-          from-long = same n (a .out-from .now) (a .out-from .now) (r .out-from) (r .out-from);
-          to-long = same n (a .out-from .now) (a .out-to .now) (r .out-from) (r .out-to);
-          value-long = same n (a .out-from .now) (a .out-value .now) (r .out-from) (r .out-value);
-          gap-long = same n (a .out-from .now) (a .out-gap .now) (r .out-from) (r .out-gap);
+          from-long = same n (a .segment-from .now) (a .segment-from .now) (r .segment-from) (r .segment-from);
+          to-long = same n (a .segment-from .now) (a .segment-to .now) (r .segment-from) (r .segment-to);
+          value-long = same n (a .segment-from .now) (a .segment-value .now) (r .segment-from) (r .segment-value);
+          gap-long = same n (a .segment-from .now) (a .segment-gap .now) (r .segment-from) (r .segment-gap);
         };
-        small = small n (a .out-to .now)
+        small = small n (a .segment-to .now)
             (λ k. let e = d .before .before .before .before .before .before .before in
             let l = e .before .before .before .before .before .before .shared-slice-known6 .given k in
             omega (arith, l));

@@ -33,16 +33,16 @@ walking b =
     subst (λ (g : SegmentColumns). Walking (b .args .register) (table b) g) (sym (segments-taken (b .args .t6)))
     (subst (λ (t : Reserved). Walking (b .args .register) t (segmentsIn (map now (b .args .t6)))) (sym (reserved-taken (b .args .t7))) (b .pre .1))
 
-array-copy-out-out-from : tie.Need-array-copy-out-out-from
-array-copy-out-out-from c = search needs
+array-copy-out-segment-from : tie.Need-array-copy-out-segment-from
+array-copy-out-segment-from c = search needs
 
-array-copy-out-out-gap : tie.Need-array-copy-out-out-gap
-array-copy-out-out-gap c = search needs
+array-copy-out-segment-gap : tie.Need-array-copy-out-segment-gap
+array-copy-out-segment-gap c = search needs
 
 cast-first-at-least : tie.Need-cast-first-at-least
 cast-first-at-least c = search needs
 
-abbrev begin : tie.After-out-gap → tie.Start
+abbrev begin : tie.After-segment-gap → tie.Start
 begin c = c .before .before .before .before .before .before
 
 first-at-least-requires : tie.Need-first-at-least-requires
@@ -134,8 +134,8 @@ pub find-split-region-spec : {M : Type 1} → statement M
 find-split-region-spec =
     tie.close
     (tie.spec
-    array-copy-out-out-from
-    array-copy-out-out-gap
+    array-copy-out-segment-from
+    array-copy-out-segment-gap
     cast-first-at-least
     first-at-least-requires
     point-at-requires

@@ -16,11 +16,11 @@ shared-slice-read-t7 c = search needs
 
 returns : tie.Need-returns
 unfolding pointAt
-returns c = let a = c .before .before .args in sym (cond-true _ _ (lt-ltb (a .next) (length (a .out-from .now)) (c .before .if1 .taken)))
+returns c = let a = c .before .before .args in sym (cond-true _ _ (lt-ltb (a .next) (length (a .segment-from .now)) (c .before .if1 .taken)))
 
 returns-2 : tie.Need-returns-2
 unfolding pointAt
-returns-2 c = let a = c .before .args in sym (cond-false _ _ (le-ltb (a .next) (length (a .out-from .now)) (c .if1 .left)))
+returns-2 c = let a = c .before .args in sym (cond-false _ _ (le-ltb (a .next) (length (a .segment-from .now)) (c .if1 .left)))
 
 pub point-at-spec : {M : Type 1} → statement M
 point-at-spec = tie.close (tie.spec mul-t5 shared-slice-read-t7 returns returns-2)

@@ -36,8 +36,8 @@ lent s =
     workColumns
     (a .prev-lower-freq .now) (a .next-lower-freq .now)
     (a .inst .now) (a .weight .now) (a .left-weight .now) (a .right-weight .now)
-    (a .from .now) (a .to .now) (a .gap-weight .now) (a .live .now) (a .min-freq .now)
-    (a .out-from .now) (a .out-to .now) (a .out-value .now) (a .out-gap .now)
+    (a .gap-from .now) (a .gap-to .now) (a .gap-weight .now) (a .live .now) (a .min-freq .now)
+    (a .segment-from .now) (a .segment-to .now) (a .segment-value .now) (a .segment-gap .now)
 
 -- the use table as it is filled
 abbrev cols : tie.After-fill-uses → UseColumns

@@ -35,17 +35,17 @@ pub record Relies (side : Side) (p : Register) (t : Reserved) (g : SegmentColumn
   pub at : At side p (t .rows) g (firstEnd side gap (gap + 1)) walk
 
 abbrev Inv-loop : tie.InvT-loop
-Inv-loop self₀ side t3 reserved register gap heaviest out-from out-to out-value out-gap counts₀ heaviest₀ i₀ self counts heaviest' i =
+Inv-loop self₀ side t3 reserved register gap heaviest segment-from segment-to segment-value segment-gap counts₀ heaviest₀ i₀ self counts heaviest' i =
     let t = reservedIn (map now reserved) in
-    let g = segmentColumns out-from out-to out-value out-gap (length out-from) in
+    let g = segmentColumns segment-from segment-to segment-value segment-gap (length segment-from) in
     (i ≤ g .used)
     × PlacesInside register (length (t .rows)) self
     × (Relies side register t g gap heaviest self₀ → Going side register t g gap (metBefore heaviest) i self (met counts heaviest'))
 
 -- rows ahead
 abbrev μ-loop : tie.MeasureT-loop
-μ-loop self₀ side t3 reserved register gap heaviest out-from out-to out-value out-gap counts₀ heaviest₀ i₀ self counts heaviest' i =
-    onSide side i (length out-from - i)
+μ-loop self₀ side t3 reserved register gap heaviest segment-from segment-to segment-value segment-gap counts₀ heaviest₀ i₀ self counts heaviest' i =
+    onSide side i (length segment-from - i)
 
 abbrev begin : tie.At-loop Inv-loop μ-loop → tie.Start Inv-loop μ-loop
 begin c = c .before .before .before .before .before
