@@ -12,9 +12,9 @@ NUMBER = re.compile(rb"(?=[ 0-9]{11}$) *(0|[1-9][0-9]*)$")
 
 
 def base():
-    """Cells by kind: B to F one after the other, a column as long as the limit, then P."""
+    """Cells by kind, one after the other, a column as long as the limit."""
     at, where = 0, {}
-    for k in ORDER[1:] + "P":
+    for k in ORDER:
         where[k] = at
         at += FIELDS[k] * LIMIT[k]
     return where, at
@@ -39,9 +39,9 @@ def well_formed(line):
     return letter, row
 
 
-def expect(text, cells=4200):
+def expect(text, spare=99):
     where, room = base()
-    if cells < room:
+    if spare < 0:
         return b"too few cells\n"
     if not text:
         return refusal(14, 1)
@@ -61,7 +61,7 @@ def expect(text, cells=4200):
             return refusal(15, number)
         rows[letter].append(row)
         last = place
-    held = [7] * 4200
+    held = [7] * (room + spare)
     for k in ORDER:
         for i, row in enumerate(rows[k]):
             for c, n in enumerate(row):
@@ -198,7 +198,7 @@ def main():
         given.append(pieces(text))
         wanted.append(expect(text))
     wanted.append(expect(b""))
-    wanted.append(expect(b"", cells=4100))
+    wanted.append(expect(b"", spare=-1))
     wanted.append(expect(b" " * 1048576))
     wanted.append(expect(b"\n" * 1048576))
     wanted.append(answers())

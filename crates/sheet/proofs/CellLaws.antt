@@ -2,7 +2,6 @@
 -- Assumes nothing.
 use Prim.Native.Nat.{ℕ, zero, suc, _+_, _*_, _≤_, _<_}
 use mathlib.Core.Path.{_≡_, refl, sym, ap, _∙_, subst}
-use mathlib.Core.Bool.{Bool, true, false}
 use mathlib.Core.List.{List, [], _∷_}
 use mathlib.Core.Logic.{_⊎_, inl, inr, ⊎-elim}
 use native.Mathlib.Omega.{arith}
@@ -10,14 +9,12 @@ use native.Mathlib.Nat.{mul-le-mul-right, suc-mul, add-zero}
 use native.Mathlib.Decide.{ℕ-discrete}
 use lib.ListN.{length, getD, set, take, drop, length-set, length-drop, length-map, List·getD-map}
 use lib.Seq.{sets, length-sets, getD-set-same, getD-set-other, getD-take, getD-drop, length-take-le, ext-getD}
-use lib.Dec.{T, eqb, leb}
-use borrow.Author.Tests.{leb-true, ne-eqb}
-use Rattle.sheet.specs.Kinds.{pick, kinds, fields, limit}
+use Rattle.sheet.specs.Kinds.{kinds, fields, limit, base, cellCount}
 use Rattle.sheet.specs.Sheet.{Sheet, IsRow, AreRows, Within}
-use Rattle.sheet.specs.Cells.{base, cellCount, place, column, storedColumns, storedKinds, stored, heldRow, heldRows, held}
+use Rattle.sheet.specs.Cells.{place, column, storedColumns, storedKinds, stored, heldRow, heldRows, held}
 use Rattle.sheet.proofs.Lists.{drop-next}
-use Rattle.sheet.proofs.KindLaws.{allBelow, all-at}
-use Rattle.sheet.proofs.FillLaws.{place-fits, base-fits}
+use Rattle.sheet.proofs.KindLaws.{split, base-before, base-fits}
+use Rattle.sheet.proofs.FillLaws.{place-fits}
 
 -- an index is outside a run of n from p on
 abbrev pub Outside : ℕ → ℕ → ℕ → Type 0
@@ -77,19 +74,9 @@ cells-kept s cells j o = kinds-outside kinds 0 j s cells (λ m d a b f. o m d b 
 end-of : ℕ → ℕ
 end-of k = base k + fields k * limit k
 
-apart : ℕ → ℕ → Bool
-apart a b = pick (eqb a b) true (pick (leb (end-of a) (base b)) true (leb (end-of b) (base a)))
-
-either : (x y : Bool) (a b c d : ℕ) → x ≡ leb a b → y ≡ leb c d → pick x true y ≡ true → (a ≤ b) ⊎ (c ≤ d)
-either true y a b c d p q e = inl (leb-true a b (sym p))
-either false y a b c d p q e = inr (leb-true c d (sym q ∙ e))
-
-kinds-apart : (a b : ℕ) → a < kinds → b < kinds → (a ≡ b → ⊥) → (end-of a ≤ base b) ⊎ (end-of b ≤ base a)
-unfolding apart end-of base fields limit
-kinds-apart a b ha hb n =
-    let r : allBelow kinds (λ j. apart a j) ≡ true = all-at kinds (λ i. allBelow kinds (λ j. apart i j)) tt a ha in
-    let t : apart a b ≡ true = all-at kinds (λ j. apart a j) (subst T (sym r) tt) b hb in
-    either (leb (end-of a) (base b)) (leb (end-of b) (base a)) (end-of a) (base b) (end-of b) (base a) refl refl (rw (ne-eqb a b n) at t)
+kinds-apart : (a b : ℕ) → (a ≡ b → ⊥) → (end-of a ≤ base b) ⊎ (end-of b ≤ base a)
+unfolding end-of
+kinds-apart a b n = ⊎-elim (λ h. inl (base-before a b h)) (λ h. inr (base-before b a (omega arith))) (split a b)
 
 -- a cell of one column is outside of every other
 module _ (s : Sheet) (within : Within s) (k c i : ℕ) (kind : k < kinds) (few : c < fields k) (row : i < length (s k)) where
@@ -108,7 +95,7 @@ module _ (s : Sheet) (within : Within s) (k c i : ℕ) (kind : k < kinds) (few :
   unfolding place end-of
   other-kind m d hm hd n =
       let f = place-fits (base m) (fields m) (limit m) d (length (s m)) (base m + fields m * limit m) hd (within m hm) (omega arith) in
-      ⊎-elim (λ a. inl (omega (arith, here-high))) (λ a. inr (omega (arith, here-low))) (kinds-apart k m kind hm n)
+      ⊎-elim (λ a. inl (omega (arith, here-high))) (λ a. inr (omega (arith, here-low))) (kinds-apart k m n)
 
   later-column : (d : ℕ) → c < d → Outside here (place k d) (length (s k))
   unfolding here place

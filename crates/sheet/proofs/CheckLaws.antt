@@ -1,6 +1,6 @@
 -- Laws of the check: what one line does to the verdict, and what is known of the lines passed.
 -- Assumes nothing.
-use Prim.Native.Nat.{ℕ, zero, suc, _+_, _≤_, _<_, max}
+use Prim.Native.Nat.{ℕ, zero, suc, _+_, _-_, _≤_, _<_, max}
 use mathlib.Core.Path.{_≡_, refl, sym, ap, _∙_, subst}
 use mathlib.Core.Bool.{Bool, true, false}
 use mathlib.Core.List.{List, [], _∷_, _++_, append-assoc, append-nil}
@@ -13,19 +13,20 @@ use lib.Seq.{take-at, drop-drop, getD-drop, getD-set-same, getD-set-other}
 use lib.Dec.{eqb, leb}
 use native.Mathlib.Decide.{ℕ-discrete}
 use borrow.Author.Tests.{eq-eqb, ne-eqb, leb-true, lt-ltb, le-ltb}
-use Rattle.sheet.specs.Kinds.{pick, kinds, limit, width, kindOf}
+use Rattle.sheet.specs.Kinds.{pick, kinds, limit, once, needed, width, kindOf, linesTo, mostLines}
 use Rattle.sheet.specs.Sheet.{line}
 use Rattle.sheet.specs.Refusal.{linesOf, isLine, kindOfLine, latest, ofKind, isInOrder, fault, judged, verdictBelow, verdict, rowOf, sheetOf, Counted}
-use Rattle.sheet.specs.Refusal.{Checked}
+use Rattle.sheet.specs.Refusal.{openKind, noneNeeded, isComplete, Checked}
 use Rattle.sheet.specs.Next.{nextAt}
 use Rattle.sheet.specs.declared.check.Verdict.{Verdict}
 use Rattle.sheet.specs.declared.check.Verdict.the-variants.{Sound, Refused}
 use Rattle.sheet.specs.declared.check.Next.the-variants.{Line, Bad}
-use Rattle.sheet.proofs.FieldLaws.{not-both}
+use Rattle.sheet.proofs.KindLaws.{lines-small}
+use Rattle.sheet.proofs.FieldLaws.{not-both, pick-both}
 use Rattle.sheet.proofs.LineLaws.{line-is, line-kind, line-lines, First, first-line}
 use Rattle.sheet.proofs.NextLaws.{next-of}
 
-false-if : (b : Bool) → (b ≡ true → ⊥) → b ≡ false
+pub false-if : (b : Bool) → (b ≡ true → ⊥) → b ≡ false
 false-if true h = absurd (h refl)
 false-if false h = refl
 
@@ -100,16 +101,54 @@ unfolding latest
 latest-more [] l = omega arith
 latest-more (a ∷ bs) l = omega (arith, latest-more bs l)
 
-pub order-latest : (above : List (List ℕ)) (k : ℕ) → isInOrder (length above) (latest above) k ≡ true → latest above ≤ k
-unfolding latest isInOrder
-order-latest [] k e = omega arith
-order-latest (a ∷ bs) k e =
-    let p : pick (eqb k 0) false (leb (latest (a ∷ bs)) k) ≡ true = rw (ne-eqb (suc (length bs)) 0 (omega arith)) at e in
-    last-of (eqb k 0) p
+-- a turn of the loop that looks for a kind that is needed
+pub none-stop : (k b : ℕ) → k < b → needed k ≡ true → noneNeeded k (b - k) ≡ false
+unfolding noneNeeded
+none-stop k b h e = let z : b - k ≡ suc (b - suc k) = omega arith in rw (z, e)
+
+pub none-step : (k b : ℕ) → k < b → needed k ≡ false → noneNeeded k (b - k) ≡ noneNeeded (k + 1) (b - (k + 1))
+unfolding noneNeeded
+none-step k b h e =
+    let z : b - k ≡ suc (b - suc k) = omega arith in
+    let y : k + 1 ≡ suc k = omega arith in
+    rw (z, y, e)
+
+pub none-end : (k b : ℕ) → b ≤ k → noneNeeded k (b - k) ≡ true
+unfolding noneNeeded
+none-end k b h = let z : b - k ≡ 0 = omega arith in rw z
+
+-- the first kind that may stand below some lines
+abbrev pub openOf : List (List ℕ) → ℕ
+openOf above = openKind (length above) (latest above)
+
+-- what order says
+pub order-open : (above : List (List ℕ)) (k : ℕ) → isInOrder (length above) (latest above) k ≡ true
+    → (openOf above ≤ k) × (noneNeeded (openOf above) (k - openOf above) ≡ true)
+unfolding isInOrder
+order-open above k e =
+    let p = pick-both (leb (openOf above) k) (noneNeeded (openOf above) (k - openOf above)) e in
+    (leb-true (openOf above) k (p .0), p .1)
+
+latest-open : (above : List (List ℕ)) → latest above ≤ openOf above
+unfolding openKind latest
+latest-open [] = omega arith
+latest-open (a ∷ bs) = rw (ne-eqb (suc (length bs)) 0 (omega arith)) (by (once (latest (a ∷ bs))))
   where
-    last-of : (b : Bool) → pick b false (leb (latest (a ∷ bs)) k) ≡ true → latest (a ∷ bs) ≤ k
-    last-of true q = absurd (not-both (sym q))
-    last-of false q = leb-true (latest (a ∷ bs)) k q
+    by : (b : Bool) → latest (a ∷ bs) ≤ pick b (suc (latest (a ∷ bs))) (latest (a ∷ bs))
+    by true = omega arith
+    by false = omega arith
+
+pub order-latest : (above : List (List ℕ)) (k : ℕ) → isInOrder (length above) (latest above) k ≡ true → latest above ≤ k
+order-latest above k e = omega (arith, order-open above k e .0, latest-open above)
+
+-- a line in order opens its kind again, or the one behind it where no second may stand
+pub open-more : (above : List (List ℕ)) (l : List ℕ) → isInOrder (length above) (latest above) (kindOfLine l) ≡ true
+    → openOf (above ++ (l ∷ [])) ≡ pick (once (kindOfLine l)) (suc (kindOfLine l)) (kindOfLine l)
+unfolding openKind
+open-more above l e =
+    let m : latest (above ++ (l ∷ [])) ≡ kindOfLine l = omega (arith, latest-more above l, order-latest above (kindOfLine l) e) in
+    let n : length (above ++ (l ∷ [])) ≡ suc (length above) = omega (arith, length-append above (l ∷ [])) in
+    rw (m, n, ne-eqb (suc (length above)) 0 (omega arith))
 
 -- how many lines there are, by kinds
 abbrev Kinded : List (List ℕ) → Type 0
@@ -148,17 +187,13 @@ total-all : (ls : List (List ℕ)) → Kinded ls → total kinds ls ≡ length l
 total-all [] p = total-none kinds
 total-all (l ∷ ls) p = total-more kinds l ls (p .0) ∙ ap suc (total-all ls (p .1))
 
-limits-to : ℕ → ℕ
-limits-to zero = 0
-limits-to (suc n) = limit n + limits-to n
-
-total-within : (n : ℕ) (ls : List (List ℕ)) → ((k : ℕ) → k < n → length (ofKind k ls) ≤ limit k) → total n ls ≤ limits-to n
-unfolding total limits-to
+total-within : (n : ℕ) (ls : List (List ℕ)) → ((k : ℕ) → k < n → length (ofKind k ls) ≤ limit k) → total n ls ≤ linesTo n
+unfolding total linesTo
 total-within zero ls w = omega arith
 total-within (suc n) ls w = omega (arith, total-within n ls (λ k h. w k (omega arith)), w n (omega arith))
 
-few : (ls : List (List ℕ)) → Kinded ls → ((k : ℕ) → k < kinds → length (ofKind k ls) ≤ limit k) → length ls ≤ 1153
-unfolding limits-to limit
+few : (ls : List (List ℕ)) → Kinded ls → ((k : ℕ) → k < kinds → length (ofKind k ls) ≤ limit k) → length ls ≤ mostLines
+unfolding mostLines
 few ls p w = omega (arith, total-within kinds ls w, total-all ls p)
 
 -- what is known of the lines passed: the verdict is that of the lines left below them
@@ -174,7 +209,7 @@ pub record Upto (text counts : List ℕ) (lines m at : ℕ) : Type 0 where
   pub kinded : Kinded above
   pub within : (k : ℕ) → k < kinds → length (ofKind k above) ≤ limit k
 
-pub upto-none : (text : List ℕ) → Upto text (replicate 8 0) 0 0 0
+pub upto-none : (text : List ℕ) → Upto text (replicate kinds 0) 0 0 0
 unfolding latest ofKind
 upto-none text =
     record {
@@ -185,17 +220,17 @@ upto-none text =
       counted = refl;
       last = refl;
       size = refl;
-      rows = λ k h. getD-replicate 8 k 0 0 h;
+      rows = λ k h. getD-replicate kinds k 0 0 h;
       kinded = tt;
       within = λ k h. omega arith;
     }
 
-pub upto-few : (text counts : List ℕ) (lines m at : ℕ) → Upto text counts lines m at → lines ≤ 1153
-upto-few text counts lines m at u = omega (arith, u .counted, few (u .above) (u .kinded) (u .within))
+pub upto-few : (text counts : List ℕ) (lines m at : ℕ) → Upto text counts lines m at → lines < 4294967295
+upto-few text counts lines m at u = omega (arith, u .counted, few (u .above) (u .kinded) (u .within), lines-small)
 
-pub verdict-lines : (text : List ℕ) → 0 < length text → verdict text ≡ verdictBelow [] (linesOf text)
+pub verdict-lines : (text : List ℕ) → verdict text ≡ verdictBelow [] (linesOf text)
 unfolding verdict
-verdict-lines text h = rw (ne-eqb (length text) 0 (omega arith))
+verdict-lines text = refl
 
 -- what the line at a place is, by what the check answers there
 pub record Good (text : List ℕ) (lines m at k e : ℕ) : Type 0 where
@@ -242,7 +277,7 @@ module _ (text counts : List ℕ) (lines m at : ℕ) (u : Upto text counts lines
 
   -- the verdict, from that of the lines left
   said : (n : ℕ) → verdictBelow (u .above) (linesOf (drop at text)) ≡ Refused n (length (u .above) + 1) → verdict text ≡ Refused n (lines + 1)
-  said n e = verdict-lines text (omega arith) ∙ sym (u .left) ∙ e ∙ ap (λ (j : ℕ). Refused n (j + 1)) (sym (u .counted))
+  said n e = verdict-lines text ∙ sym (u .left) ∙ e ∙ ap (λ (j : ℕ). Refused n (j + 1)) (sym (u .counted))
 
   order-there : (k : ℕ) (b : Bool) → isInOrder lines m k ≡ b → isInOrder (length (u .above)) (latest (u .above)) k ≡ b
   order-there k b e = rw (← u .counted, ← u .last) e
@@ -318,30 +353,42 @@ module _ (text counts : List ℕ) (lines m at : ℕ) (u : Upto text counts lines
           within = λ j h. omega (arith, counts-then j h (ℕ-discrete j k) .0, counts-then j h (ℕ-discrete j k) .1 n);
         }
 
--- nothing is left: the text is sound
-pub upto-end : (text counts : List ℕ) (lines m at : ℕ) → Upto text counts lines m at → length text ≤ at → 0 < length text → Checked text Sound counts
-unfolding verdictBelow linesOf sheetOf
-upto-end text counts lines m at u h n =
-    let d : drop at text ≡ [] = drop-of-length-le text h in
-    let e : verdict text ≡ Sound = verdict-lines text n ∙ sym (u .left) ∙ ap (λ (x : List ℕ). verdictBelow (u .above) (linesOf x)) d in
-    let w : u .above ≡ linesOf text = sym (append-nil (u .above)) ∙ ap (λ (x : List ℕ). u .above ++ linesOf x) (sym d) ∙ u .whole in
-    record {
-      answer = sym e;
-      counted = record {
-        sound = λ s k l. u .rows k l ∙ ap (λ (x : List (List ℕ)). length (ofKind k x)) w ∙ sym (length-map (ofKind k (linesOf text)) (rowOf k));
-        refused = λ f. absurd (f refl);
-        within = λ k l. omega (arith, u .rows k l, u .within k l);
-      };
-    }
+-- nothing is left: the text is sound, or a line is missing
+module _ (text counts : List ℕ) (lines m at : ℕ) (u : Upto text counts lines m at) (h : length text ≤ at) where
+  none-left : drop at text ≡ []
+  none-left = drop-of-length-le text h
+
+  ended : verdict text ≡ pick (isComplete (length (u .above)) (latest (u .above))) Sound (Refused 14 (length (u .above) + 1))
+  unfolding verdictBelow linesOf
+  ended = verdict-lines text ∙ sym (u .left) ∙ ap (λ (x : List ℕ). verdictBelow (u .above) (linesOf x)) none-left
+
+  end-there : (b : Bool) → b ≡ isComplete lines m → isComplete (length (u .above)) (latest (u .above)) ≡ b
+  end-there b e = rw (← u .counted, ← u .last) (sym e)
+
+  pub upto-missing : false ≡ isComplete lines m → verdict text ≡ Refused 14 (lines + 1)
+  upto-missing e =
+      ended
+      ∙ ap (λ (b : Bool). pick b Sound (Refused 14 (length (u .above) + 1))) (end-there false e)
+      ∙ ap (λ (j : ℕ). Refused 14 (j + 1)) (sym (u .counted))
+
+  pub upto-end : true ≡ isComplete lines m → Checked text Sound counts
+  unfolding linesOf sheetOf
+  upto-end t =
+      let e : verdict text ≡ Sound = ended ∙ ap (λ (b : Bool). pick b Sound (Refused 14 (length (u .above) + 1))) (end-there true t) in
+      let w : u .above ≡ linesOf text = sym (append-nil (u .above)) ∙ ap (λ (x : List ℕ). u .above ++ linesOf x) (sym none-left) ∙ u .whole in
+      record {
+        answer = sym e;
+        counted = record {
+          sound = λ s k l. u .rows k l ∙ ap (λ (x : List (List ℕ)). length (ofKind k x)) w ∙ sym (length-map (ofKind k (linesOf text)) (rowOf k));
+          refused = λ f. absurd (f refl);
+          within = λ k l. omega (arith, u .rows k l, u .within k l);
+        };
+      }
 
 -- a text that is refused
-pub not-counted : (text : List ℕ) (v : Verdict) → (v ≡ Sound → ⊥) → Counted text v (replicate 8 0)
-not-counted text v f = record { sound = λ s. absurd (f s); refused = λ g. refl; within = λ k h. omega (arith, getD-replicate {A = ℕ} 8 k 0 0 h) }
+pub not-counted : (text : List ℕ) (v : Verdict) → (v ≡ Sound → ⊥) → Counted text v (replicate kinds 0)
+not-counted text v f = record { sound = λ s. absurd (f s); refused = λ g. refl; within = λ k h. omega (arith, getD-replicate {A = ℕ} kinds k 0 0 h) }
 
-pub refused-checked : (text : List ℕ) (n p : ℕ) → verdict text ≡ Refused n p → Checked text (Refused n p) (replicate 8 0)
+pub refused-checked : (text : List ℕ) (n p : ℕ) → verdict text ≡ Refused n p → Checked text (Refused n p) (replicate kinds 0)
 refused-checked text n p e =
     record { answer = sym e; counted = not-counted text (Refused n p) (λ s. let z : _≡_ {A = ℕ} 0 1 = cc in omega arith) }
-
-pub empty-refused : (text : List ℕ) → length text ≡ 0 → verdict text ≡ Refused 14 1
-unfolding verdict
-empty-refused text e = rw (eq-eqb (length text) 0 e)

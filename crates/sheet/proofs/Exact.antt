@@ -4,25 +4,27 @@ use Prim.Native.Nat.{ℕ, zero, suc, _+_, _≤_, _<_}
 use mathlib.Core.Path.{_≡_, refl, sym, ap, _∙_, subst}
 use mathlib.Core.Bool.{Bool, true, false}
 use mathlib.Core.List.{List, [], _∷_, _++_, append-assoc, append-nil}
-use mathlib.Core.Logic.{_⊎_, ⊎-elim, _↔_}
+use mathlib.Core.Logic.{_⊎_, inl, inr, ⊎-elim, _↔_}
 use native.Mathlib.Omega.{arith}
 use lib.ListN.{length, getD, take, drop}
 use lib.Dec.{ltb}
 use borrow.Author.Tests.{le-ltb, ltb-false}
-use Rattle.sheet.specs.Kinds.{pick, kinds, fields, limit}
+use Rattle.sheet.specs.Kinds.{pick, kinds, kindAt, fields, limit, needed, base, cellCount}
 use Rattle.sheet.specs.Sheet.{linesText, Sheet, textFrom, render, IsSheet, Within}
 use Rattle.sheet.specs.Refusal.{linesOf, isLine, kindOfLine, latest, ofKind, isInOrder, fault, judged, verdictBelow, verdict, sheetOf}
-use Rattle.sheet.specs.Cells.{base, cellCount, place, column, stored, cellsAfter, held, Read}
+use Rattle.sheet.specs.Refusal.{openKind, noneNeeded, isComplete}
+use Rattle.sheet.specs.Cells.{place, column, stored, cellsAfter, held, Read}
 use Rattle.sheet.specs.declared.check.Verdict.{Verdict}
 use Rattle.sheet.specs.declared.check.Verdict.the-variants.{Sound, Refused, NoRoom}
 use Rattle.sheet.proofs.CheckLaws.{verdict-lines, passed}
 use Rattle.sheet.proofs.SoundLaws.{AllPass, fault-none, sound-sheet}
 use Rattle.sheet.proofs.CompleteLaws.{render-sound, render-held}
 use Rattle.sheet.proofs.CellLaws.{Outside, cells-kept, sheet-held, column-held}
-use Rattle.sheet.proofs.FillLaws.{place-fits, base-fits}
+use Rattle.sheet.proofs.KindLaws.{base-fits}
+use Rattle.sheet.proofs.FillLaws.{place-fits}
 use Rattle.sheet.proofs.ReadLaws.{cells-same}
 
--- a text of a sheet with one P within the limits
+-- a text of a sheet within the limits
 pub record Rendering (text : List ℕ) : Type 0 where
   pub sheet : Sheet
   pub is : IsSheet sheet
@@ -46,33 +48,65 @@ pub record FirstBad (top ls : List (List ℕ)) (n place : ℕ) : Type 0 where
   pub some : 0 < n
   pub there : place ≡ length (top ++ above) + 1
 
+-- no line is bad, and one that is needed is missing behind the last
+pub record Missing (top ls : List (List ℕ)) (n place : ℕ) : Type 0 where
+  pub pass : AllPass top ls
+  pub incomplete : isComplete (length (top ++ ls)) (latest (top ++ ls)) ≡ false
+  pub number : n ≡ 14
+  pub there : place ≡ length (top ++ ls) + 1
+
 refused-same : (m p n q : ℕ) → Refused m p ≡ Refused n q → (m ≡ n) × (p ≡ q)
 refused-same m p n q e = (cc, cc)
 
-refused-first : (ls top : List (List ℕ)) (n p : ℕ) → verdictBelow top ls ≡ Refused n p → FirstBad top ls n p
+missing-by : (b : Bool) (m n p : ℕ) → pick b Sound (Refused 14 m) ≡ Refused n p → (b ≡ false) × (n ≡ 14) × (p ≡ m)
+missing-by true m n p e = let z : _≡_ {A = ℕ} 0 1 = cc in absurd (omega arith)
+missing-by false m n p e = let s = refused-same 14 m n p e in (refl, sym (s .0), sym (s .1))
+
+refused-first : (ls top : List (List ℕ)) (n p : ℕ) → verdictBelow top ls ≡ Refused n p → FirstBad top ls n p ⊎ Missing top ls n p
 unfolding verdictBelow
-refused-first [] top n p e = let z : _≡_ {A = ℕ} 0 1 = cc in absurd (omega arith)
+refused-first [] top n p e =
+    let q = missing-by (isComplete (length top) (latest top)) (length top + 1) n p e in
+    let a : top ++ [] ≡ top = append-nil top in
+    inr (record {
+      pass = tt;
+      incomplete = subst (λ (x : List (List ℕ)). isComplete (length x) (latest x) ≡ false) (sym a) (q .0);
+      number = q .1;
+      there = subst (λ (x : List (List ℕ)). p ≡ length x + 1) (sym a) (q .2);
+    })
 refused-first (l ∷ ls) top n p e = by (fault top l) refl e (refused-first ls (top ++ (l ∷ [])) n p)
   where
     by : (m : ℕ) → fault top l ≡ m → judged m (length top + 1) (verdictBelow (top ++ (l ∷ [])) ls) ≡ Refused n p
-        → (verdictBelow (top ++ (l ∷ [])) ls ≡ Refused n p → FirstBad (top ++ (l ∷ [])) ls n p) → FirstBad top (l ∷ ls) n p
-    by zero f q later =
-        let b = later q in
-        let a : (top ++ (l ∷ [])) ++ b .above ≡ top ++ l ∷ b .above = append-assoc top (l ∷ []) (b .above) in
-        record {
-          above = l ∷ b .above;
-          line = b .line;
-          below = b .below;
-          split = ap (λ (x : List (List ℕ)). l ∷ x) (b .split);
-          pass = (fault-none top l f, b .pass);
-          faulty = subst (λ (x : List (List ℕ)). fault x (b .line) ≡ n) a (b .faulty);
-          some = b .some;
-          there = subst (λ (x : List (List ℕ)). p ≡ length x + 1) a (b .there);
-        }
+        → (verdictBelow (top ++ (l ∷ [])) ls ≡ Refused n p → FirstBad (top ++ (l ∷ [])) ls n p ⊎ Missing (top ++ (l ∷ [])) ls n p)
+        → FirstBad top (l ∷ ls) n p ⊎ Missing top (l ∷ ls) n p
+    by zero f q later = ⊎-elim (λ b. inl (bad b)) (λ b. inr (lacking b)) (later q)
+      where
+        bad : FirstBad (top ++ (l ∷ [])) ls n p → FirstBad top (l ∷ ls) n p
+        bad b =
+            let a : (top ++ (l ∷ [])) ++ b .above ≡ top ++ l ∷ b .above = append-assoc top (l ∷ []) (b .above) in
+            record {
+              above = l ∷ b .above;
+              line = b .line;
+              below = b .below;
+              split = ap (λ (x : List (List ℕ)). l ∷ x) (b .split);
+              pass = (fault-none top l f, b .pass);
+              faulty = subst (λ (x : List (List ℕ)). fault x (b .line) ≡ n) a (b .faulty);
+              some = b .some;
+              there = subst (λ (x : List (List ℕ)). p ≡ length x + 1) a (b .there);
+            }
+
+        lacking : Missing (top ++ (l ∷ [])) ls n p → Missing top (l ∷ ls) n p
+        lacking b =
+            let a : (top ++ (l ∷ [])) ++ ls ≡ top ++ l ∷ ls = append-assoc top (l ∷ []) ls in
+            record {
+              pass = (fault-none top l f, b .pass);
+              incomplete = subst (λ (x : List (List ℕ)). isComplete (length x) (latest x) ≡ false) a (b .incomplete);
+              number = b .number;
+              there = subst (λ (x : List (List ℕ)). p ≡ length x + 1) a (b .there);
+            }
     by (suc m) f q later =
         let s = refused-same (suc m) (length top + 1) n p q in
         let a : top ≡ top ++ [] = sym (append-nil top) in
-        record {
+        inl (record {
           above = [];
           line = l;
           below = ls;
@@ -81,7 +115,7 @@ refused-first (l ∷ ls) top n p e = by (fault top l) refl e (refused-first ls (
           faulty = subst (λ (x : List (List ℕ)). fault x l ≡ n) a (f ∙ s .0);
           some = omega (arith, s .0);
           there = subst (λ (x : List (List ℕ)). p ≡ length x + 1) a (sym (s .1));
-        }
+        })
 
 first-refused : (above : List (List ℕ)) (top : List (List ℕ)) (l : List ℕ) (ls : List (List ℕ)) (n : ℕ) → AllPass top above → fault (top ++ above) l ≡ suc n
     → verdictBelow top (above ++ l ∷ ls) ≡ Refused (suc n) (length (top ++ above) + 1)
@@ -97,21 +131,38 @@ first-refused (b ∷ bs) top l ls n p f =
     ∙ first-refused bs (top ++ (b ∷ [])) l ls n (p .1) (subst (λ (x : List (List ℕ)). fault x l ≡ suc n) (sym a) f)
     ∙ ap (λ (x : List (List ℕ)). Refused (suc n) (length x + 1)) a
 
--- a text with a line is refused exactly for its first bad line; an empty text is refused for the missing P
-pub refused-exactly : (text : List ℕ) (n p : ℕ) → 0 < length text → (verdict text ≡ Refused n p) ↔ FirstBad [] (linesOf text) n p
-refused-exactly text n p h =
-    ((λ e. refused-first (linesOf text) [] n p (sym (verdict-lines text h) ∙ e)), back n)
+missing-refused : (ls top : List (List ℕ)) → AllPass top ls → isComplete (length (top ++ ls)) (latest (top ++ ls)) ≡ false
+    → verdictBelow top ls ≡ Refused 14 (length (top ++ ls) + 1)
+unfolding verdictBelow
+missing-refused [] top p e = let a : top ++ [] ≡ top = append-nil top in rw (a, rw a at e)
+missing-refused (l ∷ ls) top p e =
+    let a : (top ++ (l ∷ [])) ++ ls ≡ top ++ l ∷ ls = append-assoc top (l ∷ []) ls in
+    passed top l ls (kindOfLine l) refl (p .0 .good) (p .0 .order) (p .0 .room)
+    ∙ missing-refused ls (top ++ (l ∷ [])) (p .1) (subst (λ (x : List (List ℕ)). isComplete (length x) (latest x) ≡ false) (sym a) e)
+    ∙ ap (λ (x : List (List ℕ)). Refused 14 (length x + 1)) a
+
+-- a text is refused exactly for its first bad line, or where none is bad for a line that is missing at its end: the P of an empty text
+pub refused-exactly : (text : List ℕ) (n p : ℕ) → (verdict text ≡ Refused n p) ↔ (FirstBad [] (linesOf text) n p ⊎ Missing [] (linesOf text) n p)
+refused-exactly text n p =
+    ((λ e. refused-first (linesOf text) [] n p (sym (verdict-lines text) ∙ e)), ⊎-elim (back n) lacking)
   where
     back : (m : ℕ) → FirstBad [] (linesOf text) m p → verdict text ≡ Refused m p
     back zero b = absurd (omega (arith, b .some))
     back (suc m) b =
-        verdict-lines text h
+        verdict-lines text
         ∙ ap (verdictBelow []) (b .split)
         ∙ first-refused (b .above) [] (b .line) (b .below) m (b .pass) (b .faulty)
         ∙ ap (Refused (suc m)) (sym (b .there))
 
+    lacking : Missing [] (linesOf text) n p → verdict text ≡ Refused n p
+    lacking b =
+        verdict-lines text
+        ∙ missing-refused (linesOf text) [] (b .pass) (b .incomplete)
+        ∙ ap (λ (j : ℕ). Refused 14 j) (sym (b .there))
+        ∙ ap (λ (j : ℕ). Refused j p) (sym (b .number))
+
 pub empty-exactly : verdict [] ≡ Refused 14 1
-unfolding verdict
+unfolding verdict verdictBelow linesOf isComplete noneNeeded openKind latest needed kindAt
 empty-exactly = refl
 
 -- on one line 14 comes before 15: it does not look at the limits

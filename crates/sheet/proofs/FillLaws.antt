@@ -8,17 +8,15 @@ use native.Mathlib.Numerals.{add-one}
 use native.Mathlib.Nat.{zero-mul, suc-mul, mul-le-mul-right, sub-zero, suc-sub-suc, zero-sub}
 use lib.ListN.{length, getD, set, take, drop, length-append, length-drop, length-take}
 use lib.Seq.{sets, take-at, drop-at, drop-drop, take-nil, take-take}
-use lib.Dec.{leb}
-use borrow.Author.Tests.{leb-true}
-use Rattle.sheet.proofs.KindLaws.{all-at, table-past}
-use Rattle.sheet.specs.Kinds.{kinds, fieldCounts, fields, limit, width}
+use Rattle.sheet.proofs.KindLaws.{base-fits}
+use Rattle.sheet.specs.Kinds.{kinds, fields, limit, width, base, cellCount}
 use Rattle.sheet.specs.Field.{value}
 use Rattle.sheet.specs.Sheet.{fieldsText, lineText, line, linesText, textFrom, render, Small, IsRow, AreRows}
 use Rattle.sheet.specs.Refusal.{numbers, rowOf, verdict, sheetOf}
 use Rattle.sheet.specs.declared.check.Verdict.the-variants.{Sound}
 use Rattle.sheet.proofs.SoundLaws.{sound-sheet}
 use Rattle.sheet.specs.Lines.{AreLines, rowsOf, Readable, fieldsAt}
-use Rattle.sheet.specs.Cells.{base, cellCount, place, column, storedColumns, storedKinds, stored}
+use Rattle.sheet.specs.Cells.{place, column, storedColumns, storedKinds, stored}
 use Rattle.sheet.proofs.LineLaws.{line-is, line-length, is-line, numbers-text}
 
 -- a turn of the loop over the lines of a column
@@ -167,21 +165,13 @@ module _ (k : ℕ) (kind : k < kinds) (r : List ℕ) where
   lines-length (row ∷ rows) a =
       simp length-append (omega (arith, line-length k row kind (a .0), lines-length rows (a .1), suc-mul (length rows) (width k)))
 
--- the cells of each kind end where the cells end, or before
-pub base-fits : (k : ℕ) → k < kinds → base k + fields k * limit k ≤ cellCount
-unfolding base fields limit
-base-fits k h = leb-true (base k + fields k * limit k) cellCount (all-at kinds (λ j. leb (base j + fields j * limit j) cellCount) tt k h)
-
 -- the tables' entries for a kind, as the code holds them
 pub record Entries (k n w most first : ℕ) : Type 0 where
   pub fields-are : n ≡ fields k
   pub width-is : w ≡ width k
   pub limit-is : most ≡ limit k
   pub base-is : first ≡ base k
-  pub few : n ≤ 6
-  pub narrow : w ≤ 68
-  pub small : most ≤ 256
-  pub fits : first + fields k * limit k ≤ cellCount
+  pub is-kind : k < kinds
 
 module _ (k n w most first : ℕ) (t : Entries k n w most first) (c : ℕ) (h : c < n) (text : List ℕ) (at count : ℕ) where
   pub column-readable : AreLines k count (drop at text) → Readable text (at + 1 + 11 * c) w count
@@ -191,7 +181,7 @@ module _ (k n w most first : ℕ) (t : Entries k n w most first) (c : ℕ) (h : 
   pub column-fits : count ≤ limit k → first + c * most + count ≤ cellCount
   column-fits l =
       subst (λ (j : ℕ). first + c * j + count ≤ cellCount) (sym (t .limit-is))
-      (place-fits first (fields k) (limit k) c count cellCount (omega (arith, t .fields-are)) l (t .fits))
+      (place-fits first (fields k) (limit k) c count cellCount (omega (arith, t .fields-are)) l (omega (arith, t .base-is, base-fits k (t .is-kind))))
 
   pub column-stored : (cells after : List ℕ) → after ≡ sets cells (first + c * most) (fieldsAt text (at + 1 + 11 * c) w count)
       → after ≡ sets cells (place k c) (column c (rowsOf k count (drop at text)))
@@ -282,7 +272,3 @@ unfolding storedKinds
 left-none text cells₀ cells at k h u =
     let z : kinds - k ≡ 0 = omega arith in
     subst (λ (j : ℕ). storedKinds (sheetOf text) k j cells ≡ stored (sheetOf text) cells₀) z (u .left)
-
-pub past-fits : (k : ℕ) → kinds ≤ k → 0 + fields k * limit k ≤ cellCount
-unfolding fields
-past-fits k h = rw (← table-past fieldCounts k h, zero-mul (limit k)) (omega arith)

@@ -12,4 +12,5 @@ pub mod CellLaws
 pub mod ReadLaws
 pub mod WriteLaws
 pub mod Prefix
+pub mod Sizes
 pub mod Exact

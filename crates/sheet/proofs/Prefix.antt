@@ -1,4 +1,4 @@
--- The longest sheet has 47,417 bytes, and a line more decides any text: a longer text has the verdict of its front.
+-- The longest sheet, and a line more, decides any text: a longer text has the verdict of its front.
 -- Assumes nothing.
 use Prim.Native.Nat.{ℕ, zero, suc, _+_, _*_, _≤_, _<_}
 use mathlib.Core.Path.{_≡_, refl, sym, ap, _∙_}
@@ -6,32 +6,20 @@ use mathlib.Core.List.{List, [], _∷_}
 use mathlib.Core.Logic.{_⊎_, inl, inr, ⊎-elim}
 use native.Mathlib.Omega.{arith}
 use native.Mathlib.Nat.{mul-le-mul-right, add-mul, one-mul, add-zero}
-use native.Mathlib.Decide.{ℕ-discrete, decLt}
+use native.Mathlib.Decide.{ℕ-discrete}
 use lib.ListN.{length, getD, set, take, drop, replicate, length-append}
 use lib.Seq.{take-all, take-take, getD-take, length-take-le, getD-set-same, getD-set-other}
-use Rattle.sheet.specs.Kinds.{kinds, fields, fieldCounts, limit, width, kindOf}
+use Rattle.sheet.specs.Kinds.{kinds, kindAt, fields, limit, width, widest, kindOf, bytes, longest}
 use Rattle.sheet.specs.Sheet.{linesText, Sheet, textFrom, render, IsSheet}
 use Rattle.sheet.specs.Refusal.{verdict, sheetOf}
 use Rattle.sheet.specs.Next.{nextAt}
 use Rattle.sheet.specs.declared.check.Verdict.the-variants.{Sound}
 use Rattle.sheet.specs.declared.check.Next.{Next}
 use Rattle.sheet.specs.declared.check.Next.the-variants.{Line, Bad}
-use Rattle.sheet.proofs.KindLaws.{fields-few, table-past}
+use Rattle.sheet.proofs.KindLaws.{split, width-most, widest-two}
 use Rattle.sheet.proofs.SoundLaws.{sound-sheet}
 use Rattle.sheet.proofs.FillLaws.{lines-length}
 use Rattle.sheet.proofs.CheckLaws.{Upto, upto-none, good-moved, next-good, next-bad, next-many, next-pass, good-kind}
-
-split : (a b : ℕ) → (a < b) ⊎ (b ≤ a)
-split a b = by (decLt a b)
-  where
-    by : Dec (a < b) → (a < b) ⊎ (b ≤ a)
-    by (yes h) = inl h
-    by (no h) = inr (omega arith)
-
--- a line of any kind has at most 68 bytes
-width-most : (k : ℕ) → width k ≤ 68
-unfolding width fields
-width-most k = ⊎-elim (λ h. omega (arith, fields-few k h)) (λ h. omega (arith, table-past fieldCounts k h)) (split k 8)
 
 -- a piece of the front is that piece of the text
 piece-same : (at w n : ℕ) (text : List ℕ) → at + w ≤ n → take w (drop at (take n text)) ≡ take w (drop at text)
@@ -41,16 +29,11 @@ piece-same (suc at) w (suc n) [] h = refl
 piece-same (suc at) w (suc n) (c ∷ cs) h = piece-same at w n cs (omega arith)
 
 -- so the line that stands at a place is the same
-line-same : (text : List ℕ) (at n lines m : ℕ) → at + 68 ≤ n → nextAt (take n text) at lines m ≡ nextAt text at lines m
+line-same : (text : List ℕ) (at n lines m : ℕ) → at + widest ≤ n → nextAt (take n text) at lines m ≡ nextAt text at lines m
 unfolding nextAt
 line-same text at n lines m h =
-    let c = getD-take n text at 0 (omega arith) in
+    let c = getD-take n text at 0 (omega (arith, widest-two)) in
     rw (c, piece-same at (width (kindOf (getD text at 0))) n text (omega (arith, width-most (kindOf (getD text at 0)))))
-
--- the bytes of so many lines of each of the first n kinds
-bytes : ℕ → (ℕ → ℕ) → ℕ
-bytes zero rows = 0
-bytes (suc n) rows = rows n * width n + bytes n rows
 
 bytes-most : (n : ℕ) (rows most : ℕ → ℕ) → ((k : ℕ) → k < n → rows k ≤ most k) → bytes n rows ≤ bytes n most
 unfolding bytes
@@ -92,17 +75,10 @@ module _ (counts : List ℕ) (k : ℕ) (inside : k < length counts) where
           let e : getD more n 0 * width n ≡ getD counts n 0 * width n = ap (λ (j : ℕ). j * width n) (getD-set-other counts k n (getD counts k 0 + 1) 0 q) in
           omega (arith, later (omega arith))
 
--- the longest sheet
-abbrev pub longest : ℕ
-longest = 47417
-
-longest-is : bytes kinds limit ≡ longest
-unfolding bytes width fields limit
-longest-is = refl
-
 upto-most : (text counts : List ℕ) (lines m at : ℕ) → Upto text counts lines m at → bytes kinds (rowsOf counts) ≤ longest
+unfolding longest
 upto-most text counts lines m at u =
-    omega (arith, bytes-most kinds (rowsOf counts) limit (λ k h. omega (arith, u .rows k h, u .within k h)), longest-is)
+    omega (arith, bytes-most kinds (rowsOf counts) limit (λ k h. omega (arith, u .rows k h, u .within k h)))
 
 -- the bytes of a sheet's text
 module _ (s : Sheet) (is : IsSheet s) where
@@ -124,7 +100,7 @@ module _ (s : Sheet) (is : IsSheet s) where
 
 -- a text that is a sheet within the limits has no more
 pub sheet-short : (text : List ℕ) → verdict text ≡ Sound → length text ≤ longest
-unfolding render bytes
+unfolding render bytes longest
 sheet-short text e =
     let t = sound-sheet text e in
     omega (
@@ -132,11 +108,10 @@ sheet-short text e =
       ap length (t .same),
       text-long (sheetOf text) (t .sheet) kinds 0 (omega arith),
       bytes-most kinds (λ (k : ℕ). length (sheetOf text k)) limit (t .within),
-      longest-is,
     )
 
 -- the front of a text has its verdict: line by line the same is said of both
-module _ (text : List ℕ) (n : ℕ) (long : longest + 68 ≤ n) (longer : n < length text) where
+module _ (text : List ℕ) (n : ℕ) (long : longest + widest ≤ n) (longer : n < length text) where
   front : List ℕ
   front = take n text
 
@@ -163,7 +138,7 @@ module _ (text : List ℕ) (n : ℕ) (long : longest + 68 ≤ n) (longer : n < l
       a = omega (arith, low)
 
       b : at < length front
-      b = omega (arith, low, front-long)
+      b = omega (arith, low, front-long, widest-two)
 
       same : nextAt front at lines m ≡ nextAt text at lines m
       same = line-same text at n lines m (omega (arith, low))
@@ -191,10 +166,10 @@ module _ (text : List ℕ) (n : ℕ) (long : longest + 68 ≤ n) (longer : n < l
       by (Line k e) q later = count k e q (split (getD counts k 0) (limit k)) later
 
 -- the front of a text decides it
-pub front-decides : (text : List ℕ) (n : ℕ) → longest + 68 ≤ n → verdict (take n text) ≡ verdict text
-unfolding front bytes width fields
+pub front-decides : (text : List ℕ) (n : ℕ) → longest + widest ≤ n → verdict (take n text) ≡ verdict text
+unfolding front bytes width fields kindAt
 front-decides text n h =
     ⊎-elim
-    (λ l. go text n h l (suc longest) (replicate 8 0) 0 0 0 (upto-none text) (upto-none (take n text)) refl (omega arith))
+    (λ l. go text n h l (suc longest) (replicate kinds 0) 0 0 0 (upto-none text) (upto-none (take n text)) refl (omega arith))
     (λ l. ap verdict (take-all n text l))
     (split n (length text))

@@ -6,10 +6,10 @@ use mathlib.Core.List.{List}
 use native.Mathlib.Omega.{arith}
 use lib.ListN.{length, replicate}
 use borrow.Author.Tests.{lt-ltb, le-ltb}
-use Rattle.sheet.specs.Kinds.{pick}
+use Rattle.sheet.specs.Kinds.{pick, kinds, cellCount}
 use Rattle.sheet.specs.Sheet.{Sheet}
 use Rattle.sheet.specs.Refusal.{verdict, sheetOf, Checked}
-use Rattle.sheet.specs.Cells.{cellCount, stored, cellsAfter, Read}
+use Rattle.sheet.specs.Cells.{stored, cellsAfter, Read}
 use Rattle.sheet.specs.declared.check.Verdict.{Verdict}
 use Rattle.sheet.specs.declared.check.Verdict.the-variants.{Sound, Refused, NoRoom}
 use Rattle.sheet.proofs.CheckLaws.{not-counted}
@@ -20,7 +20,7 @@ cells-same Sound s cells f = absurd (f refl)
 cells-same (Refused n p) s cells f = refl
 cells-same NoRoom s cells f = refl
 
-pub read-short : (text cells : List ℕ) → length cells < cellCount → Read text cells cells NoRoom (replicate 8 0)
+pub read-short : (text cells : List ℕ) → length cells < cellCount → Read text cells cells NoRoom (replicate kinds 0)
 read-short text cells h =
     let f : NoRoom ≡ Sound → ⊥ = λ e. (let z : _≡_ {A = ℕ} 0 1 = cc in omega arith) in
     record { answer = rw (lt-ltb (length cells) cellCount h); cells = cells-same NoRoom (sheetOf text) cells f; counted = not-counted text NoRoom f }

@@ -1,22 +1,25 @@
--- A text whose verdict is sound is the text of the sheet that it holds, which has one P and is within the limits.
+-- A text whose verdict is sound is the text of the sheet that it holds, which has what is asked of each kind and is within the limits.
 -- Assumes nothing.
-use Prim.Native.Nat.{ℕ, zero, suc, _+_, _≤_, _<_}
+use Prim.Native.Nat.{ℕ, zero, suc, _+_, _-_, _≤_, _<_}
 use mathlib.Core.Path.{_≡_, refl, sym, ap, _∙_, subst}
 use mathlib.Core.Bool.{Bool, true, false}
 use mathlib.Core.List.{List, [], _∷_, _++_, append-assoc, append-nil, map}
+use mathlib.Core.Logic.{⊎-elim}
 use native.Mathlib.Omega.{arith}
 use native.Mathlib.Decide.{ℕ-discrete}
 use lib.ListN.{length, length-append, length-map}
 use lib.Dec.{eqb, ltb}
 use borrow.Author.Tests.{eq-eqb, ne-eqb, eqb-true, ltb-true}
-use Rattle.sheet.specs.Kinds.{pick, kinds, limit}
+use Rattle.sheet.specs.Kinds.{pick, kinds, limit, once, needed}
 use Rattle.sheet.specs.Sheet.{line, linesText, Sheet, textFrom, render, IsRow, AreRows, IsSheet, Within}
 use Rattle.sheet.specs.Refusal.{joinFirst, linesOf, isLine, kindOfLine, latest, ofKind, isInOrder, fault, judged, verdictBelow, verdict, rowOf, sheetOf}
+use Rattle.sheet.specs.Refusal.{openKind, noneNeeded, isComplete}
 use Rattle.sheet.specs.declared.check.Verdict.{Verdict}
-use Rattle.sheet.specs.declared.check.Verdict.the-variants.{Sound}
+use Rattle.sheet.specs.declared.check.Verdict.the-variants.{Sound, Refused}
+use Rattle.sheet.proofs.KindLaws.{split, needed-once}
 use Rattle.sheet.proofs.FieldLaws.{not-both}
 use Rattle.sheet.proofs.LineLaws.{LineIs, line-is}
-use Rattle.sheet.proofs.CheckLaws.{passed, kind-more, kind-other, latest-more, order-latest, verdict-lines}
+use Rattle.sheet.proofs.CheckLaws.{passed, kind-more, kind-other, latest-more, openOf, order-open, order-latest, open-more, verdict-lines}
 
 -- a line that passes below the lines above it, and lines that all pass
 pub record Passes (above : List (List ℕ)) (l : List ℕ) : Type 0 where
@@ -28,9 +31,14 @@ abbrev pub AllPass : List (List ℕ) → List (List ℕ) → Type 0
 AllPass above [] = Unit {0}
 AllPass above (l ∷ ls) = Passes above l × AllPass (above ++ (l ∷ [])) ls
 
-pub pass-sound : (ls above : List (List ℕ)) → AllPass above ls → verdictBelow above ls ≡ Sound
+-- and nothing is missing below them
+abbrev pub Whole : List (List ℕ) → List (List ℕ) → Type 0
+Whole above [] = isComplete (length above) (latest above) ≡ true
+Whole above (l ∷ ls) = Passes above l × Whole (above ++ (l ∷ [])) ls
+
+pub pass-sound : (ls above : List (List ℕ)) → Whole above ls → verdictBelow above ls ≡ Sound
 unfolding verdictBelow
-pass-sound [] above p = refl
+pass-sound [] above p = rw p
 pass-sound (l ∷ ls) above p = passed above l ls (kindOfLine l) refl (p .0 .good) (p .0 .order) (p .0 .room) ∙ pass-sound ls (above ++ (l ∷ [])) (p .1)
 
 zero-by : (a b c : Bool) → _≡_ {A = ℕ} (pick a (pick b (pick c 0 15) 14) 14) 0 → (a ≡ true) × (b ≡ true) × (c ≡ true)
@@ -50,12 +58,20 @@ judged-sound : (n place : ℕ) (v : Verdict) → judged n place v ≡ Sound → 
 judged-sound zero place v e = (refl, e)
 judged-sound (suc n) place v e = let z : _≡_ {A = ℕ} 0 1 = cc in absurd (omega arith)
 
-pub sound-pass : (ls above : List (List ℕ)) → verdictBelow above ls ≡ Sound → AllPass above ls
+complete-by : (b : Bool) (n : ℕ) → pick b Sound (Refused 14 n) ≡ Sound → b ≡ true
+complete-by true n e = refl
+complete-by false n e = let z : _≡_ {A = ℕ} 0 1 = cc in absurd (omega arith)
+
+pub sound-pass : (ls above : List (List ℕ)) → verdictBelow above ls ≡ Sound → Whole above ls
 unfolding verdictBelow
-sound-pass [] above e = tt
+sound-pass [] above e = complete-by (isComplete (length above) (latest above)) (length above + 1) e
 sound-pass (l ∷ ls) above e =
     let p = judged-sound (fault above l) (length above + 1) (verdictBelow (above ++ (l ∷ [])) ls) e in
     (fault-none above l (p .0), sound-pass ls (above ++ (l ∷ [])) (p .1))
+
+pub whole-pass : (ls above : List (List ℕ)) → Whole above ls → AllPass above ls
+whole-pass [] above w = tt
+whole-pass (l ∷ ls) above w = (w .0, whole-pass ls (above ++ (l ∷ [])) (w .1))
 
 -- lines that are good and whose kinds rise from k on
 abbrev Rising : ℕ → List (List ℕ) → Type 0
@@ -167,7 +183,7 @@ rows-are (l ∷ ls) j k r = by (ℕ-discrete (kindOfLine l) k) (rows-are ls (kin
     by (yes e) more = rw (eq-eqb (kindOfLine l) k e) (subst (λ (i : ℕ). IsRow i (rowOf i l)) e (r .1 .row), more)
     by (no e) more = rw (ne-eqb (kindOfLine l) k e) more
 
--- the limits hold, and there is one P
+-- the limits hold
 pass-within : (ls above : List (List ℕ)) (k : ℕ) → length (ofKind k above) ≤ limit k → AllPass above ls → length (ofKind k (above ++ ls)) ≤ limit k
 pass-within [] above k h p = rw (append-nil above) h
 pass-within (l ∷ ls) above k h p =
@@ -181,24 +197,103 @@ pass-within (l ∷ ls) above k h p =
         omega arith
     by (no e) = rw (kind-other above l k e) h
 
-order-first : (n m k : ℕ) → isInOrder n m k ≡ true → ((n ≡ 0) → k ≡ 0) × (0 < n → 0 < k)
-unfolding isInOrder
-order-first zero m k e = ((λ z. eqb-true k 0 e), λ h. absurd (omega arith))
-order-first (suc n) m zero e = absurd (not-both (sym (rw (ne-eqb (suc n) 0 (omega arith)) at e)))
-order-first (suc n) m (suc k) e = ((λ z. absurd (omega arith)), λ h. omega arith)
+-- a kind of which a line is needed is not among those that were found free of such
+pub none-at : (n a j : ℕ) → noneNeeded a n ≡ true → a ≤ j → j < a + n → needed j ≡ true → ⊥
+unfolding noneNeeded
+none-at zero a j e h l d = omega arith
+none-at (suc n) a j e h l d = by (needed a) refl e (ℕ-discrete a j) (λ r k. none-at n (suc a) j r k (omega arith) d)
+  where
+    by : (b : Bool) → needed a ≡ b → pick b false (noneNeeded (suc a) n) ≡ true → Dec (a ≡ j) → (noneNeeded (suc a) n ≡ true → suc a ≤ j → ⊥) → ⊥
+    by true q r c later = not-both (sym r)
+    by false q r (yes c) later = not-both (sym d ∙ ap needed (sym c) ∙ q)
+    by false q r (no c) later = later r (omega arith)
 
-later-not-first : (ls above : List (List ℕ)) → 0 < length above → AllPass above ls → ofKind 0 ls ≡ []
-unfolding ofKind
-later-not-first [] above h p = refl
-later-not-first (l ∷ ls) above h p =
-    let q = order-first (length above) (latest above) (kindOfLine l) (p .0 .order) .1 h in
-    rw (ne-eqb (kindOfLine l) 0 (omega arith)) (later-not-first ls (above ++ (l ∷ [])) (omega (arith, length-append above (l ∷ []))) (p .1))
+-- what is asked of each kind, of the lines passed: those before the open kind have their one, those from there on have none yet
+pub record AskedSoFar (above : List (List ℕ)) : Type 0 where
+  pub fresh : (j : ℕ) → openOf above ≤ j → once j ≡ true → length (ofKind j above) ≡ 0
+  pub most : (j : ℕ) → once j ≡ true → length (ofKind j above) ≤ 1
+  pub one : (j : ℕ) → j < openOf above → needed j ≡ true → length (ofKind j above) ≡ 1
 
-one-first : (ls : List (List ℕ)) → 0 < length ls → AllPass [] ls → length (ofKind 0 ls) ≡ 1
-unfolding ofKind
-one-first [] h p = absurd (omega arith)
-one-first (l ∷ ls) h p =
-    rw (eq-eqb (kindOfLine l) 0 (order-first 0 (latest []) (kindOfLine l) (p .0 .order) .0 refl), later-not-first ls (l ∷ []) (omega arith) (p .1))
+asked-none : AskedSoFar []
+unfolding ofKind openKind
+asked-none = record { fresh = λ j h e. refl; most = λ j e. omega arith; one = λ j h e. absurd (omega arith) }
+
+module _ (above : List (List ℕ)) (l : List ℕ) (order : isInOrder (length above) (latest above) (kindOfLine l) ≡ true) (a : AskedSoFar above) where
+  abbrev k : ℕ
+  k = kindOfLine l
+
+  abbrev then : List (List ℕ)
+  then = above ++ (l ∷ [])
+
+  -- the open kind is the line's own, or behind it where no second may stand
+  open-low : k ≤ openOf then
+  open-low = omega (arith, open-more above l order, by (once k))
+    where
+      by : (b : Bool) → k ≤ pick b (suc k) k
+      by true = omega arith
+      by false = omega arith
+
+  open-past : (j : ℕ) → openOf then ≤ j → once j ≡ true → k ≡ j → ⊥
+  open-past j h e q =
+      let o : openOf then ≡ suc k = open-more above l order ∙ ap (λ (b : Bool). pick b (suc k) k) (ap once q ∙ e) in
+      omega arith
+
+  open-high : (j : ℕ) → j < openOf then → (k ≡ j → ⊥) → j < k
+  open-high j h n = by (once k) refl
+    where
+      by : (b : Bool) → once k ≡ b → j < k
+      by true e = omega (arith, open-more above l order ∙ ap (λ (b : Bool). pick b (suc k) k) e)
+      by false e = omega (arith, open-more above l order ∙ ap (λ (b : Bool). pick b (suc k) k) e)
+
+  first-here : once k ≡ true → length (ofKind k above) ≡ 0
+  first-here e = a .fresh k (order-open above k order .0) e
+
+  one-here : (j : ℕ) → k ≡ j → once j ≡ true → length (ofKind j then) ≡ 1
+  one-here j q e =
+      let m : length (ofKind j then) ≡ length (ofKind j above) + 1 = ap length (kind-more above l j q) ∙ simp length-append in
+      omega (arith, a .fresh j (subst (λ (i : ℕ). openOf above ≤ i) q (order-open above k order .0)) e)
+
+  same-else : (j : ℕ) → (k ≡ j → ⊥) → length (ofKind j then) ≡ length (ofKind j above)
+  same-else j n = ap length (kind-other above l j n)
+
+  pub asked-more : AskedSoFar then
+  asked-more =
+      record {
+        fresh = λ j h e. same-else j (open-past j h e) ∙ a .fresh j (omega (arith, order-open above k order .0, open-low)) e;
+        most = λ j e. most-by j e (ℕ-discrete k j);
+        one = λ j h d. one-by j h d (ℕ-discrete k j);
+      }
+    where
+      most-by : (j : ℕ) → once j ≡ true → Dec (k ≡ j) → length (ofKind j then) ≤ 1
+      most-by j e (yes q) = omega (arith, one-here j q e)
+      most-by j e (no q) = omega (arith, same-else j q, a .most j e)
+
+      one-by : (j : ℕ) → j < openOf then → needed j ≡ true → Dec (k ≡ j) → length (ofKind j then) ≡ 1
+      one-by j h d (yes q) = one-here j q (needed-once j d)
+      one-by j h d (no q) =
+          let o = order-open above k order in
+          same-else j q
+          ∙ ⊎-elim (λ i. a .one j i d)
+          (λ i. absurd (none-at (k - openOf above) (openOf above) j (o .1) i (omega (arith, o .0, open-high j h q)) d))
+          (split j (openOf above))
+
+-- so of all lines of a sound text
+pub record AskedOf (ls : List (List ℕ)) : Type 0 where
+  pub one : (k : ℕ) → k < kinds → needed k ≡ true → length (ofKind k ls) ≡ 1
+  pub no-second : (k : ℕ) → once k ≡ true → length (ofKind k ls) ≤ 1
+
+whole-asked : (ls above : List (List ℕ)) → AskedSoFar above → Whole above ls → AskedOf (above ++ ls)
+unfolding isComplete
+whole-asked [] above a w =
+    rw (append-nil above)
+    (record {
+      one = λ k h d. ⊎-elim (λ i. a .one k i d)
+          (λ i. absurd (none-at (kinds - openOf above) (openOf above) k w i (omega arith) d)) (split k (openOf above));
+      no-second = a .most;
+    })
+whole-asked (l ∷ ls) above a w =
+    let e : (above ++ (l ∷ [])) ++ ls ≡ above ++ (l ∷ ls) = append-assoc above (l ∷ []) ls in
+    subst AskedOf e (whole-asked ls (above ++ (l ∷ [])) (asked-more above l (w .0 .order) a) (w .1))
 
 -- what a sound verdict says of a text
 pub record IsText (text : List ℕ) (s : Sheet) : Type 0 where
@@ -206,26 +301,20 @@ pub record IsText (text : List ℕ) (s : Sheet) : Type 0 where
   pub sheet : IsSheet s
   pub within : Within s
 
-some-text : (text : List ℕ) → verdict text ≡ Sound → 0 < length text
-unfolding verdict
-some-text [] e = let z : _≡_ {A = ℕ} 0 1 = cc in absurd (omega arith)
-some-text (c ∷ cs) e = omega arith
-
-some-lines : (ls : List (List ℕ)) → 0 < length (joined ls) → 0 < length ls
-unfolding joined
-some-lines [] h = h
-some-lines (l ∷ ls) h = omega arith
-
 pub sound-sheet : (text : List ℕ) → verdict text ≡ Sound → IsText text (sheetOf text)
 unfolding render sheetOf ofKind
 sound-sheet text e =
     let ls = linesOf text in
-    let t = some-text text e in
-    let p = sound-pass ls [] (sym (verdict-lines text t) ∙ e) in
+    let w = sound-pass ls [] (sym (verdict-lines text) ∙ e) in
+    let p = whole-pass ls [] w in
     let r = pass-rising ls [] 0 (omega arith) p in
-    let n : 0 < length ls = some-lines ls (subst (λ (x : List ℕ). 0 < length x) (sym (lines-joined text)) t) in
+    let a = whole-asked ls [] asked-none w in
     record {
       same = text-gathered ls 0 0 kinds r ∙ ap joined (gather-all ls 0 kinds r refl) ∙ lines-joined text;
-      sheet = record { rows = λ k h. rows-are ls 0 k r; one = length-map (ofKind 0 ls) (rowOf 0) ∙ one-first ls n p };
+      sheet = record {
+        rows = λ k h. rows-are ls 0 k r;
+        one = λ k h d. length-map (ofKind k ls) (rowOf k) ∙ a .one k h d;
+        no-second = λ k h d. omega (arith, length-map (ofKind k ls) (rowOf k), a .no-second k d);
+      };
       within = λ k h. subst (λ (j : ℕ). j ≤ limit k) (sym (length-map (ofKind k ls) (rowOf k))) (pass-within ls [] k (omega arith) p);
     }

@@ -6,31 +6,11 @@ use mathlib.Core.List.{List, [], _∷_, map}
 use lib.ListN.{length, getD}
 use lib.Dec.{ltb}
 use lib.Seq.{sets}
-use Rattle.sheet.specs.Kinds.{pick, kinds, few, many, fields, limit}
+use Rattle.sheet.specs.Kinds.{pick, kinds, fields, limit, base, cellCount}
 use Rattle.sheet.specs.Sheet.{Sheet}
 use Rattle.sheet.specs.Refusal.{verdict, sheetOf, Counted}
 use Rattle.sheet.specs.declared.check.Verdict.{Verdict}
 use Rattle.sheet.specs.declared.check.Verdict.the-variants.{Sound, Refused, NoRoom}
-
--- where the cells of each kind start: from B to F one kind behind the other, each with its fields times its limit, and P last
-abbrev pub bases : List ℕ
-bases =
-    (14 * few + 9 * many)
-    ∷ 0
-    ∷ (3 * few)
-    ∷ (4 * few)
-    ∷ (10 * few)
-    ∷ (10 * few + 3 * many)
-    ∷ (11 * few + 3 * many)
-    ∷ (11 * few + 9 * many)
-    ∷ []
-
-unfoldable pub base : ℕ → ℕ
-base k = getD bases k 0
-
--- how many cells a sheet needs: 4,101
-abbrev pub cellCount : ℕ
-cellCount = 14 * few + 9 * many + 5
 
 -- where column c of kind k starts: each column has as many cells as the kind's limit
 unfoldable pub place : ℕ → ℕ → ℕ

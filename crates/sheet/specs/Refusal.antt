@@ -6,7 +6,7 @@ use mathlib.Core.Bool.{Bool, true, false}
 use mathlib.Core.List.{List, [], _∷_, _++_, map}
 use lib.ListN.{length, getD, take, drop, replicate}
 use lib.Dec.{eqb, leb, ltb}
-use Rattle.sheet.specs.Kinds.{pick, kinds, letter, fields, limit, width, kindOf}
+use Rattle.sheet.specs.Kinds.{pick, kinds, letter, fields, limit, once, needed, width, kindOf}
 use Rattle.sheet.specs.Field.{value, isField}
 use Rattle.sheet.specs.Sheet.{Sheet}
 use Rattle.sheet.specs.declared.check.Verdict.{Verdict}
@@ -49,9 +49,22 @@ unfoldable pub ofKind : ℕ → List (List ℕ) → List (List ℕ)
 ofKind k [] = []
 ofKind k (l ∷ ls) = pick (eqb (kindOfLine l) k) (l ∷ ofKind k ls) (ofKind k ls)
 
--- a line of kind k is in order below n lines, the latest of kind m: P is the first line and no other, and no kind stands below a later one
+-- the first kind that may stand next below n lines, the latest of kind m: no kind stands below a later one, nor again where one is asked
+unfoldable pub openKind : ℕ → ℕ → ℕ
+openKind n m = pick (eqb n 0) 0 (pick (once m) (suc m) m)
+
+-- among n kinds from k on there is none of which a line is needed
+unfoldable pub noneNeeded : ℕ → ℕ → Bool
+noneNeeded k zero = true
+noneNeeded k (suc n) = pick (needed k) false (noneNeeded (suc k) n)
+
+-- a line of kind k is in order below n lines, the latest of kind m: it may stand next, and none that is needed is missing above it
 unfoldable pub isInOrder : ℕ → ℕ → ℕ → Bool
-isInOrder n m k = pick (eqb n 0) (eqb k 0) (pick (eqb k 0) false (leb m k))
+isInOrder n m k = pick (leb (openKind n m) k) (noneNeeded (openKind n m) (k - openKind n m)) false
+
+-- no line that is needed is missing below n lines, the latest of kind m
+unfoldable pub isComplete : ℕ → ℕ → Bool
+isComplete n m = noneNeeded (openKind n m) (kinds - openKind n m)
 
 -- what is wrong with a line below the lines above it: 14 malformed or out of order, 15 one too many of its kind, 0 nothing
 unfoldable pub fault : List (List ℕ) → List ℕ → ℕ
@@ -65,14 +78,14 @@ abbrev pub judged : ℕ → ℕ → Verdict → Verdict
 judged zero place v = v
 judged (suc n) place v = Refused (suc n) place
 
--- the first bad line of some lines below those above them; lines count from 1
+-- the first bad line of some lines below those above them, or the place of one that is missing at the end; lines count from 1
 unfoldable pub verdictBelow : List (List ℕ) → List (List ℕ) → Verdict
-verdictBelow above [] = Sound
+verdictBelow above [] = pick (isComplete (length above) (latest above)) Sound (Refused 14 (length above + 1))
 verdictBelow above (l ∷ ls) = judged (fault above l) (length above + 1) (verdictBelow (above ++ (l ∷ [])) ls)
 
--- a text's verdict; of an empty text the missing P is refused, at line 1
+-- a text's verdict; so of an empty text the missing P is refused, at line 1
 unfoldable pub verdict : List ℕ → Verdict
-verdict text = pick (eqb (length text) 0) (Refused 14 1) (verdictBelow [] (linesOf text))
+verdict text = verdictBelow [] (linesOf text)
 
 -- the numbers that n fields at the front of a text make
 unfoldable pub numbers : ℕ → List ℕ → List ℕ

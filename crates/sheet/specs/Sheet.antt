@@ -2,9 +2,10 @@
 -- Assumes nothing.
 use Prim.Native.Nat.{ℕ, zero, suc, _≤_, _<_, _^_}
 use mathlib.Core.Path.{_≡_}
+use mathlib.Core.Bool.{true}
 use mathlib.Core.List.{List, [], _∷_, _++_}
 use lib.ListN.{length}
-use Rattle.sheet.specs.Kinds.{kinds, letter, fields, limit}
+use Rattle.sheet.specs.Kinds.{kinds, letter, fields, limit, once, needed}
 use Rattle.sheet.specs.Field.{field}
 
 -- the text of a row's fields
@@ -51,10 +52,11 @@ abbrev pub AreRows : ℕ → List (List ℕ) → Type 0
 AreRows k [] = Unit {0}
 AreRows k (row ∷ rows) = IsRow k row × AreRows k rows
 
--- a sheet has one P
+-- a sheet: rows of each kind, one where one is needed, and none behind it where no second may stand
 pub record IsSheet (s : Sheet) : Type 0 where
   pub rows : (k : ℕ) → k < kinds → AreRows k (s k)
-  pub one : length (s 0) ≡ 1
+  pub one : (k : ℕ) → k < kinds → needed k ≡ true → length (s k) ≡ 1
+  pub no-second : (k : ℕ) → k < kinds → once k ≡ true → length (s k) ≤ 1
 
 -- a sheet within the limits
 abbrev pub Within : Sheet → Type 0

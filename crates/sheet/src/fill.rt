@@ -8,40 +8,24 @@ ghost use mathlib.Core.Path.{_≡_};
 ghost use Prim.Native.Nat.{ℕ, _+_, _*_, _<_, _≤_};
 ghost use lib.ListN.{length, getD, drop};
 ghost use lib.Seq.{sets};
-ghost use Rattle.sheet.specs.Kinds.{kinds, fields, limit};
+ghost use Rattle.sheet.specs.Kinds.{kinds, fields, limit, widest, base, cellCount};
 ghost use Rattle.sheet.specs.Refusal.{verdict, sheetOf};
 ghost use Rattle.sheet.specs.Lines.{AreLines, rowsOf, Readable, fieldsAt};
-ghost use Rattle.sheet.specs.Cells.{base, cellCount, columnOf, storedColumns, stored, Read};
+ghost use Rattle.sheet.specs.Cells.{columnOf, storedColumns, stored, Read};
 ghost use Rattle.sheet.specs.declared.check.Verdict.the-variants.{Sound};
 
-// The cells of B to F one kind behind the other, each with its fields times its limit, and then the five of P.
-const V_AT: usize = 3 * kinds::FEW;
-
-const S_AT: usize = V_AT + kinds::FEW;
-
-const U_AT: usize = S_AT + 6 * kinds::FEW;
-
-const W_AT: usize = U_AT + 3 * kinds::MANY;
-
-const E_AT: usize = W_AT + kinds::FEW;
-
-const F_AT: usize = E_AT + 6 * kinds::MANY;
-
-const P_AT: usize = F_AT + 3 * kinds::FEW;
-
-// How many cells a sheet needs.
-pub const CELLS: usize = P_AT + 5;
-
-const BASES: [usize; 8] = [P_AT, 0, V_AT, S_AT, U_AT, W_AT, E_AT, F_AT];
-
-// Where the cells of a kind start.
+// Where the cells of a kind start: behind those of the kinds before it.
 fn base_of(k: usize) -> usize
-    ensures { λ r. ⌜ (r ≡ base k) × (r + fields k * limit k ≤ cellCount) ⌝ }
+    requires { ⌜ k ≤ kinds ⌝ }
+    ensures { λ r. ⌜ r ≡ base k ⌝ }
 {
-    if k >= kinds::KINDS {
-        return 0;
+    let mut at: usize = 0;
+    let mut j: usize = 0;
+    while j < k {
+        at += kinds::fields_of(j) * kinds::limit_of(j);
+        j += 1;
     }
-    BASES[k]
+    at
 }
 
 // Where column c of kind k starts among the cells; their end for a column that does not exist.
@@ -49,10 +33,10 @@ pub fn column_of(k: usize, c: usize) -> usize
     ensures { λ r. ⌜ (r ≡ columnOf k c) × (r ≤ cellCount) ⌝ }
 {
     if k >= kinds::KINDS {
-        return CELLS;
+        return kinds::cells_needed();
     }
     if c >= kinds::fields_of(k) {
-        return CELLS;
+        return kinds::cells_needed();
     }
     base_of(k) + c * kinds::limit_of(k)
 }
@@ -60,7 +44,7 @@ pub fn column_of(k: usize, c: usize) -> usize
 // Stores one field of each of `count` lines, the first field at `from` and `step` bytes apart, to the cells from `place` on.
 fn fill_column(text: &[u8], cells: &mut [u32], from: usize, step: usize, place: usize, count: usize)
     requires { ⌜ Readable (now text) from step count ⌝ }
-    requires { ⌜ (step ≤ 68) × (place + count ≤ length (now cells)) ⌝ }
+    requires { ⌜ (step ≤ widest) × (place + count ≤ length (now cells)) ⌝ }
     ensures { λ _. ⌜ now (cells .exit) ≡ sets (now (cells .entry)) place (fieldsAt (now (text .entry)) from step count) ⌝ }
 {
     let mut p = from;
@@ -92,7 +76,7 @@ fn fill_kind(text: &[u8], cells: &mut [u32], k: usize, at: usize, count: usize)
 }
 
 // Stores every kind of a sound text.
-fn fill_all(text: &[u8], cells: &mut [u32], counts: [usize; 8])
+fn fill_all(text: &[u8], cells: &mut [u32], counts: [usize; kinds::KINDS])
     requires { ⌜ (verdict (now text) ≡ Sound) ×
         (cellCount ≤ length (now cells)) ×
         ((k : ℕ) → k < kinds → getD counts k 0 ≡ length (sheetOf (now text) k)) ⌝ }
@@ -112,10 +96,10 @@ fn fill_all(text: &[u8], cells: &mut [u32], counts: [usize; 8])
 pub fn read_sheet(text: &[u8], cells: &mut [u32]) -> Reading
     ensures { λ r. ⌜ Read (now (text .entry)) (now (cells .entry)) (now (cells .exit)) (r .verdict) (r .counts) ⌝ }
 {
-    if cells.len() < CELLS {
+    if cells.len() < kinds::cells_needed() {
         return Reading {
             verdict: Verdict::NoRoom,
-            counts: [0usize; 8],
+            counts: [0usize; kinds::KINDS],
         };
     }
     let r = check_text(text);

@@ -5,10 +5,17 @@ ghost use mathlib.Core.Path.{_≡_};
 ghost use Prim.Native.Nat.{_≤_, _<_};
 ghost use lib.ListN.{length};
 use sheet::Answer;
+use sheet::CELLS;
 use sheet::End;
 use sheet::Figures;
 use sheet::Verdict;
 use sheet::Written;
+use sheet::kinds::KINDS;
+
+// More cells than a sheet needs, and fewer.
+const MORE: usize = CELLS + 99;
+
+const FEWER: usize = CELLS - 1;
 
 fn print_byte(b: u8) {
     let text = [b];
@@ -59,10 +66,10 @@ fn print_refusal(n: u32, line: u32) {
     }
 }
 
-fn print_counts(counts: [usize; 8]) {
+fn print_counts(counts: [usize; KINDS]) {
     print_byte(b'S');
     let mut k: usize = 0;
-    while k < 8 {
+    while k < KINDS {
         print_byte(b' ');
         io::print_decimal(1, counts[k] as u64);
         k += 1;
@@ -90,15 +97,8 @@ fn report(text: &[u8], cells: &mut [u32]) {
     }
 }
 
-// More cells than a sheet needs, all 7.
-fn sevens() -> [u32; 4200]
-    ensures { λ r. ⌜ 4200 ≡ length r ⌝ }
-{
-    [7; 4200]
-}
-
 fn show(text: &[u8]) {
-    let mut cells = sevens();
+    let mut cells = [7u32; MORE];
     report(text, &mut cells);
 }
 
@@ -243,9 +243,9 @@ fn long() {
 // An empty text, with enough cells and with one too few.
 fn empty() {
     let text = [0u8; 1];
-    let mut cells = [7u32; 4101];
+    let mut cells = [7u32; CELLS];
     report(&text[..0], &mut cells);
-    let mut few = [7u32; 4100];
+    let mut few = [7u32; FEWER];
     report(&text[..0], &mut few);
 }
 

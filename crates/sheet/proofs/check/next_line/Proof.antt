@@ -39,7 +39,7 @@ returns-2 c =
     let x = drop (a .at) (a .text .now) in
     let d : length x ≡ length (a .text .now) - a .at = length-drop (a .at) (a .text .now) in
     let t : length (take (width (k .result)) x) ≡ min (width (k .result)) (length x) = length-take (width (k .result)) x in
-    next-not-line (a .text .now) (a .at) (a .n) (a .m) (k .result) (k .ensures) (line-not-long (k .result) _ (λ e. omega (arith, w .ensures .0, c .if2 .taken)))
+    next-not-line (a .text .now) (a .at) (a .n) (a .m) (k .result) (k .ensures) (line-not-long (k .result) _ (λ e. omega (arith, w .ensures, c .if2 .taken)))
 
 add-e : tie.Need-add-e
 add-e c = search needs
@@ -65,7 +65,7 @@ returns-3 c =
     let k = at-kind-of .kind-of in
     let w = at-width-of .width-of in
     next-not-line (a .text .now) (a .at) (a .n) (a .m) (k .result) (k .ensures)
-    (line-there (a .text .now) (a .at) (k .result) (w .result) false (w .ensures .0)
+    (line-there (a .text .now) (a .at) (k .result) (w .result) false (w .ensures)
     (sym (c .before .is-line .ensures) ∙ not-true _ (c .if3 .taken)))
 
 is-in-order-requires : tie.Need-is-in-order-requires
@@ -87,8 +87,8 @@ returns-5 c =
     let a = at-args .args in
     let k = at-kind-of .kind-of in
     let w = at-width-of .width-of in
-    next-line (a .text .now) (a .at) (a .n) (a .m) (k .result) (w .result) (k .ensures) (w .ensures .0)
-    (line-there (a .text .now) (a .at) (k .result) (w .result) true (w .ensures .0)
+    next-line (a .text .now) (a .at) (a .n) (a .m) (k .result) (w .result) (k .ensures) (w .ensures)
+    (line-there (a .text .now) (a .at) (k .result) (w .result) true (w .ensures)
     (sym (at-is-line .is-line .ensures) ∙ not-false _ (c .before .before .if3 .left)))
     (sym (c .before .is-in-order .ensures) ∙ not-false _ (c .if4 .left))
 

@@ -3,6 +3,7 @@
 use native.Mathlib.Omega.{arith}
 use Prim.Native.Nat.{_+_, _*_, _-_, _≤_}
 use lib.ListN.{length, getD}
+use Rattle.sheet.specs.Kinds.{kinds}
 use Rattle.sheet.proofs.FillLaws.{Left, left-all, kind-lines, kind-count, kind-room, left-less, left-none}
 use Rattle.sheet.proofs.fill.fill_all.Statement.{statement}
 use Rattle.sheet.proofs.fill.fill_all.Tie as tie
@@ -12,7 +13,7 @@ Inv-loop text cells₀ counts at₀ k₀ cells at k =
     Left text cells₀ cells at k
 
 abbrev μ-loop : tie.MeasureT-loop
-μ-loop text cells₀ counts at₀ k₀ cells at k = 8 - k
+μ-loop text cells₀ counts at₀ k₀ cells at k = kinds - k
 
 -- the lines of this turn's kind lie inside the text
 room-here : (c : tie.After-width-of Inv-loop μ-loop) → let s = c .before .before .before .before .before .before .before .before .before in
@@ -25,7 +26,7 @@ room-here c =
     let s = at-stage in
     let l = at-loop .loop in
     kind-room _ (s .pre .0) (s .args .t3) (s .pre .2) _ _ _ (l .k) (at-loop-test .loop-test .taken) (l .inv)
-    (c .width-of .result) (c .width-of .ensures .0)
+    (c .width-of .result) (c .width-of .ensures)
 
 loop-holds : tie.Need-loop-holds Inv-loop μ-loop
 loop-holds c = let s = c .before .before in left-all (s .args .text .now) (s .pre .0) (s .args .cells .now)
@@ -70,7 +71,7 @@ loop-again c =
     let t = at-loop-test .loop-test .taken in
     let f = at-fill-kind .fill-kind in
     left-less _ (s .pre .0) (s .args .t3) (s .pre .2) _ _ _ (l .k) t (l .inv) (f .last .1 .0) (c .width-of .result)
-    (c .width-of .ensures .0) (f .kept .1 .0) (f .ensures)
+    (c .width-of .ensures) (f .kept .1 .0) (f .ensures)
 
 same-length : tie.Need-same-length Inv-loop μ-loop
 same-length c = c .before .loop .inv .same

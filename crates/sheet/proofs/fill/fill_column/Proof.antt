@@ -8,6 +8,7 @@ use lib.ListN.{length, take, drop, length-set, length-take}
 use lib.Seq.{sets}
 use Rattle.sheet.specs.Field.{value}
 use Rattle.sheet.specs.Lines.{Readable, fieldsAt}
+use Rattle.sheet.proofs.KindLaws.{widest-small}
 use Rattle.sheet.proofs.FillLaws.{readable-more, fill-step, fill-end}
 use Rattle.sheet.proofs.fill.fill_column.Statement.{statement}
 use Rattle.sheet.proofs.fill.fill_column.Tie as tie
@@ -69,7 +70,7 @@ slice-write-cells : tie.Need-slice-write-cells Inv-loop μ-loop
 slice-write-cells c = omega (arith, c .before .before .before .loop .inv .1)
 
 add-p : tie.Need-add-p Inv-loop μ-loop
-add-p c = omega (arith, here (c .before .before) .0)
+add-p c = omega (arith, here (c .before .before) .0, widest-small)
 
 add-i : tie.Need-add-i Inv-loop μ-loop
 add-i c = omega arith

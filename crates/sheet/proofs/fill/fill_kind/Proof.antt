@@ -5,9 +5,10 @@ use Prim.Native.Nat.{ℕ, _+_, _*_, _-_, _≤_}
 use mathlib.Core.Path.{_≡_, refl, ap, _∙_}
 use native.Mathlib.Nat.{sub-zero}
 use lib.ListN.{length, drop}
-use Rattle.sheet.specs.Kinds.{fields}
+use Rattle.sheet.specs.Kinds.{fields, cellCount}
 use Rattle.sheet.specs.Lines.{rowsOf}
 use Rattle.sheet.specs.Cells.{storedColumns}
+use Rattle.sheet.proofs.KindLaws.{fields-few, width-most, cells-small}
 use Rattle.sheet.proofs.FillLaws.{Entries, column-readable, column-fits, column-stored, column-step, column-end}
 use Rattle.sheet.proofs.fill.fill_kind.Statement.{statement}
 use Rattle.sheet.proofs.fill.fill_kind.Tie as tie
@@ -24,7 +25,7 @@ abbrev μ-loop : tie.MeasureT-loop
 
 -- what is known where a column is stored
 fits-here : (c : tie.After-fill-column-arg Inv-loop μ-loop) → let s = c .before .before .before .before .before .before .before .before .before in
-    c .before .before .before .base-of .result + c .before .before .loop .c * c .before .before .before .before .limit-of .result + s .args .count ≤ 4101
+    c .before .before .before .base-of .result + c .before .before .loop .c * c .before .before .before .before .limit-of .result + s .args .count ≤ cellCount
 fits-here c =
     let s = c .before .before .before .before .before .before .before .before .before in
     let l = c .before .before .loop in
@@ -40,7 +41,7 @@ limit-of-requires : tie.Need-limit-of-requires Inv-loop μ-loop
 limit-of-requires c κs = tt
 
 base-of-requires : tie.Need-base-of-requires Inv-loop μ-loop
-base-of-requires c κs = tt
+base-of-requires c κs = omega (arith, c .before .before .before .before .before .pre .0 .0)
 
 loop-holds : tie.Need-loop-holds Inv-loop μ-loop
 loop-holds c =
@@ -49,14 +50,11 @@ loop-holds c =
       omega arith,
       refl,
       record {
-        fields-are = c .before .before .before .fields-of .ensures .0;
-        width-is = c .before .before .width-of .ensures .0;
-        limit-is = c .before .limit-of .ensures .0;
-        base-is = c .base-of .ensures .0;
-        few = c .before .before .before .fields-of .ensures .1;
-        narrow = c .before .before .width-of .ensures .2;
-        small = c .before .limit-of .ensures .1;
-        fits = c .base-of .ensures .1;
+        fields-are = c .before .before .before .fields-of .ensures;
+        width-is = c .before .before .width-of .ensures;
+        limit-is = c .before .limit-of .ensures;
+        base-is = c .base-of .ensures;
+        is-kind = s .pre .0 .0;
       },
       ap (λ (j : ℕ). storedColumns (a .k) (rowsOf (a .k) (a .count) (drop (a .at) (a .text .now))) 0 j (a .cells .now)) (sub-zero (fields (a .k))),
     )
@@ -67,31 +65,34 @@ add-fill-column c =
     omega (arith, s .pre .0 .1, s .good .0 .0)
 
 mul-fill-column : tie.Need-mul-fill-column Inv-loop μ-loop
-mul-fill-column c = omega (arith, c .before .before .loop .inv .2 .few, c .before .loop-test .taken)
+mul-fill-column c =
+    let s = c .before .before .before .before .before .before .before .before .before in
+    omega (arith, c .before .before .loop .inv .2 .fields-are, fields-few (s .args .k), c .before .loop-test .taken)
 
 add-fill-column-2 : tie.Need-add-fill-column-2 Inv-loop μ-loop
 add-fill-column-2 c =
     let s = c .before .before .before .before .before .before .before .before .before in
-    omega (arith, s .pre .0 .1, s .good .0 .1, c .before .before .loop .inv .2 .few, c .before .loop-test .taken)
+    omega (arith, s .pre .0 .1, s .good .0 .1, c .before .before .loop .inv .2 .fields-are, fields-few (s .args .k), c .before .loop-test .taken)
 
 mul-fill-column-2 : tie.Need-mul-fill-column-2 Inv-loop μ-loop
-mul-fill-column-2 c = omega (arith, fits-here c)
+mul-fill-column-2 c = omega (arith, fits-here c, cells-small)
 
 add-fill-column-3 : tie.Need-add-fill-column-3 Inv-loop μ-loop
-add-fill-column-3 c = omega (arith, fits-here c)
+add-fill-column-3 c = omega (arith, fits-here c, cells-small)
 
 fill-column-requires : tie.Need-fill-column-requires Inv-loop μ-loop
 fill-column-requires c κs =
     let s = c .before .before .before .before .before .before .before .before .before in
     let l = c .before .before .loop in (
       column-readable _ _ _ _ _ (l .inv .2) (l .c) (c .before .loop-test .taken) (s .args .text .now) (s .args .at) (s .args .count) (s .pre .1),
-      (l .inv .2 .narrow, omega (arith, fits-here c, l .inv .1, s .pre .0 .3)),
+      (omega (arith, l .inv .2 .width-is, width-most (s .args .k)), omega (arith, fits-here c, l .inv .1, s .pre .0 .3)),
     )
 
 add-c : tie.Need-add-c Inv-loop μ-loop
 add-c c =
     let l = c .before .before .before .before .before .loop in
-    omega (arith, l .inv .2 .few, c .before .before .before .before .loop-test .taken)
+    let s = c .before .before .before .before .before .before .before .before .before .before .before .before in
+    omega (arith, l .inv .2 .fields-are, fields-few (s .args .k), c .before .before .before .before .loop-test .taken)
 
 loop-less : tie.Need-loop-less Inv-loop μ-loop
 loop-less c = omega (arith, c .before .before .before .before .loop-test .taken)

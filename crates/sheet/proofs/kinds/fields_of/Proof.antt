@@ -1,26 +1,17 @@
--- `kinds::fields_of` meets its contract: the table is the definition's.
+-- `kinds::fields_of` meets its contract.
 -- Assumes nothing.
-use native.Mathlib.Omega.{arith}
-use borrow.Author.Needs.{needs}
-use mathlib.Core.Path.{refl}
-use Rattle.sheet.specs.Kinds.{fieldCounts, fields}
-use Rattle.sheet.proofs.KindLaws.{table-past, fields-few}
+use mathlib.Core.Path.{ap}
+use Rattle.sheet.specs.declared.kinds.Kind.{Kind}
+use Rattle.sheet.specs.Kinds.{fields}
 use Rattle.sheet.proofs.kinds.fields_of.Statement.{statement}
 use Rattle.sheet.proofs.kinds.fields_of.Tie as tie
 
+kind-at-requires : tie.Need-kind-at-requires
+kind-at-requires c κs = tt
+
 returns : tie.Need-returns
 unfolding fields
-returns c = (table-past fieldCounts (c .before .args .k) (c .if1 .taken), omega arith)
-
-mul-result : tie.Need-mul-result
-mul-result c = search needs
-
-array-read-result : tie.Need-array-read-result
-array-read-result c = search needs
-
-returns-2 : tie.Need-returns-2
-unfolding fields
-returns-2 c = (refl, fields-few (c .before .args .k) (c .if1 .left))
+returns c = ap (λ (x : Kind). x .fields) (c .kind-at .ensures)
 
 pub fields-of-spec : {M : Type 1} → statement M
-fields-of-spec = tie.close (tie.spec returns mul-result array-read-result returns-2)
+fields-of-spec = tie.close (tie.spec kind-at-requires returns)

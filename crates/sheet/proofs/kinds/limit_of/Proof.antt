@@ -1,26 +1,17 @@
--- `kinds::limit_of` meets its contract: the table is the definition's.
+-- `kinds::limit_of` meets its contract.
 -- Assumes nothing.
-use native.Mathlib.Omega.{arith}
-use borrow.Author.Needs.{needs}
-use mathlib.Core.Path.{refl}
-use Rattle.sheet.specs.Kinds.{limits, limit}
-use Rattle.sheet.proofs.KindLaws.{table-past, limit-small}
+use mathlib.Core.Path.{ap}
+use Rattle.sheet.specs.declared.kinds.Kind.{Kind}
+use Rattle.sheet.specs.Kinds.{limit}
 use Rattle.sheet.proofs.kinds.limit_of.Statement.{statement}
 use Rattle.sheet.proofs.kinds.limit_of.Tie as tie
 
+kind-at-requires : tie.Need-kind-at-requires
+kind-at-requires c κs = tt
+
 returns : tie.Need-returns
 unfolding limit
-returns c = (table-past limits (c .before .args .k) (c .if1 .taken), omega arith)
-
-mul-result : tie.Need-mul-result
-mul-result c = search needs
-
-array-read-result : tie.Need-array-read-result
-array-read-result c = search needs
-
-returns-2 : tie.Need-returns-2
-unfolding limit
-returns-2 c = (refl, limit-small (c .before .args .k) (c .if1 .left))
+returns c = ap (λ (x : Kind). x .limit) (c .kind-at .ensures)
 
 pub limit-of-spec : {M : Type 1} → statement M
-limit-of-spec = tie.close (tie.spec returns mul-result array-read-result returns-2)
+limit-of-spec = tie.close (tie.spec kind-at-requires returns)
