@@ -8,9 +8,11 @@ use lib.Seq.{length-take-le}
 use mathlib.Core.Bool.{true}
 use lib.Dec.{ltb}
 use borrow.Author.Tests.{lt-ltb, ltb-true}
-use Rattle.sheet.specs.Kinds.{kinds, fieldCounts, fields, limit}
-use Rattle.sheet.specs.Cells.{base, cellCount, place, columnOf}
-use Rattle.sheet.proofs.FillLaws.{place-fits, base-fits}
+use Rattle.sheet.specs.Kinds.{kind, kindTable, kinds, kindAt, fields, limit, base, cellCount}
+use Rattle.sheet.specs.Cells.{place, columnOf}
+use Rattle.sheet.specs.declared.kinds.Asked.the-variants.{Any}
+use Rattle.sheet.proofs.KindLaws.{base-fits}
+use Rattle.sheet.proofs.FillLaws.{place-fits}
 use Rattle.refusals.specs.Job.{Job}
 use Rattle.proposer.specs.Answer.{IsProposed}
 use Rattle.filling.specs.SourceTables.{WorkColumns}
@@ -18,9 +20,9 @@ use Rattle.outcome.specs.declared.grow.Proposed.{Proposed}
 use Rattle.cells.specs.SheetJob.{cellsColumn, IsColumn, InCells}
 
 -- a column that a kind has, by looking
-pub is-column : (k c : ℕ) → ltb k kinds ≡ true → ltb c (getD fieldCounts k 0) ≡ true → IsColumn k c
-unfolding fields
-is-column k c h f = record { kind = ltb-true k kinds h; field = ltb-true c (getD fieldCounts k 0) f }
+pub is-column : (k c : ℕ) → ltb k kinds ≡ true → ltb c (getD kindTable k (kind 0 0 0 Any) .fields) ≡ true → IsColumn k c
+unfolding fields kindAt
+is-column k c h f = record { kind = ltb-true k kinds h; field = ltb-true c (fields k) f }
 
 -- where it starts
 pub column-at : {k c : ℕ} → IsColumn k c → columnOf k c ≡ place k c

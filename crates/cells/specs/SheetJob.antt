@@ -3,19 +3,19 @@ use Prim.Native.Nat.{ℕ, _≤_, _<_}
 use mathlib.Core.Path.{_≡_}
 use mathlib.Core.List.{List}
 use lib.ListN.{length, getD, take, drop}
-use Rattle.sheet.specs.Kinds.{kinds, fields, limit}
+use Rattle.sheet.specs.Kinds.{kindP, kindB, kindV, kindS, kindU, kindW, kindE, kindF, kinds, fields, limit, cellCount}
 use Rattle.sheet.specs.Sheet.{Sheet}
-use Rattle.sheet.specs.Cells.{cellCount, place, column}
+use Rattle.sheet.specs.Cells.{place, column}
 use Rattle.refusals.specs.declared.job.Parameters.{Parameters}
 use Rattle.refusals.specs.Job.{Job, jobOf, jobColumns}
 
--- numbers by kind and column, kinds in the order P B V S U W E F
+-- numbers by kind and column
 abbrev pub ByKind : Type 0
 ByKind = ℕ → ℕ → List ℕ
 
 -- the number in column c of the one line P
 abbrev pub parameterOf : ByKind → ℕ → ℕ
-parameterOf at c = getD (at 0 c) 0 0
+parameterOf at c = getD (at kindP c) 0 0
 
 -- the line P: k, three scales, units
 abbrev pub parametersOf : ByKind → Parameters
@@ -32,13 +32,13 @@ parametersOf at =
 abbrev pub jobOfColumns : ByKind → Job
 jobOfColumns at =
     jobOf (parametersOf at)
-    (jobColumns (at 1 0) (at 1 1) (at 1 2)
-    (at 2 0)
-    (at 3 0) (at 3 1) (at 3 2) (at 3 3) (at 3 4) (at 3 5)
-    (at 4 0) (at 4 1) (at 4 2)
-    (at 5 0)
-    (at 6 0) (at 6 1) (at 6 2) (at 6 3) (at 6 4) (at 6 5)
-    (at 7 0) (at 7 1) (at 7 2))
+    (jobColumns (at kindB 0) (at kindB 1) (at kindB 2)
+    (at kindV 0)
+    (at kindS 0) (at kindS 1) (at kindS 2) (at kindS 3) (at kindS 4) (at kindS 5)
+    (at kindU 0) (at kindU 1) (at kindU 2)
+    (at kindW 0)
+    (at kindE 0) (at kindE 1) (at kindE 2) (at kindE 3) (at kindE 4) (at kindE 5)
+    (at kindF 0) (at kindF 1) (at kindF 2))
 
 -- the columns of a sheet's rows
 abbrev pub columnsOf : Sheet → ByKind
@@ -61,5 +61,5 @@ pub record IsColumn (k c : ℕ) : Type 0 where
 -- cells that a sheet was read into, with so many rows of each kind: one P, and the others within their limits
 pub record InCells (cells counts : List ℕ) : Type 0 where
   pub room : cellCount ≤ length cells
-  pub one : getD counts 0 0 ≡ 1
+  pub one : getD counts kindP 0 ≡ 1
   pub within : (k : ℕ) → k < kinds → getD counts k 0 ≤ limit k
