@@ -1,4 +1,4 @@
-/* Document 01's case A through the library: prints its record, and answers 0 if it is the document's. */
+/* Document 01's case A through the library: prints its record and its normalised weight, and answers 0 if they are the document's. */
 #include "gelduvra.h"
 
 #include <inttypes.h>
@@ -23,7 +23,7 @@ int main(void)
     const uint32_t u_kind[] = {5, 4};
     const uint32_t cost[] = {1065353216, 1065353216};
     const uint32_t none[1] = {0};
-    uint32_t prev[1], next[1], inst[4], from[5], to[5], live[5], segment_from[6], segment_to[6], segment_value[6], segment_gap[6];
+    uint32_t prev[1], next[1], inst[4], gap_from[5], gap_to[5], live[5], segment_from[6], segment_to[6], segment_value[6], segment_gap[6];
     float weight[4], left[4], right[4], gap_weight[5], min_freq[5];
     uint64_t answer[10];
 
@@ -37,7 +37,7 @@ int main(void)
         0, 1065353216, 1065353216, 1065353216, 1,
         COLUMN(prev), COLUMN(next),
         COLUMN(inst), COLUMN(weight), COLUMN(left), COLUMN(right),
-        COLUMN(from), COLUMN(to), COLUMN(gap_weight), COLUMN(live), COLUMN(min_freq),
+        COLUMN(gap_from), COLUMN(gap_to), COLUMN(gap_weight), COLUMN(live), COLUMN(min_freq),
         COLUMN(segment_from), COLUMN(segment_to), COLUMN(segment_value), COLUMN(segment_gap),
         answer);
 
@@ -47,5 +47,8 @@ int main(void)
         printf("%" PRIu64 "\n", answer[i]);
         differ |= answer[i] != expected[i];
     }
-    return differ;
+    /* What is entered for the register if the proposal is taken. */
+    uint32_t entered = gelduvra_normalised_weight((uint32_t)answer[3], (uint32_t)answer[4], 0);
+    printf("%" PRIu32 "\n", entered);
+    return differ | (entered != 1056964608);
 }

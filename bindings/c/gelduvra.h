@@ -1,4 +1,4 @@
-/* The proved split proposal, for programs in C: the two functions of target/staticlib/libexports.a, which `rt staticlib exports` writes.
+/* The proved split proposal, for programs in C: the three functions of target/staticlib/libexports.a, which `rt staticlib exports` writes.
  *
  * A column is a pointer and how many items it has; a table has as many rows as its shortest column. A pointer is never null, not
  * even of an empty column, and is aligned. No column that is written overlaps another. Nothing else is asked of the arguments: what
@@ -15,6 +15,13 @@
 #ifdef __cplusplus
 extern "C" {
 #endif
+
+/* The symbols of the functions end in the version of this interface and in what to do, so that an archive of another version does not
+ * link, and the linker's own message says how to get one that does. Programs use the plain names. */
+#define GELDUVRA_VERSIONED(name) name##_v2_else_run_rt_staticlib_exports
+#define gelduvra_propose_split GELDUVRA_VERSIONED(gelduvra_propose_split)
+#define gelduvra_find_optimal_split_point GELDUVRA_VERSIONED(gelduvra_find_optimal_split_point)
+#define gelduvra_normalised_weight GELDUVRA_VERSIONED(gelduvra_normalised_weight)
 
 /* The words of an answer: what it is, and six words more; the rows used of the use table, of the gaps and of the gap segments.
  * A proposal: left, right (GELDUVRA_ABSENT if absent), use weight, live instructions, interference weight, split cost; weights as bits.
@@ -43,7 +50,7 @@ void gelduvra_propose_split(
     const uint32_t *position, size_t position_len,
     const uint32_t *u_kind, size_t u_kind_len,
     const uint32_t *cost, size_t cost_len,
-    /* spill weights, as bits */
+    /* spill weights, as bits: where a reservation was entered for a proposal, exactly its gelduvra_normalised_weight */
     const uint32_t *spill_weight, size_t spill_weight_len,
     /* reservations: unit, start and end point, kind, index, fixed */
     const uint32_t *r_unit, size_t r_unit_len,
@@ -67,8 +74,8 @@ void gelduvra_propose_split(
     float *left_weight, size_t left_weight_len,
     float *right_weight, size_t right_weight_len,
     /* gaps: from, to, weight, live instructions, frequency */
-    uint32_t *from, size_t from_len,
-    uint32_t *to, size_t to_len,
+    uint32_t *gap_from, size_t gap_from_len,
+    uint32_t *gap_to, size_t gap_to_len,
     float *gap_weight, size_t gap_weight_len,
     uint32_t *live, size_t live_len,
     float *min_freq, size_t min_freq_len,
@@ -86,6 +93,13 @@ void gelduvra_find_optimal_split_point(
     const uint32_t *end, size_t end_len,
     uint32_t after, uint32_t before, bool prefer_early,
     uint64_t answer[3]);
+
+/* The normalised weight of a proposal, as bits: of word 3, the bits of its use weight, of word 4, its live instructions, and of the k of
+ * its job. It is the use weight over the instructions and k, rounded as proved, at most the largest finite float. Bits of a use weight
+ * that are negative or not a number count as zero.
+ * Whoever takes a proposal and evicts what its region meets enters exactly these bits as the spill weight of the register that evicts.
+ * With another weight the law that evictions end does not hold. */
+uint32_t gelduvra_normalised_weight(uint32_t use_weight, uint32_t live_insts, uint32_t k);
 
 #ifdef __cplusplus
 }

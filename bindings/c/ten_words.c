@@ -31,7 +31,7 @@ int main(void)
     const uint32_t r_index[] = {0, 0};
     const uint32_t r_fixed[] = {4294967295u, 4294967295u};
     const uint32_t none[1] = {0};
-    uint32_t prev[11], next[11], inst[6], from[17], to[17], live[17], segment_from[23], segment_to[23], segment_value[23], segment_gap[23];
+    uint32_t prev[11], next[11], inst[6], gap_from[17], gap_to[17], live[17], segment_from[23], segment_to[23], segment_value[23], segment_gap[23];
     float weight[6], left[6], right[6], gap_weight[17], min_freq[17];
     uint64_t answer[10];
 
@@ -45,7 +45,7 @@ int main(void)
         1, 1065353216, 1056964608, 1199570944, 1,
         COLUMN(prev), COLUMN(next),
         COLUMN(inst), COLUMN(weight), COLUMN(left), COLUMN(right),
-        COLUMN(from), COLUMN(to), COLUMN(gap_weight), COLUMN(live), COLUMN(min_freq),
+        COLUMN(gap_from), COLUMN(gap_to), COLUMN(gap_weight), COLUMN(live), COLUMN(min_freq),
         COLUMN(segment_from), COLUMN(segment_to), COLUMN(segment_value), COLUMN(segment_gap),
         answer);
 
@@ -55,5 +55,8 @@ int main(void)
         printf("%" PRIu64 "\n", answer[i]);
         differ |= answer[i] != expected[i];
     }
-    return differ;
+    /* What is entered for the register if the proposal is taken. */
+    uint32_t entered = gelduvra_normalised_weight((uint32_t)answer[3], (uint32_t)answer[4], 1);
+    printf("%" PRIu32 "\n", entered);
+    return differ | (entered != 1572864);
 }

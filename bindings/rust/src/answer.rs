@@ -1,7 +1,9 @@
 //! What a job is answered, from the words of the call.
 
 use crate::ABSENT;
+use crate::call;
 use crate::error::Refusal;
+use crate::job::Parameters;
 
 /// What an accepted job is answered.
 #[derive(Clone, Copy, Debug, PartialEq)]
@@ -39,6 +41,28 @@ pub struct SplitProposal {
     pub interference_weight: f32,
     /// What the two cuts cost: the frequencies just outside.
     pub split_cost: f32,
+}
+
+impl SplitProposal {
+    /// The normalised weight: the use weight over the live instructions and k, rounded as proved, at most [`f32::MAX`]. The parameters are
+    /// those of the job that was answered this proposal.
+    ///
+    /// Whoever takes a proposal and evicts what its region meets enters exactly this weight, to the bit, as the spill weight of the
+    /// register that evicts: where reservations carry it, evictions end after at most 10,000, which is proved. With another weight, one
+    /// computed by hand or raised later among them, that law does not hold.
+    ///
+    /// A use weight that is negative or not a number, which no proposal has, counts as zero.
+    ///
+    /// ```
+    /// # use gelduvra::{Parameters, SplitProposal};
+    /// let zero = SplitProposal { left: None, right: None, use_weight: 0.0, live_insts: 1, interference_weight: 0.0, split_cost: 0.0 };
+    /// let proposal = SplitProposal { use_weight: 2.0, live_insts: 4, ..zero };
+    /// assert_eq!(proposal.normalised_weight(&Parameters::default()), 0.5);
+    /// assert_eq!(proposal.normalised_weight(&Parameters { k: 4, ..Parameters::default() }), 0.25);
+    /// ```
+    pub fn normalised_weight(&self, parameters: &Parameters) -> f32 {
+        call::normalised_weight(self.use_weight, self.live_insts, parameters.k)
+    }
 }
 
 /// How many rows of the work tables a job has filled. Links have one row for each block.

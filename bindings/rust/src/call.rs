@@ -6,6 +6,7 @@ use crate::work::WorkTables;
 #[rustfmt::skip]
 unsafe extern "C" {
     /// Rattle: crates/exports. A column is a pointer and a number of items; frequencies, weights and scales are bits.
+    #[link_name = symbol!("gelduvra_propose_split")]
     fn gelduvra_propose_split(
         freq: *const u32, freq_len: usize,
         first: *const u32, first_len: usize,
@@ -37,8 +38,8 @@ unsafe extern "C" {
         weight: *mut f32, weight_len: usize,
         left_weight: *mut f32, left_weight_len: usize,
         right_weight: *mut f32, right_weight_len: usize,
-        from: *mut u32, from_len: usize,
-        to: *mut u32, to_len: usize,
+        gap_from: *mut u32, gap_from_len: usize,
+        gap_to: *mut u32, gap_to_len: usize,
         gap_weight: *mut f32, gap_weight_len: usize,
         live: *mut u32, live_len: usize,
         min_freq: *mut f32, min_freq_len: usize,
@@ -50,6 +51,7 @@ unsafe extern "C" {
     );
 
     /// The same for the lower-cost split point.
+    #[link_name = symbol!("gelduvra_find_optimal_split_point")]
     fn gelduvra_find_optimal_split_point(
         freq: *const u32, freq_len: usize,
         first: *const u32, first_len: usize,
@@ -57,6 +59,10 @@ unsafe extern "C" {
         after: u32, before: u32, prefer_early: bool,
         answer: *mut [u64; 3],
     );
+
+    /// A normalised weight's bits, from those of a use weight. Numbers alone: nothing is asked of a caller.
+    #[link_name = symbol!("gelduvra_normalised_weight")]
+    safe fn gelduvra_normalised_weight(use_weight: u32, live_insts: u32, k: u32) -> u32;
 }
 
 /// Calls the library for a job, and answers its ten words.
@@ -103,8 +109,8 @@ pub(crate) fn propose_split(job: &Job<'_>, work: &mut WorkTables<'_>) -> [u64; 1
             work.weight.as_mut_ptr(), work.weight.len(),
             work.left_weight.as_mut_ptr(), work.left_weight.len(),
             work.right_weight.as_mut_ptr(), work.right_weight.len(),
-            work.from.as_mut_ptr(), work.from.len(),
-            work.to.as_mut_ptr(), work.to.len(),
+            work.gap_from.as_mut_ptr(), work.gap_from.len(),
+            work.gap_to.as_mut_ptr(), work.gap_to.len(),
             work.gap_weight.as_mut_ptr(), work.gap_weight.len(),
             work.live.as_mut_ptr(), work.live.len(),
             work.min_freq.as_mut_ptr(), work.min_freq.len(),
@@ -133,4 +139,9 @@ pub(crate) fn find_optimal_split_point(blocks: &Blocks<'_>, after: u32, before: 
         );
     }
     answer
+}
+
+/// Calls the library for a normalised weight.
+pub(crate) fn normalised_weight(use_weight: f32, live_insts: u32, k: u32) -> f32 {
+    f32::from_bits(gelduvra_normalised_weight(use_weight.to_bits(), live_insts, k))
 }

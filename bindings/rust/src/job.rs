@@ -20,6 +20,9 @@ pub struct Job<'a> {
     /// The uses of all segments, in order.
     pub uses: Uses<'a>,
     /// The spill weights that reservations name. Infinity is one of them.
+    ///
+    /// Whoever evicts enters exactly [`SplitProposal::normalised_weight`](crate::SplitProposal::normalised_weight) for the register that
+    /// evicts, or the law that evictions end does not hold.
     pub spill_weights: &'a [f32],
     /// What holds the register's units.
     pub reservations: Reservations<'a>,
@@ -99,7 +102,7 @@ pub struct Reservations<'a> {
     pub end: &'a [u32],
     /// Its kind, of [`reservation_kind`](crate::reservation_kind).
     pub kind: &'a [u32],
-    /// Of a weighted one a row of [`Job::spill_weights`], of a fixed use its value, else 0.
+    /// Of a weighted one a row of [`Job::spill_weights`], of a fixed use its value, else 0. Which weight belongs there is said at that column.
     pub index: &'a [u32],
     /// Of a weighted one a row among its unit's fixed uses, or [`ABSENT`](crate::ABSENT); else 0.
     pub fixed: &'a [u32],

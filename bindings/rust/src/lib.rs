@@ -71,6 +71,9 @@
 #[cfg(not(target_arch = "x86_64"))]
 compile_error!("the static library of the Rattle kit links into x86-64 programs alone");
 
+#[macro_use]
+mod symbol;
+
 mod answer;
 mod call;
 mod error;

@@ -24,9 +24,9 @@ pub struct WorkTables<'a> {
     /// The use table: the weight of uses just before the start of a segment.
     pub right_weight: &'a mut [f32],
     /// The gaps: the first instruction.
-    pub from: &'a mut [u32],
+    pub gap_from: &'a mut [u32],
     /// The gaps: the instruction after the last.
-    pub to: &'a mut [u32],
+    pub gap_to: &'a mut [u32],
     /// The gaps: the weight of the uses placed there.
     pub gap_weight: &'a mut [f32],
     /// The gaps: the live instructions.
@@ -48,10 +48,12 @@ impl WorkTables<'_> {
         same_length(Table::Links, [self.prev_lower_freq.len(), self.next_lower_freq.len()])?;
         let uses = [self.inst.len(), self.weight.len(), self.left_weight.len(), self.right_weight.len()];
         same_length(Table::UseTable, uses)?;
-        let gaps = [self.from.len(), self.to.len(), self.gap_weight.len(), self.live.len(), self.min_freq.len()];
+        let gaps =
+            [self.gap_from.len(), self.gap_to.len(), self.gap_weight.len(), self.live.len(), self.min_freq.len()];
         same_length(Table::Gaps, gaps)?;
-        let out = [self.segment_from.len(), self.segment_to.len(), self.segment_value.len(), self.segment_gap.len()];
-        same_length(Table::GapSegments, out)
+        let segments =
+            [self.segment_from.len(), self.segment_to.len(), self.segment_value.len(), self.segment_gap.len()];
+        same_length(Table::GapSegments, segments)
     }
 }
 
@@ -118,8 +120,8 @@ pub struct Scratch {
     weight: Vec<f32>,
     left_weight: Vec<f32>,
     right_weight: Vec<f32>,
-    from: Vec<u32>,
-    to: Vec<u32>,
+    gap_from: Vec<u32>,
+    gap_to: Vec<u32>,
     gap_weight: Vec<f32>,
     live: Vec<u32>,
     min_freq: Vec<f32>,
@@ -181,8 +183,8 @@ impl Scratch {
     pub fn gaps(&self) -> Gaps<'_> {
         let n = self.rows.gaps;
         Gaps {
-            from: &self.from[..n],
-            to: &self.to[..n],
+            from: &self.gap_from[..n],
+            to: &self.gap_to[..n],
             weight: &self.gap_weight[..n],
             live: &self.live[..n],
             min_freq: &self.min_freq[..n],
@@ -212,12 +214,15 @@ impl Scratch {
             resize([&mut self.inst], uses);
             resize([&mut self.weight, &mut self.left_weight, &mut self.right_weight], uses);
         }
-        if self.from.len() < gaps {
-            resize([&mut self.from, &mut self.to, &mut self.live], gaps);
+        if self.gap_from.len() < gaps {
+            resize([&mut self.gap_from, &mut self.gap_to, &mut self.live], gaps);
             resize([&mut self.gap_weight, &mut self.min_freq], gaps);
         }
         if self.segment_from.len() < gap_segments {
-            resize([&mut self.segment_from, &mut self.segment_to, &mut self.segment_value, &mut self.segment_gap], gap_segments);
+            resize(
+                [&mut self.segment_from, &mut self.segment_to, &mut self.segment_value, &mut self.segment_gap],
+                gap_segments,
+            );
         }
     }
 
@@ -229,8 +234,8 @@ impl Scratch {
             weight: &mut self.weight,
             left_weight: &mut self.left_weight,
             right_weight: &mut self.right_weight,
-            from: &mut self.from,
-            to: &mut self.to,
+            gap_from: &mut self.gap_from,
+            gap_to: &mut self.gap_to,
             gap_weight: &mut self.gap_weight,
             live: &mut self.live,
             min_freq: &mut self.min_freq,

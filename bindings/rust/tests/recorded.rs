@@ -83,12 +83,12 @@ fn rooms() {
         let mut links = [numbers(l), numbers(l)];
         let (mut inst, mut uses) = (numbers(u), [floats(u), floats(u), floats(u)]);
         let (mut gaps, mut gap_floats) = ([numbers(g), numbers(g), numbers(g)], [floats(g), floats(g)]);
-        let mut out = [numbers(o), numbers(o), numbers(o), numbers(o)];
+        let mut segments = [numbers(o), numbers(o), numbers(o), numbers(o)];
         let [prev_lower_freq, next_lower_freq] = &mut links;
         let [weight, left_weight, right_weight] = &mut uses;
-        let [from, to, live] = &mut gaps;
+        let [gap_from, gap_to, live] = &mut gaps;
         let [gap_weight, min_freq] = &mut gap_floats;
-        let [segment_from, segment_to, segment_value, segment_gap] = &mut out;
+        let [segment_from, segment_to, segment_value, segment_gap] = &mut segments;
         let mut work = WorkTables {
             prev_lower_freq,
             next_lower_freq,
@@ -96,8 +96,8 @@ fn rooms() {
             weight,
             left_weight,
             right_weight,
-            from,
-            to,
+            gap_from,
+            gap_to,
             gap_weight,
             live,
             min_freq,
@@ -111,7 +111,7 @@ fn rooms() {
         assert_eq!(line_of(&answer.map(|proposed| proposed.answer)), record.first_line(), "record {at}");
         if answer.is_err() {
             refused += 1;
-            assert!(links.iter().chain(&gaps).chain(&out).all(|column| column.iter().all(|n| *n == PATTERN)));
+            assert!(links.iter().chain(&gaps).chain(&segments).all(|column| column.iter().all(|n| *n == PATTERN)));
         } else {
             answered += 1;
         }
@@ -121,7 +121,7 @@ fn rooms() {
         assert!(uses.iter().all(|column| rest(column, rows.uses)));
         assert!(gap_floats.iter().all(|column| rest(column, rows.gaps)));
         assert!(gaps.iter().all(|column| column[rows.gaps..].iter().all(|n| *n == PATTERN)));
-        assert!(out.iter().all(|column| column[rows.gap_segments..].iter().all(|n| *n == PATTERN)));
+        assert!(segments.iter().all(|column| column[rows.gap_segments..].iter().all(|n| *n == PATTERN)));
     }
     assert_eq!((refused, answered), (58, 5));
 }

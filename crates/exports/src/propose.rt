@@ -8,7 +8,7 @@ ghost use Rattle.words.specs.Words.{IsExported};
 
 // The answer to a job, and its tables in the lent columns: `propose_split`, with its answer in ten words.
 #[no_mangle]
-pub extern "C" fn gelduvra_propose_split<'a>(
+pub extern "C" fn gelduvra_propose_split_v2_else_run_rt_staticlib_exports<'a>(
     freq: &'a [u32],
     first: &'a [u32],
     end: &'a [u32],

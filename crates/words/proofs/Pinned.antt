@@ -2,7 +2,9 @@
 use mathlib.Core.Path.{_≡_, refl}
 use mathlib.Core.List.{List, [], _∷_, map}
 use Prim.Native.Nat.{ℕ}
-use lib.Ieee.{Float, binary32, ofBits, toBits}
+use lib.Ieee.{Float, binary32, ofBits, toBits, div, round, lt, ofInt}
+use Rattle.numbers.specs.Weight.{valueOf}
+use Rattle.numbers.specs.Normal.{normalised}
 use Rattle.numbers.specs.declared.MaybeInst.the-variants as MaybeInst·is
 use Rattle.columns.specs.Table.{table}
 use Rattle.links.specs.declared.split.SplitPoint.the-variants as SplitPoint·is
@@ -10,7 +12,7 @@ use Rattle.growth.specs.declared.proposal.SplitProposal.{SplitProposal}
 use Rattle.outcome.specs.declared.grow.Answer.the-variants as Answer·is
 use Rattle.filling.specs.SourceTables.{WorkColumns, workColumns}
 use Rattle.refusals.specs.Job.{Job, jobColumns, jobOf}
-use Rattle.words.specs.Words.{proposedWords, splitPointWords}
+use Rattle.words.specs.Words.{proposedWords, splitPointWords, normalisedBits}
 
 -- ---- the words of `gelduvra_propose_split`
 -- a proposal whose six fields are 1 to 6, weights by their bits
@@ -58,6 +60,15 @@ pub point-words-are :
     splitPointWords (SplitPoint·is.At (record { 0 = 5 })) ∷ splitPointWords (SplitPoint·is.Refused (record { number = 13; place = 6 })) ∷ []
     ≡ (0 ∷ 5 ∷ 0 ∷ []) ∷ (1 ∷ 13 ∷ 6 ∷ []) ∷ []
 point-words-are = refl
+
+-- ---- `gelduvra_normalised_weight`
+-- 2.0 over 4 instructions, and with a k of 4; infinity over 1; 1.0 over nothing, and zero over nothing, a NaN; the bits behind infinity's, and minus 1.0
+pub normalised-bits-are :
+    normalisedBits 1073741824 4 0 ∷ normalisedBits 1073741824 4 4 ∷ normalisedBits 2139095040 1 0 ∷ normalisedBits 1065353216 0 0 ∷ normalisedBits 0 0 0
+    ∷ normalisedBits 2139095041 1 0 ∷ normalisedBits 3212836864 1 0 ∷ []
+    ≡ 1056964608 ∷ 1048576000 ∷ 2139095039 ∷ 2139095039 ∷ 2143289344 ∷ 0 ∷ 0 ∷ []
+unfolding ofBits toBits valueOf normalised div round lt ofInt
+normalised-bits-are = refl
 
 -- ---- the order of the columns
 -- a column of one row

@@ -3,6 +3,9 @@ use mathlib.Core.Path.{_≡_}
 use Prim.Native.Nat.{ℕ}
 use mathlib.Core.List.{List, [], _∷_, _++_}
 use lib.ListN.{length}
+use lib.Ieee.{binary32, toBits}
+use Rattle.numbers.specs.Weight.{weightLimit, valueOf}
+use Rattle.numbers.specs.Normal.{normalised}
 use Rattle.numbers.specs.declared.MaybeInst.{MaybeInst}
 use Rattle.numbers.specs.declared.MaybeInst.the-variants as MaybeInst·is
 use Rattle.links.specs.declared.split.SplitPoint.{SplitPoint}
@@ -54,3 +57,7 @@ pub record IsExported (job : Job) (lent now : WorkColumns) (words : List ℕ) : 
 abbrev pub splitPointWords : SplitPoint → List ℕ
 splitPointWords (SplitPoint·is.At i) = 0 ∷ i .0 ∷ 0 ∷ []
 splitPointWords (SplitPoint·is.Refused r) = 1 ∷ r .number ∷ r .place ∷ []
+
+-- the bits of a normalised weight, from those of the use weight; bits above infinity's are no weight's, and count as zero
+abbrev pub normalisedBits : ℕ → ℕ → ℕ → ℕ
+normalisedBits weight insts k = toBits binary32 (normalised (valueOf weightLimit weight) insts k)

@@ -2,13 +2,15 @@
 use growth::proposal::SplitProposal;
 use links::split::SplitPoint;
 use numbers::MaybeInst;
+use numbers::normal::normalize_spill_weight;
 use numbers::weights::bits_of;
+use numbers::weights::weight_of;
 use outcome::grow::Answer;
 use outcome::grow::Proposed;
 ghost use mathlib.Core.Path.{_≡_};
 ghost use lib.Ieee.{binary32, toBits};
 ghost use Rattle.outcome.specs.declared.grow.Answer.the-variants.{Found};
-ghost use Rattle.words.specs.Words.{endWord, answerWords, proposedWords, splitPointWords};
+ghost use Rattle.words.specs.Words.{endWord, answerWords, proposedWords, splitPointWords, normalisedBits};
 
 // What stands for an absent end.
 const ABSENT: u64 = 4294967295;
@@ -87,4 +89,11 @@ pub fn split_point_words(point: SplitPoint) -> [u64; 3]
         SplitPoint::At(i) => [0, i.0 as u64, 0],
         SplitPoint::Refused(r) => [1, r.number as u64, r.place as u64],
     }
+}
+
+// A normalised weight's bits, from those of the use weight. Of a proposal's words they are what whoever evicts enters for it.
+pub fn normalised_bits(use_weight: u32, live_insts: u32, k: u32) -> u32
+    ensures { λ r. ⌜ r ≡ normalisedBits «use_weight» «live_insts» k ⌝ }
+{
+    bits_of(normalize_spill_weight(weight_of(use_weight), live_insts, k))
 }

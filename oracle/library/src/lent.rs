@@ -20,7 +20,7 @@ pub struct Lent {
     weights: [Vec<f32>; 3],
     gaps: [Vec<u32>; 3],
     gap_weights: [Vec<f32>; 2],
-    out: [Vec<u32>; 4],
+    segments: [Vec<u32>; 4],
     links: [Vec<u32>; 2],
 }
 
@@ -31,19 +31,19 @@ impl Lent {
             weights: Default::default(),
             gaps: Default::default(),
             gap_weights: Default::default(),
-            out: Default::default(),
+            segments: Default::default(),
             links: Default::default(),
         }
     }
 
     /// So many rows, all with the pattern.
     pub fn fill(&mut self, rooms: Rooms) {
-        let [uses, gaps, out, links] = rooms;
+        let [uses, gaps, segments, links] = rooms;
         refill(std::slice::from_mut(&mut self.inst), uses, PATTERN);
         refill(&mut self.weights, uses, f32::from_bits(PATTERN));
         refill(&mut self.gaps, gaps, PATTERN);
         refill(&mut self.gap_weights, gaps, f32::from_bits(PATTERN));
-        refill(&mut self.out, out, PATTERN);
+        refill(&mut self.segments, segments, PATTERN);
         refill(&mut self.links, links, PATTERN);
     }
 
@@ -55,9 +55,9 @@ impl Lent {
     pub fn lend_links(&mut self, links: usize) -> WorkTables<'_> {
         let [prev_lower_freq, next_lower_freq] = self.links.each_mut().map(|column| &mut column[..links]);
         let [weight, left_weight, right_weight] = &mut self.weights;
-        let [from, to, live] = &mut self.gaps;
+        let [gap_from, gap_to, live] = &mut self.gaps;
         let [gap_weight, min_freq] = &mut self.gap_weights;
-        let [segment_from, segment_to, segment_value, segment_gap] = &mut self.out;
+        let [segment_from, segment_to, segment_value, segment_gap] = &mut self.segments;
         WorkTables {
             prev_lower_freq,
             next_lower_freq,
@@ -65,8 +65,8 @@ impl Lent {
             weight,
             left_weight,
             right_weight,
-            from,
-            to,
+            gap_from,
+            gap_to,
             gap_weight,
             live,
             min_freq,
@@ -98,9 +98,9 @@ impl Lent {
                 first_of("gaps", self.gaps[0].len(), &told.gaps, row, told_row, by)
             })
             .or_else(|| {
-                let row = |i: usize| [0, 1, 2, 3].map(|c: usize| self.out[c][i]);
+                let row = |i: usize| [0, 1, 2, 3].map(|c: usize| self.segments[c][i]);
                 let told_row = |o: &GapSegment| [o.from, o.to, o.value, o.gap];
-                first_of("gap segments", self.out[0].len(), &told.gap_segments, row, told_row, by)
+                first_of("gap segments", self.segments[0].len(), &told.gap_segments, row, told_row, by)
             })
     }
 }

@@ -1,8 +1,8 @@
 -- `gelduvra_propose_split` stores the words of what `propose_split` answers
 use mathlib.Core.Path.{ap, _∙_}
 use Rattle.words.specs.Words.{proposedWords}
-use Rattle.exports.proofs.propose.gelduvra_propose_split.Statement.{statement}
-use Rattle.exports.proofs.propose.gelduvra_propose_split.Tie as tie
+use Rattle.exports.proofs.propose.gelduvra_propose_split_v2_else_run_rt_staticlib_exports.Statement.{statement}
+use Rattle.exports.proofs.propose.gelduvra_propose_split_v2_else_run_rt_staticlib_exports.Tie as tie
 
 -- ---- places: where the call has answered
 abbrev proposed-at : tie.After-proposed-words → tie.After-propose-split
@@ -71,8 +71,8 @@ returns c =
       tables = e .tables;
     }
 
-pub gelduvra-propose-split-spec : {M : Type 1} → statement M
-gelduvra-propose-split-spec =
+pub gelduvra-propose-split-v2-else-run-rt-staticlib-exports-spec : {M : Type 1} → statement M
+gelduvra-propose-split-v2-else-run-rt-staticlib-exports-spec =
     tie.close
     (tie.spec
     propose-split-requires
