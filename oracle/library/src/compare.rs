@@ -1,7 +1,9 @@
 //! One job, damaged job or split point on both sides.
 
-use gelduvra::{Answer, Error, Proposed, Refusal, Rows, Scratch};
+use gelduvra::{Answer, Error, Parameters, Proposed, Refusal, Rows, Scratch};
 use library::{Columns, Lent, Rooms, rooms_of};
+// An answer in the oracle's words, with the normalised weight.
+use sheet::Answer as Said;
 use sheet::{Block, Gap, GapSegment, Job, Link, Proposal, Tables, UseRow};
 
 use supplied::Ran;
@@ -15,14 +17,6 @@ pub struct Comparison {
     /// Kept between all jobs, as a user would.
     scratch: Scratch,
     summary: Summary,
-}
-
-/// An answer in the oracle's words, without the normalised weight: the library has no H figure.
-#[derive(Debug, PartialEq, Eq)]
-enum Said {
-    Proposed(Proposal),
-    None(u32),
-    Refused(u32, u32),
 }
 
 impl Comparison {
@@ -59,11 +53,7 @@ impl Comparison {
 
     /// Lent tables with a few rows more than the job needs, one table too short, and the scratch.
     fn beside(&mut self, item: u64, job: &Job, ran: &Ran) -> Result<(), String> {
-        let told = match ran.answer {
-            sheet::Answer::Proposed(proposal, _) => Said::Proposed(proposal),
-            sheet::Answer::None(kind) => Said::None(kind),
-            sheet::Answer::Refused(number, place) => Said::Refused(number, place),
-        };
+        let told = ran.answer;
         let needs = rooms_of(job);
         let more = [0, 1, 2, 3].map(|table| (item >> (2 * table)) as usize % 3);
         let rooms = std::array::from_fn(|table| needs[table] + more[table]);
@@ -83,9 +73,10 @@ impl Comparison {
     fn lent_call(&mut self, by: &str, rooms: Rooms, told: &Said, tables: &Tables) -> Result<(), String> {
         self.summary.runs += 1;
         self.lent.fill(rooms);
-        let proposed = gelduvra::propose_split(&self.columns.job(), &mut self.lent.lend());
+        let job = self.columns.job();
+        let proposed = gelduvra::propose_split(&job, &mut self.lent.lend());
         let rows = proposed.as_ref().map_or(Rows::default(), |p: &Proposed| p.rows);
-        same("answer", said_of(proposed.map(|p| p.answer)), by, told)?;
+        same("answer", said_of(proposed.map(|p| p.answer), &job.parameters), by, told)?;
         let used = Rows { uses: tables.uses.len(), gaps: tables.gaps.len(), gap_segments: tables.gap_segments.len() };
         same("rows used", rows, by, &used)?;
         self.lent.differs(tables, by).map_or(Ok(()), Err)
@@ -93,8 +84,9 @@ impl Comparison {
 
     /// The call with the scratch that all jobs before it have used.
     fn scratch_call(&mut self, by: &str, told: &Said, tables: &Tables) -> Result<(), String> {
-        let answer = self.scratch.propose_split(&self.columns.job());
-        same("answer from the scratch", said_of(answer), by, told)?;
+        let job = self.columns.job();
+        let answer = self.scratch.propose_split(&job);
+        same("answer from the scratch", said_of(answer, &job.parameters), by, told)?;
         match scratch_tables(&self.scratch) == *tables {
             true => Ok(()),
             false => Err(format!("the scratch's views are not the tables of {by}")),
@@ -160,13 +152,15 @@ fn same<T: PartialEq + std::fmt::Debug>(what: &str, found: T, by: &str, told: &T
     if found == *told { Ok(()) } else { Err(format!("{what}: the library {found:?}, {by} {told:?}")) }
 }
 
-fn said_of(answer: Result<Answer, Error>) -> Said {
+/// What the library answers a job with these parameters.
+fn said_of(answer: Result<Answer, Error>, parameters: &Parameters) -> Said {
     match answer {
         Ok(Answer::Proposal(p)) => {
             let [use_weight, interference_weight, split_cost] =
                 [p.use_weight, p.interference_weight, p.split_cost].map(f32::to_bits);
             let (left, right, live_insts) = (p.left, p.right, p.live_insts);
-            Said::Proposed(Proposal { left, right, use_weight, live_insts, interference_weight, split_cost })
+            let proposal = Proposal { left, right, use_weight, live_insts, interference_weight, split_cost };
+            Said::Proposed(proposal, p.normalised_weight(parameters).to_bits())
         }
         Ok(Answer::NoBestUse) => Said::None(1),
         Ok(Answer::NoRegion) => Said::None(2),
