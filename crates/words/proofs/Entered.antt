@@ -1,5 +1,6 @@
 -- What is entered for a proposal is the weight of which the law of evictions speaks, so evictions end where it is entered
 use mathlib.Core.Path.{_≡_, refl, sym, ap, _∙_, subst}
+use mathlib.Core.Logic.{_↔_}
 use mathlib.Core.List.{List, [], _∷_, _++_, map}
 use Prim.Native.Nat.{ℕ, _≤_}
 use native.Mathlib.Omega.{arith}
@@ -15,10 +16,11 @@ use Rattle.refusals.specs.Job.{Job}
 use Rattle.outcome.specs.declared.grow.Answer.{Answer}
 use Rattle.outcome.specs.declared.grow.Answer.the-variants as Answer·is
 use Rattle.proposer.specs.Answer.{answerOf}
-use Rattle.proposer.specs.Evictions.{weightIn, EvictionsAfter, Evictions, JobEvictionsEnd, AnsweredJob, entryOf}
+use Rattle.proposer.specs.Evictions.{weightIn, Meets, EvictionsAfter, Evictions, JobEvictionsEnd, AnsweredJob, entryOf}
 use Rattle.proposer.proofs.Answered.{answer-demand3, evictions-end}
+use Rattle.proposer.proofs.TwoEvictions.{first-answered, second-answered, two-evictions}
 use Rattle.words.specs.Words.{answerWords, proposedWords, proposedOf, IsExported}
-use Rattle.words.specs.Entered.{weightOfWords, TellsWeight, enteredFor, EnteredAfter, Entered}
+use Rattle.words.specs.Entered.{weightOfWords, TellsWeight, enteredFor, MeetsEntered, EnteredAfter, Entered}
 
 -- ---- words that begin with 0 are a proposal's
 proposes : (a : Answer) (rows : List ℕ) → getD (answerWords a ++ rows) 0 0 ≡ 0 → (p : SplitProposal) × (a ≡ Answer·is.Found p)
@@ -64,23 +66,25 @@ words-tell job lent now words given e =
 pub entered-weight : (a : AnsweredJob) → enteredFor a ≡ toBits binary32 (weightIn (entryOf a))
 entered-weight a = words-weight (a .job) (a .rooms) (a .proposal) (a .answered)
 
+-- so a reservation that carries what was entered for a job is one that carries the normalised weight of its proposal
+pub entered-carries : (a b : AnsweredJob) → MeetsEntered (entryOf b) (enteredFor a) ↔ Meets (entryOf b) (weightIn (entryOf a))
+entered-carries a b = (
+  (λ m. record { segment = m .segment; row = m .row; in-region = m .in-region; weighs = m .weighs; carries = m .carries ∙ entered-weight a }),
+  (λ m. record { segment = m .segment; row = m .row; in-region = m .in-region; weighs = m .weighs; carries = m .carries ∙ sym (entered-weight a) }),
+)
+
 -- evictions end where each proposal is entered with the normalised weight of its words: no ring, and at most 10,000
 pub entered-evictions-end : (list : List AnsweredJob) → Entered list → JobEvictionsEnd (map entryOf list)
 entered-evictions-end list chain = evictions-end list (all list chain)
   where
     after : (a : AnsweredJob) (rest : List AnsweredJob) → EnteredAfter a rest → EvictionsAfter (entryOf a) (map entryOf rest)
     after a [] c = tt
-    after a (b ∷ rest) c = (
-      record {
-        segment = c .0 .segment;
-        row = c .0 .row;
-        in-region = c .0 .in-region;
-        weighs = c .0 .weighs;
-        carries = c .0 .carries ∙ entered-weight a;
-      },
-      after b rest (c .1),
-    )
+    after a (b ∷ rest) c = (entered-carries a b .0 (c .0), after b rest (c .1))
 
     all : (list : List AnsweredJob) → Entered list → Evictions (map entryOf list)
     all [] c = tt
     all (a ∷ rest) c = after a rest c
+
+-- there are such lists
+pub two-entered : Entered (first-answered ∷ second-answered ∷ [])
+two-entered = (entered-carries first-answered second-answered .1 (two-evictions .0), tt)
