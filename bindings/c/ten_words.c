@@ -1,5 +1,5 @@
 /* Record 95 of recorded/answers.txt through the library: a job whose ten words all differ, so that no two of them can be exchanged unseen.
- * Prints them, and answers 0 if they are the ones recorded. */
+ * Prints them and the normalised weight, and answers 0 if they are the ones recorded. */
 #include "gelduvra.h"
 
 #include <inttypes.h>
