@@ -1,19 +1,18 @@
--- What a text is answered, put together from its reading and the proposal for its job
-use Prim.Native.Nat.{ℕ, zero, suc, _+_, _≤_, _<_}
+-- What is answered, put together: a job from its proposal, a text from its reading and the answer to its job
+use Prim.Native.Nat.{ℕ, zero, suc, _+_}
 use mathlib.Core.Path.{_≡_, refl, sym, ap, _∙_, subst}
 use mathlib.Core.Bool.{Bool, true, false}
 use mathlib.Core.List.{List, [], _∷_, _++_}
 use native.Mathlib.Omega.{arith}
-use lib.ListN.{length, getD, length-map}
+use lib.ListN.{length, length-map}
 use lib.Dec.{eqb}
-use borrow.Author.Tests.{lt-ltb, le-ltb}
 use Rattle.sheet.specs.Kinds.{pick}
 use Rattle.sheet.specs.Refusal.{linesOf, fault, judged, verdictBelow, verdict, sheetOf}
-use Rattle.sheet.specs.Cells.{cellCount, cellsAfter, Read}
 use Rattle.sheet.specs.Answer.{answerText, Wrote}
 use Rattle.sheet.specs.declared.check.Verdict.{Verdict}
 use Rattle.sheet.specs.declared.check.Verdict.the-variants as Verdict·is
 use Rattle.sheet.specs.declared.write.Answer as Shown
+use Rattle.sheet.specs.declared.write.Answer.the-variants as Shown·is
 use Rattle.sheet.specs.declared.write.Written.{Written}
 use Rattle.sheet.specs.declared.write.Written.the-variants as Written·is
 use Rattle.links.specs.Links.{lowerLink}
@@ -37,13 +36,15 @@ use Rattle.outcome.specs.declared.grow.Proposed.{Proposed}
 use Rattle.outcome.specs.Outcome.{ofRegion}
 use Rattle.proposer.specs.Answer.{ofBest, ofChecked, answerOf, IsProposed}
 use Rattle.tables.specs.JobTables.{ifAccepted, noTables, tablesOf}
-use Rattle.filling.specs.SourceTables.{Tables, freqsOf, tablesOfBest, WorkColumns, roomsOf, FilledBy}
+use Rattle.filling.specs.SourceTables.{Tables, freqsOf, tablesOfBest, WorkColumns, roomsOf}
 use Rattle.figures.specs.Figures.{shownOf}
-use Rattle.cells.specs.SheetJob.{parameterOf, jobOfColumns, jobOfSheet, cellsColumn}
-use Rattle.answers.specs.SheetAnswer.{ofVerdict, shownOfJob, verdictIn, ifRead, tablesOfText, isUnread, Unread, linksUsed, IsShown, IsAnswered}
-use Rattle.answers.specs.declared.answer.Answered.{Answered}
-use Rattle.cells.proofs.CellColumns.{proposed-as}
-use Rattle.answers.proofs.ReadJob.{blocks-counted, read-cells, read-job}
+use Rattle.cells.specs.SheetJob.{jobOfSheet}
+use Rattle.answers.specs.TablesText.{columnsText, rowsOfTables, tablesText}
+use Rattle.answers.specs.SheetRooms.{roomsLent}
+use Rattle.answers.specs.JobAnswer.{shownOfJob, linksUsed, rowsOfProposed, IsAnsweredJob}
+use Rattle.answers.specs.SheetAnswer.{ofVerdict, ifRead, IsAnswered}
+use Rattle.answers.specs.declared.job.Answered.{Answered}
+use Rattle.answers.proofs.FilledText.{filled-text, tables-even}
 
 -- no text's verdict is NoRoom
 below-never : (ls above : List (List ℕ)) → verdictBelow above ls ≡ Verdict·is.NoRoom → ⊥
@@ -85,124 +86,51 @@ module _ (job : Job) (n : ℕ) (counted : n ≡ length (job .blocks)) where
   pub links-filled : (rooms : Rooms) → linksUsed (answerOf job rooms) n ≡ length (tablesOf job rooms .prevs)
   links-filled rooms = links-checked (refusalOf job rooms) (bestOf (sourceOfJob job))
 
--- a text that was read is sound
-pub sound-only : (v : Verdict) → isUnread v ≡ false → v ≡ Verdict·is.Sound
-sound-only Verdict·is.Sound e = refl
-sound-only (Verdict·is.Refused n l) e = absurd (let y : _≡_ {A = ℕ} 0 1 = cc in omega arith)
-sound-only Verdict·is.NoRoom e = absurd (let y : _≡_ {A = ℕ} 0 1 = cc in omega arith)
+-- a job that was proposed, with tables of the rows lent
+module _ {job : Job} {asked : Rooms} {lent now : WorkColumns} {p : Proposed} (proposed : IsProposed job lent now p)
+    (rooms : roomsOf lent ≡ roomsLent asked) where
+  -- as many rows as the tables have
+  rows-said : (blocks : ℕ) → blocks ≡ length (job .blocks) → rowsOfProposed p blocks ≡ rowsOfTables (tablesOf job (roomsOf lent))
+  rows-said blocks counted =
+      let links = ap (λ (x : Answer). linksUsed x blocks) (proposed .answer) ∙ links-filled job blocks counted (roomsOf lent) in
+      λ i. record { uses = proposed .uses i; gaps = proposed .gaps i; «gap_segments» = proposed .segments i; links = links i }
 
--- nothing is filled
-none-filled : (lent : WorkColumns) → FilledBy noTables lent lent
-none-filled lent =
+  -- the text of the columns is that of the tables
+  pub tables-said : (blocks : ℕ) → blocks ≡ length (job .blocks) → columnsText now (rowsOfProposed p blocks) ≡ tablesText (tablesOf job (roomsLent asked))
+  tables-said blocks counted =
+      ap (columnsText now) (rows-said blocks counted)
+      ∙ filled-text (proposed .tables) (tables-even job (roomsOf lent))
+      ∙ ap (λ (r : Rooms). tablesText (tablesOf job r)) rooms
+
+  -- the answer is that of the job
+  pub answer-said : shownOf (job .k) (p .answer) ≡ shownOfJob job (roomsLent asked)
+  answer-said = ap (shownOf (job .k)) (proposed .answer) ∙ ap (λ (r : Rooms). shownOf (job .k) (answerOf job r)) rooms
+
+-- no text at all
+pub nothing-wrote : (out : List ℕ) → Wrote [] out out (Written·is.Bytes 0)
+nothing-wrote out = record { answer = refl; bytes = refl }
+
+-- a text that is refused
+pub refused-answered : (text : List ℕ) (asked : Rooms) (number line : ℕ) → verdict text ≡ Verdict·is.Refused number line
+    → {out out-now : List ℕ} (tables : List ℕ) {w : Written} → Wrote (answerText (Shown·is.Refused number line)) out out-now w
+    → IsAnswered text asked out out-now tables tables (record { answer = w; tables = Written·is.Bytes 0 })
+refused-answered text asked number line e {out} {out-now} tables {w} wrote =
+    let job = jobOfSheet (sheetOf text) in
     record {
-      prev = refl;
-      next = refl;
-      inst = refl;
-      main = refl;
-      left = refl;
-      right = refl;
-      from = refl;
-      to = refl;
-      weight = refl;
-      live = refl;
-      freq = refl;
-      segment-from = refl;
-      segment-to = refl;
-      segment-value = refl;
-      segment-gap = refl;
+      answer = subst (λ (v : Verdict). Wrote (answerText (ofVerdict v (shownOfJob job (roomsLent asked)))) out out-now w) (sym e) wrote;
+      tables = subst (λ (v : Verdict). Wrote (tablesText (ifRead v (tablesOf job (roomsLent asked)))) tables tables (Written·is.Bytes 0)) (sym e)
+          (nothing-wrote tables);
     }
 
-module _ {text cells cells-now counts : List ℕ} {v : Verdict} (read : Read text cells cells-now v counts) (lent : WorkColumns) where
-  -- with room the verdict is the text's own
-  room-verdict : cellCount ≤ length cells → verdictIn cells text ≡ verdict text
-  room-verdict h = rw (le-ltb (length cells) cellCount h)
-
-  short-verdict : length cells < cellCount → verdictIn cells text ≡ Verdict·is.NoRoom
-  short-verdict h = rw (lt-ltb (length cells) cellCount h)
-
-  cells-read : cells-now ≡ cellsAfter (verdictIn cells text) (sheetOf text) cells
-  cells-read = read .cells ∙ ap (λ (w : Verdict). cellsAfter w (sheetOf text) cells) (read .answer)
-
-  abbrev job : Job
-  job = jobOfSheet (sheetOf text)
-
-  no-tables : (w : Verdict) → isUnread w ≡ true → ifRead w (tablesOf job (roomsOf lent)) ≡ noTables
-  no-tables Verdict·is.Sound e = absurd (let y : _≡_ {A = ℕ} 0 1 = cc in omega arith)
-  no-tables (Verdict·is.Refused n l) e = refl
-  no-tables Verdict·is.NoRoom e = refl
-
-  -- a text that was not read
-  module _ (unread : isUnread v ≡ true) (out out-now : List ℕ) (w : Written) (said : Unread v out out-now w) where
-    none : noTables ≡ tablesOfText cells text (roomsOf lent)
-    none = sym (no-tables (verdictIn cells text) (ap isUnread (sym (read .answer)) ∙ unread))
-
-    unread-written : (x : Verdict) → x ≡ verdictIn cells text → isUnread x ≡ true → Unread x out out-now w → cellCount ≤ length cells
-        → Wrote (answerText (ofVerdict (verdict text) (shownOfJob job (roomsOf lent)))) out out-now w
-    unread-written Verdict·is.Sound e f s h = absurd (let y : _≡_ {A = ℕ} 0 1 = cc in omega arith)
-    unread-written (Verdict·is.Refused n l) e f s h =
-        subst (λ (x : Verdict). Wrote (answerText (ofVerdict x (shownOfJob job (roomsOf lent)))) out out-now w) (e ∙ room-verdict h) s
-    unread-written Verdict·is.NoRoom e f s h = absurd (verdict-never text (sym (e ∙ room-verdict h)))
-
-    unread-short : (x : Verdict) → x ≡ verdictIn cells text → Unread x out out-now w → length cells < cellCount → (w ≡ Written·is.NoRoom) × (out-now ≡ out)
-    unread-short Verdict·is.Sound e s h = s
-    unread-short (Verdict·is.Refused n l) e s h =
-        absurd (let q : Verdict·is.Refused n l ≡ Verdict·is.NoRoom = e ∙ short-verdict h in let y : _≡_ {A = ℕ} 0 1 = cc in omega arith)
-    unread-short Verdict·is.NoRoom e s h = s
-
-    pub unread-answered : IsAnswered text cells cells-now lent lent out out-now (record { written = w; links = 0; uses = 0; gaps = 0; «gap_segments» = 0 })
-    unread-answered =
-        record {
-          written = unread-written v (read .answer) unread said;
-          no-room = unread-short v (read .answer) said;
-          read = cells-read;
-          links = ap (λ (t : Tables). length (t .prevs)) none;
-          uses = ap (λ (t : Tables). length (t .uses)) none;
-          gaps = ap (λ (t : Tables). length (t .gaps)) none;
-          segments = ap (λ (t : Tables). length (t .segments)) none;
-          tables = subst (λ (t : Tables). FilledBy t lent lent) none (none-filled lent);
-        }
-
-  -- a sheet
-  module _ (is-read : isUnread v ≡ false) {now : WorkColumns} {p : Proposed} {k blocks : ℕ} {out out-now : List ℕ} {a : Answered}
-      (proposed : IsProposed (jobOfColumns (cellsColumn cells-now counts)) lent now p)
-      (adjusted : k ≡ parameterOf (cellsColumn cells-now counts) 0)
-      (counted : blocks ≡ getD counts 1 0)
-      (shown : IsShown p k blocks out out-now a) where
-    sound : v ≡ Verdict·is.Sound
-    sound = sound-only v is-read
-
-    same : jobOfColumns (cellsColumn cells-now counts) ≡ job
-    same = read-job read sound
-
-    of-job : IsProposed job lent now p
-    of-job = proposed-as same proposed
-
-    whole : verdictIn cells text ≡ Verdict·is.Sound
-    whole = sym (read .answer) ∙ sound
-
-    all : tablesOf job (roomsOf lent) ≡ tablesOfText cells text (roomsOf lent)
-    all = sym (ap (λ (w : Verdict). ifRead w (tablesOf job (roomsOf lent))) whole)
-
-    said : cellCount ≤ length cells → shownOf k (p .answer) ≡ ofVerdict (verdict text) (shownOfJob job (roomsOf lent))
-    said h =
-        ap (λ (n : ℕ). shownOf n (p .answer)) (adjusted ∙ ap (λ (j : Job). j .k) same)
-        ∙ ap (shownOf (job .k)) (of-job .answer)
-        ∙ sym (ap (λ (w : Verdict). ofVerdict w (shownOfJob job (roomsOf lent))) (sym (room-verdict h) ∙ whole))
-
-    links-said : linksUsed (p .answer) blocks ≡ length (tablesOf job (roomsOf lent) .prevs)
-    links-said =
-        ap (λ (x : Answer). linksUsed x blocks) (of-job .answer)
-        ∙ links-filled job blocks (counted ∙ blocks-counted (read-cells read sound) ∙ ap (λ (j : Job). length (j .blocks)) same) (roomsOf lent)
-
-    pub sound-answered : IsAnswered text cells cells-now lent now out out-now a
-    sound-answered =
-        record {
-          written = λ h. subst (λ (x : Shown.Answer). Wrote (answerText x) out out-now (a .written)) (said h) (shown .written);
-          no-room = λ h. absurd (let q : Verdict·is.NoRoom ≡ Verdict·is.Sound = sym (short-verdict h) ∙ whole in let y : _≡_ {A = ℕ} 0 1 = cc in omega arith);
-          read = cells-read;
-          links = shown .links ∙ links-said ∙ ap (λ (t : Tables). length (t .prevs)) all;
-          uses = shown .uses ∙ of-job .uses ∙ ap (λ (t : Tables). length (t .uses)) all;
-          gaps = shown .gaps ∙ of-job .gaps ∙ ap (λ (t : Tables). length (t .gaps)) all;
-          segments = shown .segments ∙ of-job .segments ∙ ap (λ (t : Tables). length (t .segments)) all;
-          tables = subst (λ (t : Tables). FilledBy t lent now) all (of-job .tables);
-        }
+-- a sheet, by the answer to its job
+pub sheet-answered : (text : List ℕ) (asked : Rooms) → verdict text ≡ Verdict·is.Sound → {job : Job} → job ≡ jobOfSheet (sheetOf text)
+    → {out out-now tables tables-now : List ℕ} {a : Answered} → IsAnsweredJob job asked out out-now tables tables-now a
+    → IsAnswered text asked out out-now tables tables-now a
+sheet-answered text asked e {job} same {out} {out-now} {tables} {tables-now} {a} said =
+    let own : IsAnsweredJob (jobOfSheet (sheetOf text)) asked out out-now tables tables-now a =
+        subst (λ (j : Job). IsAnsweredJob j asked out out-now tables tables-now a) same said in
+    let j = jobOfSheet (sheetOf text) in
+    record {
+      answer = subst (λ (v : Verdict). Wrote (answerText (ofVerdict v (shownOfJob j (roomsLent asked)))) out out-now (a .answer)) (sym e) (own .answer);
+      tables = subst (λ (v : Verdict). Wrote (tablesText (ifRead v (tablesOf j (roomsLent asked)))) tables tables-now (a .tables)) (sym e) (own .tables);
+    }

@@ -1,4 +1,6 @@
--- What an answer's figures are, what a sheet is answered, how much of a text decides it, how much room is enough, and two cases
+-- The tables as one text, what a job and a sheet are answered, how much of a text decides it, how much room is enough, and the cases
+pub mod TextLaws
+pub mod FilledText
 pub mod ReadJob
 pub mod Answering
 pub mod Front

@@ -15,9 +15,8 @@ use Rattle.sheet.specs.declared.check.Verdict.the-variants.{Sound}
 use Rattle.sheet.proofs.SoundLaws.{sound-sheet}
 use Rattle.sheet.proofs.CellLaws.{stored-length}
 use Rattle.sheet.proofs.Exact as exact
-use Rattle.links.proofs.Columns.{list-long}
 use Rattle.cells.specs.SheetJob.{ByKind, jobOfColumns, columnsOf, jobOfSheet, cellsColumn, IsColumn, InCells}
-use Rattle.cells.proofs.CellColumns.{is-column, column-long}
+use Rattle.cells.proofs.CellColumns.{is-column}
 
 -- numbers by kind and column, of the columns that kinds have
 abbrev only : ByKind → ByKind
@@ -38,15 +37,6 @@ job-same f g e =
     let same : only f ≡ only g = λ i k c. only-same f g e k c i in
     let looked : jobOfColumns (only f) ≡ jobOfColumns (only g) = ap jobOfColumns same in
     looked
-
--- as many blocks as the cells have rows of them
-pub blocks-counted : {cells counts : List ℕ} → InCells cells counts → getD counts kindB 0 ≡ length (jobOfColumns (cellsColumn cells counts) .blocks)
-blocks-counted {cells} {counts} held =
-    let at = cellsColumn cells counts in
-    let f = column-long held (is-column kindB 0 refl refl) in
-    let s = column-long held (is-column kindB 1 refl refl) in
-    let e = column-long held (is-column kindB 2 refl refl) in
-    sym (list-long (at kindB 0) (at kindB 1) (at kindB 2) (s ∙ sym f) (e ∙ sym f) ∙ f)
 
 -- a sheet has its line P
 needed-first : needed kindP ≡ true

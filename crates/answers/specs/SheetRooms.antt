@@ -1,8 +1,18 @@
 -- The rows that refusal 12 asks of a sheet at most
-use Prim.Native.Nat.{_+_}
+use Prim.Native.Nat.{_+_, min}
 use Rattle.sheet.specs.Kinds.{few, many}
 use Rattle.filling.specs.declared.lent.Rooms.{Rooms}
 
 -- uses U + 2, gaps U + B + 2, gap segments U + B + S + 2, links B, with as many uses, blocks and segments as a sheet may have
 abbrev pub sheetRooms : Rooms
 sheetRooms = record { uses = many + 2; gaps = many + few + 2; «gap_segments» = many + few + few + 2; links = few }
+
+-- the rows that are lent where so many are asked for: no more than that
+abbrev pub roomsLent : Rooms → Rooms
+roomsLent asked =
+    record {
+      uses = min (asked .uses) (sheetRooms .uses);
+      gaps = min (asked .gaps) (sheetRooms .gaps);
+      «gap_segments» = min (asked .«gap_segments») (sheetRooms .«gap_segments»);
+      links = min (asked .links) (sheetRooms .links);
+    }

@@ -1,10 +1,11 @@
-// Answers: what a sheet's text is answered.
+// Answers: what a sheet's text is answered, and the tables of its job as text.
 //
-// Here: `answer_sheet` reads a text, proposes for its job and writes the answer. `write_row` writes a row of any table as a line.
-// `room` has the rows of a program's work tables.
-// Proved: each equals its definition (specs/SheetAnswer, Rows) for every input; the first 47,485 bytes of a text decide its answer
-// (proofs/Front); work tables of those rows, `sheet_rooms`, are enough for every sheet (proofs/Rooms).
-// A caller should know: `answer_sheet` has no `requires`: too few cells, or bytes, is an answer of its own.
+// Here: `answer_sheet` reads a text and answers its job; `answer_job` answers the job of 23 columns: both write the answer and the text of
+// the tables. `write_tables` writes the rows of lent tables. `room` has the rows of the work tables, which stand in `answer_job` alone.
+// Proved: each equals its definition (specs/SheetAnswer, JobAnswer, TablesText) for every input; the first 47,485 bytes of a text decide
+// what is written (proofs/Front); work tables of those rows, `sheet_rooms`, are enough for every sheet (proofs/Rooms).
+// A caller should know: there is no `requires`. A buffer that is too short stays as it was, and `Written` says so.
 pub mod answer;
+pub mod job;
+pub mod lines;
 pub mod room;
-pub mod rows;

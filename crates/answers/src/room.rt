@@ -1,7 +1,12 @@
 // How many rows the work tables of a program that answers sheets have: enough for every sheet (proofs/Rooms).
+use crate::lines::GAP_LINE;
+use crate::lines::GAP_SEGMENT_LINE;
+use crate::lines::LINK_LINE;
+use crate::lines::USE_LINE;
+use columns::rows::shorter;
 use filling::lent::Rooms;
 ghost use mathlib.Core.Path.{_≡_};
-ghost use Rattle.answers.specs.SheetRooms.{sheetRooms};
+ghost use Rattle.answers.specs.SheetRooms.{sheetRooms, roomsLent};
 
 pub const USE_ROWS: usize = 258;
 
@@ -11,7 +16,16 @@ pub const GAP_SEGMENT_ROWS: usize = 514;
 
 pub const LINK_ROWS: usize = 128;
 
-// The four together.
+// The longest answer's bytes.
+pub const ANSWER_BYTES: usize = 81;
+
+// The bytes of the tables' text where every row is used.
+pub const TABLE_BYTES: usize = LINK_LINE * LINK_ROWS
+    + USE_LINE * USE_ROWS
+    + GAP_LINE * GAP_ROWS
+    + GAP_SEGMENT_LINE * GAP_SEGMENT_ROWS;
+
+// The rows of the four tables.
 pub fn sheet_rooms() -> Rooms
     ensures { λ r. ⌜ r ≡ sheetRooms ⌝ }
 {
@@ -20,5 +34,17 @@ pub fn sheet_rooms() -> Rooms
         gaps: GAP_ROWS,
         gap_segments: GAP_SEGMENT_ROWS,
         links: LINK_ROWS,
+    }
+}
+
+// The rows that are lent where so many are asked for: no more than there are.
+pub(crate) fn rooms_lent(asked: Rooms) -> Rooms
+    ensures { λ r. ⌜ r ≡ roomsLent asked ⌝ }
+{
+    Rooms {
+        uses: shorter(asked.uses, USE_ROWS),
+        gaps: shorter(asked.gaps, GAP_ROWS),
+        gap_segments: shorter(asked.gap_segments, GAP_SEGMENT_ROWS),
+        links: shorter(asked.links, LINK_ROWS),
     }
 }

@@ -1,6 +1,6 @@
 -- The columns that lie in the cells
 use Prim.Native.Nat.{ℕ, _+_, _-_, _≤_}
-use mathlib.Core.Path.{_≡_, _∙_, ap, subst}
+use mathlib.Core.Path.{_≡_, _∙_, ap}
 use mathlib.Core.List.{List}
 use native.Mathlib.Omega.{arith}
 use lib.ListN.{length, getD, take, drop, length-drop}
@@ -13,10 +13,6 @@ use Rattle.sheet.specs.Cells.{place, columnOf}
 use Rattle.sheet.specs.declared.kinds.Asked.the-variants.{Any}
 use Rattle.sheet.proofs.KindLaws.{base-fits}
 use Rattle.sheet.proofs.FillLaws.{place-fits}
-use Rattle.refusals.specs.Job.{Job}
-use Rattle.proposer.specs.Answer.{IsProposed}
-use Rattle.filling.specs.SourceTables.{WorkColumns}
-use Rattle.outcome.specs.declared.grow.Proposed.{Proposed}
 use Rattle.cells.specs.SheetJob.{cellsColumn, IsColumn, InCells}
 
 -- a column that a kind has, by looking
@@ -52,7 +48,3 @@ module _ {cells counts : List ℕ} (held : InCells cells counts) {k c : ℕ} (i 
   column-part from to e f =
       let w : to - from ≡ getD counts k 0 = omega arith in
       ap (λ (n : ℕ). take n (drop from cells)) w ∙ ap (λ (p : ℕ). take (getD counts k 0) (drop p cells)) (e ∙ column-at i)
-
--- a proposal for the same job
-pub proposed-as : {job same : Job} {lent now : WorkColumns} {r : Proposed} → job ≡ same → IsProposed job lent now r → IsProposed same lent now r
-proposed-as {job} {same} {lent} {now} {r} e p = subst (λ (j : Job). IsProposed j lent now r) e p

@@ -1,11 +1,17 @@
 // A job in the cells that a sheet was read into: its parameters and its 23 columns are lent from there.
-use outcome::grow::Proposed;
-use proposer::propose::propose_split;
 use refusals::job::Parameters;
 use sheet::column_of;
+use sheet::kinds::B;
+use sheet::kinds::E;
+use sheet::kinds::F;
+use sheet::kinds::P;
+use sheet::kinds::S;
+use sheet::kinds::U;
+use sheet::kinds::V;
+use sheet::kinds::W;
 ghost use mathlib.Core.Path.{_≡_};
-ghost use Rattle.proposer.specs.Answer.{IsProposed};
-ghost use Rattle.filling.specs.SourceTables.{workColumns};
+ghost use mathlib.Core.List.{map};
+ghost use Rattle.refusals.specs.Job.{jobOf, jobColumnsIn};
 ghost use Rattle.cells.specs.SheetJob.{parameterOf, parametersOf, jobOfColumns, cellsColumn, IsColumn, InCells};
 
 // Column c of kind k: as many cells as the kind has rows.
@@ -23,12 +29,12 @@ fn parameter(cells: &[u32], counts: [usize; 8], c: usize) -> u32
     requires { ⌜ InCells (now cells) counts × IsColumn 0 c ⌝ }
     ensures { λ r. ⌜ r ≡ parameterOf (cellsColumn (now (cells .entry)) counts) c ⌝ }
 {
-    let p = column(cells, counts, 0, c);
+    let p = column(cells, counts, P, c);
     p[0]
 }
 
 // The line P.
-fn parameters_of(cells: &[u32], counts: [usize; 8]) -> Parameters
+pub fn parameters_of(cells: &[u32], counts: [usize; 8]) -> Parameters
     requires { ⌜ InCells (now cells) counts ⌝ }
     ensures { λ r. ⌜ r ≡ parametersOf (cellsColumn (now (cells .entry)) counts) ⌝ }
 {
@@ -41,89 +47,37 @@ fn parameters_of(cells: &[u32], counts: [usize; 8]) -> Parameters
     }
 }
 
-// The adjustment k.
-pub fn adjustment(cells: &[u32], counts: [usize; 8]) -> u32
-    requires { ⌜ InCells (now cells) counts ⌝ }
-    ensures { λ r. ⌜ r ≡ parameterOf (cellsColumn (now (cells .entry)) counts) 0 ⌝ }
-{
-    parameter(cells, counts, 0)
-}
-
-// The answer to the job in the cells, and its tables in the lent columns. Kinds are counted in the order P B V S U W E F.
-pub fn propose_cells(
-    cells: &[u32],
-    counts: [usize; 8],
-    prev_lower_freq: &mut [u32],
-    next_lower_freq: &mut [u32],
-    inst: &mut [u32],
-    weight: &mut [f32],
-    left_weight: &mut [f32],
-    right_weight: &mut [f32],
-    gap_from: &mut [u32],
-    gap_to: &mut [u32],
-    gap_weight: &mut [f32],
-    live: &mut [u32],
-    min_freq: &mut [f32],
-    segment_from: &mut [u32],
-    segment_to: &mut [u32],
-    segment_value: &mut [u32],
-    segment_gap: &mut [u32],
-) -> Proposed
+// The 23 columns, in the order of `jobColumnsIn`.
+pub fn columns_of<'a>(cells: &'a [u32], counts: [usize; 8]) -> [&'a [u32]; 23]
     requires { ⌜ InCells (now cells) counts ⌝ }
     ensures { λ r. ⌜
-        (let lent = workColumns
-        (now («prev_lower_freq» .entry)) (now («next_lower_freq» .entry))
-        (now (inst .entry)) (now (weight .entry)) (now («left_weight» .entry)) (now («right_weight» .entry))
-        (now («gap_from» .entry)) (now («gap_to» .entry)) (now («gap_weight» .entry)) (now (live .entry)) (now («min_freq» .entry))
-        (now («segment_from» .entry)) (now («segment_to» .entry)) (now («segment_value» .entry)) (now («segment_gap» .entry)) in
-        let after = workColumns
-        (now («prev_lower_freq» .exit)) (now («next_lower_freq» .exit))
-        (now (inst .exit)) (now (weight .exit)) (now («left_weight» .exit)) (now («right_weight» .exit))
-        (now («gap_from» .exit)) (now («gap_to» .exit)) (now («gap_weight» .exit)) (now (live .exit)) (now («min_freq» .exit))
-        (now («segment_from» .exit)) (now («segment_to» .exit)) (now («segment_value» .exit)) (now («segment_gap» .exit)) in
-        IsProposed (jobOfColumns (cellsColumn (now (cells .entry)) counts)) lent after r) ⌝ }
+        (let at = cellsColumn (now (cells .entry)) counts in
+        jobOf (parametersOf at) (jobColumnsIn (map now r)) ≡ jobOfColumns at)
+        ⌝ }
 {
-    propose_split(
-        [
-            column(cells, counts, 1, 0),
-            column(cells, counts, 1, 1),
-            column(cells, counts, 1, 2),
-            column(cells, counts, 2, 0),
-            column(cells, counts, 3, 0),
-            column(cells, counts, 3, 1),
-            column(cells, counts, 3, 2),
-            column(cells, counts, 3, 3),
-            column(cells, counts, 3, 4),
-            column(cells, counts, 3, 5),
-            column(cells, counts, 4, 0),
-            column(cells, counts, 4, 1),
-            column(cells, counts, 4, 2),
-            column(cells, counts, 5, 0),
-            column(cells, counts, 6, 0),
-            column(cells, counts, 6, 1),
-            column(cells, counts, 6, 2),
-            column(cells, counts, 6, 3),
-            column(cells, counts, 6, 4),
-            column(cells, counts, 6, 5),
-            column(cells, counts, 7, 0),
-            column(cells, counts, 7, 1),
-            column(cells, counts, 7, 2),
-        ],
-        parameters_of(cells, counts),
-        prev_lower_freq,
-        next_lower_freq,
-        inst,
-        weight,
-        left_weight,
-        right_weight,
-        gap_from,
-        gap_to,
-        gap_weight,
-        live,
-        min_freq,
-        segment_from,
-        segment_to,
-        segment_value,
-        segment_gap,
-    )
+    [
+        column(cells, counts, B, 0),
+        column(cells, counts, B, 1),
+        column(cells, counts, B, 2),
+        column(cells, counts, V, 0),
+        column(cells, counts, S, 0),
+        column(cells, counts, S, 1),
+        column(cells, counts, S, 2),
+        column(cells, counts, S, 3),
+        column(cells, counts, S, 4),
+        column(cells, counts, S, 5),
+        column(cells, counts, U, 0),
+        column(cells, counts, U, 1),
+        column(cells, counts, U, 2),
+        column(cells, counts, W, 0),
+        column(cells, counts, E, 0),
+        column(cells, counts, E, 1),
+        column(cells, counts, E, 2),
+        column(cells, counts, E, 3),
+        column(cells, counts, E, 4),
+        column(cells, counts, E, 5),
+        column(cells, counts, F, 0),
+        column(cells, counts, F, 1),
+        column(cells, counts, F, 2),
+    ]
 }

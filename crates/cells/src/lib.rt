@@ -1,6 +1,6 @@
 // Cells: a sheet's cells as a job.
 //
-// Here: `propose_cells`, which proposes for the job whose columns stand in cells, and `adjustment`, the job's k.
-// Proved: the answer and the lent columns are those of the job of specs/SheetJob.
-// A caller should know: it relies on cells that `read_sheet` of `sheet` has filled.
+// Here: `columns_of` and `parameters_of`, the job's columns and parameters, which stand in cells.
+// Proved: they make the job of specs/SheetJob.
+// A caller should know: they rely on cells that `read_sheet` of `sheet` has filled.
 pub mod cells;

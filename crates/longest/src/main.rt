@@ -7,7 +7,6 @@
 //
 // Each member's job is case J's: four instructions, a use at the first and at the last one. The best use's own gap is the first
 // instruction, so the use weight is the block's frequency. A fixed def on the third instruction keeps the region to that gap.
-use cells::cells::propose_cells;
 use libc::STDOUT_FILENO;
 use numbers::normal::normalize_spill_weight;
 use numbers::normal::strictly_exceeds;
@@ -15,63 +14,14 @@ use numbers::weights::FREQUENCY_LIMIT;
 use numbers::weights::bits_of;
 use numbers::weights::weight_of;
 use outcome::grow::Answer;
-use sheet::column_of;
+use proposer::propose::propose_split;
+use refusals::job::Parameters;
 ghost use Prim.Native.Nat.{_≤_};
 ghost use mathlib.Core.Path.{_≡_};
 ghost use lib.ListN.{length};
 
-// A job, where a sheet's numbers are kept.
-struct Cells {
-    numbers: [u32; 4101],
-}
-
 // The bits of 1.0.
 const ONE: u32 = 1065353216;
-
-// Stores a number in a row of a kind's column. Kinds are counted in the order P B V S U W E F.
-fn with(job: Cells, k: usize, c: usize, row: usize, number: u32) -> Cells {
-    let mut numbers = job.numbers;
-    let at = column_of(k, c);
-    if at < 4101 {
-        if row < 4101 - at {
-            numbers[at + row] = number;
-        }
-    }
-    Cells { numbers }
-}
-
-// Stores the parameters, the block but for its frequency, and the one segment: k and the first instruction are 0.
-fn with_frame(job: Cells) -> Cells {
-    let a = with(job, 0, 1, 0, ONE);
-    let b = with(a, 0, 2, 0, ONE);
-    let c = with(b, 0, 3, 0, ONE);
-    let d = with(c, 0, 4, 0, 1);
-    let e = with(d, 1, 2, 0, 4);
-    let f = with(e, 3, 0, 0, 2);
-    let g = with(f, 3, 1, 0, 14);
-    with(g, 3, 4, 0, 2)
-}
-
-// The two uses, of cost 1.0.
-fn with_uses(job: Cells) -> Cells {
-    let a = with(job, 4, 1, 0, 5);
-    let b = with(a, 4, 2, 0, ONE);
-    let c = with(b, 4, 0, 1, 3);
-    let d = with(c, 4, 1, 1, 4);
-    with(d, 4, 2, 1, ONE)
-}
-
-// Two reservations: the spill weight on the points from a place to two behind it, and a fixed def from 8 to 12.
-fn with_reservations(job: Cells, from: u32) -> Cells
-    requires { ⌜ from ≤ 2 ⌝ }
-{
-    let a = with(job, 6, 1, 0, from);
-    let b = with(a, 6, 2, 0, from + 2);
-    let c = with(b, 6, 5, 0, 4294967295);
-    let d = with(c, 6, 1, 1, 8);
-    let e = with(d, 6, 2, 1, 12);
-    with(e, 6, 3, 1, 1)
-}
 
 // Where the weight met stands: from point 2 to 4 is the own gap's segment; before it nothing is met, as for the first member.
 fn met_from(before: u32) -> u32
@@ -80,19 +30,35 @@ fn met_from(before: u32) -> u32
     if before == 0 { 0 } else { 2 }
 }
 
-// The job whose own gap has a weight and meets the one before.
-fn job_of(weight: u32, before: u32) -> Cells {
-    let empty = Cells { numbers: [0; 4101] };
-    let frame = with_frame(empty);
-    let used = with_uses(frame);
-    let reserved = with_reservations(used, met_from(before));
-    let weighed = with(reserved, 1, 0, 0, weight);
-    with(weighed, 5, 0, 0, before)
-}
-
-// What the proposer answers.
-fn answer_of(job: Cells) -> Answer {
-    let cells = job.numbers;
+// What the proposer answers for the job whose own gap has a weight and meets the one before.
+fn answer_of(block_weight: u32, before: u32) -> Answer {
+    let from = met_from(before);
+    // B: the one block; k and the first instruction are 0
+    let block_freq = [block_weight];
+    let first = [0u32];
+    let end = [4u32];
+    // V, S: one value, one segment
+    let code = [0u32];
+    let start = [2u32];
+    let stop = [14u32];
+    let value = [0u32];
+    let first_use = [0u32];
+    let end_use = [2u32];
+    let flags = [0u32];
+    // U: two uses of cost 1.0
+    let position = [0u32, 3];
+    let use_kind = [5u32, 4];
+    let cost = [ONE, ONE];
+    // W, E: the weight before on the points from a place to two behind it, and a fixed def from 8 to 12
+    let met = [before];
+    let unit = [0u32, 0];
+    let reserved_from = [from, 8];
+    let reserved_to = [from + 2, 12];
+    let reserved_kind = [0u32, 1];
+    let met_index = [0u32, 0];
+    let fixed = [4294967295u32, 0];
+    // F: no fixed use
+    let none = [0u32];
     let mut prev = [0u32; 1];
     let mut next = [0u32; 1];
     let mut inst = [0u32; 4];
@@ -108,9 +74,39 @@ fn answer_of(job: Cells) -> Answer {
     let mut segment_to = [0u32; 6];
     let mut segment_value = [0u32; 6];
     let mut segment_gap = [0u32; 6];
-    let proposed = propose_cells(
-        &cells,
-        [1, 1, 1, 1, 2, 1, 2, 0],
+    let proposed = propose_split(
+        [
+            &block_freq,
+            &first,
+            &end,
+            &code,
+            &start,
+            &stop,
+            &value,
+            &first_use,
+            &end_use,
+            &flags,
+            &position,
+            &use_kind,
+            &cost,
+            &met,
+            &unit,
+            &reserved_from,
+            &reserved_to,
+            &reserved_kind,
+            &met_index,
+            &fixed,
+            &none[..0],
+            &none[..0],
+            &none[..0],
+        ],
+        Parameters {
+            k: 0,
+            cheaper_than_move: ONE,
+            cheaper_than_load: ONE,
+            indirect: ONE,
+            units: 1,
+        },
         &mut prev,
         &mut next,
         &mut inst,
@@ -180,7 +176,7 @@ fn run() -> Evictions {
         if weight > FREQUENCY_LIMIT {
             break;
         }
-        if !is_member(answer_of(job_of(weight, last)), weight, last) {
+        if !is_member(answer_of(weight, last), weight, last) {
             return Evictions {
                 members,
                 last,

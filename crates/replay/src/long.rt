@@ -1,78 +1,45 @@
 // One record of a job that no sheet can hold: in one table the last line stands until there are so many items.
-use crate::compare::Rows;
-use crate::compare::answer_agrees;
-use crate::compare::both;
-use crate::compare::tables_agree;
 use crate::compare::tell;
-use answers::answer::answer_job;
-use answers::room::GAP_ROWS;
-use answers::room::GAP_SEGMENT_ROWS;
-use answers::room::LINK_ROWS;
-use answers::room::USE_ROWS;
+use crate::compare::written_agrees;
+use answers::job::answer_job;
+use answers::room::ANSWER_BYTES;
+use answers::room::TABLE_BYTES;
+use answers::room::sheet_rooms;
 use libc::STDOUT_FILENO;
-use proposer::propose::propose_split;
 use refusals::job::Parameters;
+use sheet::CELLS;
 use sheet::Verdict;
-use sheet::Written;
 use sheet::column_of;
+use sheet::kinds::B;
+use sheet::kinds::E;
+use sheet::kinds::F;
+use sheet::kinds::KINDS;
+use sheet::kinds::P;
+use sheet::kinds::S;
+use sheet::kinds::U;
+use sheet::kinds::V;
+use sheet::kinds::W;
+use sheet::kinds::fields_of;
 use sheet::read_sheet;
-ghost use Prim.Native.Nat.{_≤_, _<_};
+ghost use Prim.Native.Nat.{_≤_, _<_, _+_};
 
-// A job has 23 columns, and each has room for so many items.
+// The kinds that a record numbers from 0 on.
+const TABLES: [usize; 7] = [B, V, S, U, W, E, F];
+
+// The columns stand one behind the other, six to a kind, each with room for so many items.
 const ITEMS: usize = 4097;
 
-// The kind of line that each column stands in, and the field there. Kinds are counted in the order P B V S U W E F.
-const KINDS: [usize; 23] = [
-    1,
-    1,
-    1,
-    2,
-    3,
-    3,
-    3,
-    3,
-    3,
-    3,
-    4,
-    4,
-    4,
-    5,
-    6,
-    6,
-    6,
-    6,
-    6,
-    6,
-    7,
-    7,
-    7,
-];
+const FIELDS: usize = 6;
 
-const FIELDS: [usize; 23] = [
-    0,
-    1,
-    2,
-    0,
-    0,
-    1,
-    2,
-    3,
-    4,
-    5,
-    0,
-    1,
-    2,
-    0,
-    0,
-    1,
-    2,
-    3,
-    4,
-    5,
-    0,
-    1,
-    2,
-];
+const ALL: usize = ITEMS * FIELDS * KINDS;
+
+// Where column c of kind k starts.
+fn place_of(k: usize, c: usize) -> usize
+    requires { ⌜ (k < 8) × (c < 6) ⌝ }
+    ensures { λ r. ⌜ r + 4097 ≤ 196656 ⌝ }
+{
+    ITEMS * (FIELDS * k + c)
+}
 
 // The number that was read for a row of a kind's column.
 fn cell(cells: &[u32], k: usize, c: usize, row: usize) -> u32
@@ -98,37 +65,24 @@ fn row_of(i: usize, read: usize) -> usize
     read - 1
 }
 
-// Stores a number where the column goes so far.
-fn put(column: &mut [u32], at: usize, number: u32) {
-    if at < column.len() {
-        column[at] = number;
-    }
-}
-
-// Stores n items of a column: those that were read, and then the last one again.
-fn lengthen_column(long: &mut [u32], cells: &[u32], column: usize, read: usize, n: usize)
-    requires { ⌜ (column < 23) × (n ≤ 4097) ⌝ }
-{
-    let k = KINDS[column];
-    let c = FIELDS[column];
-    let mut i: usize = 0;
-    while i < n {
-        put(long, ITEMS * column + i, cell(cells, k, c, row_of(i, read)));
-        i += 1;
+// Stores a number where the columns go so far.
+fn put(long: &mut [u32], at: usize, number: u32) {
+    if at < long.len() {
+        long[at] = number;
     }
 }
 
 // How many items of each kind were read; the kind whose table is lengthened, and to how many items.
 struct Sizes {
     read: [usize; 8],
-    table: usize,
+    kind: usize,
     items: usize,
 }
 
 // How many items of a kind were read.
 fn read_of(sizes: Sizes, k: usize) -> usize {
     let read = sizes.read;
-    if k < 8 {
+    if k < KINDS {
         return read[k];
     }
     0
@@ -139,7 +93,7 @@ fn items_of(sizes: Sizes, k: usize) -> usize
     ensures { λ r. ⌜ r ≤ 4097 ⌝ }
 {
     let mut n = read_of(sizes, k);
-    if k == sizes.table {
+    if k == sizes.kind {
         n = sizes.items;
     }
     if n > ITEMS {
@@ -148,22 +102,46 @@ fn items_of(sizes: Sizes, k: usize) -> usize
     n
 }
 
-// Stores the job's columns one behind the other.
+// Stores the items of a column: those that were read, and then the last one again.
+fn lengthen_column(long: &mut [u32], cells: &[u32], sizes: Sizes, k: usize, c: usize)
+    requires { ⌜ (k < 8) × (c < 6) ⌝ }
+{
+    let place = place_of(k, c);
+    let read = read_of(sizes, k);
+    let n = items_of(sizes, k);
+    let mut i: usize = 0;
+    while i < n {
+        put(long, place + i, cell(cells, k, c, row_of(i, read)));
+        i += 1;
+    }
+}
+
+// Stores the columns of a kind.
+fn lengthen_kind(long: &mut [u32], cells: &[u32], sizes: Sizes, k: usize)
+    requires { ⌜ k < 8 ⌝ }
+{
+    let n = fields_of(k);
+    let mut c: usize = 0;
+    while c < n {
+        lengthen_column(long, cells, sizes, k, c);
+        c += 1;
+    }
+}
+
+// Stores the job's columns.
 fn lengthen(long: &mut [u32], cells: &[u32], sizes: Sizes) {
-    let mut column: usize = 0;
-    while column < 23 {
-        let k = KINDS[column];
-        lengthen_column(long, cells, column, read_of(sizes, k), items_of(sizes, k));
-        column += 1;
+    let mut k: usize = B;
+    while k < KINDS {
+        lengthen_kind(long, cells, sizes, k);
+        k += 1;
     }
 }
 
 // A column as it was stored.
-fn stored(long: &[u32], sizes: Sizes, column: usize) -> &[u32]
-    requires { ⌜ column < 23 ⌝ }
+fn stored(long: &[u32], sizes: Sizes, k: usize, c: usize) -> &[u32]
+    requires { ⌜ (k < 8) × (c < 6) ⌝ }
 {
-    let from = ITEMS * column;
-    let k = KINDS[column];
+    let from = place_of(k, c);
     let to = from + items_of(sizes, k);
     if to <= long.len() {
         return &long[from..to];
@@ -174,20 +152,15 @@ fn stored(long: &[u32], sizes: Sizes, column: usize) -> &[u32]
 // The line P.
 fn parameters_in(cells: &[u32]) -> Parameters {
     Parameters {
-        k: cell(cells, 0, 0, 0),
-        cheaper_than_move: cell(cells, 0, 1, 0),
-        cheaper_than_load: cell(cells, 0, 2, 0),
-        indirect: cell(cells, 0, 3, 0),
-        units: cell(cells, 0, 4, 0),
+        k: cell(cells, P, 0, 0),
+        cheaper_than_move: cell(cells, P, 1, 0),
+        cheaper_than_load: cell(cells, P, 2, 0),
+        indirect: cell(cells, P, 3, 0),
+        units: cell(cells, P, 4, 0),
     }
 }
 
-// Whether the answer written is the one recorded.
-fn written_agrees(record: usize, out: &[u8; 81], w: Written, answer: &[u8]) -> bool {
-    answer_agrees(record, out, w, answer)
-}
-
-// Proposes the job whose columns are stored, and says whether the answer and the tables agree with those recorded.
+// Answers the job whose columns are stored, and says whether the answer and the tables agree with those recorded.
 fn replay_stored(
     record: usize,
     long: &[u32],
@@ -195,113 +168,63 @@ fn replay_stored(
     parameters: Parameters,
     answer: &[u8],
     tables: &[u8],
-    rows: Rows,
 ) -> bool {
-    let mut prev = [0u32; LINK_ROWS];
-    let mut next = [0u32; LINK_ROWS];
-    let mut inst = [0u32; USE_ROWS];
-    let mut weight = [0f32; USE_ROWS];
-    let mut left = [0f32; USE_ROWS];
-    let mut right = [0f32; USE_ROWS];
-    let mut gap_from = [0u32; GAP_ROWS];
-    let mut gap_to = [0u32; GAP_ROWS];
-    let mut gap_weight = [0f32; GAP_ROWS];
-    let mut live = [0u32; GAP_ROWS];
-    let mut freq = [0f32; GAP_ROWS];
-    let mut segment_from = [0u32; GAP_SEGMENT_ROWS];
-    let mut segment_to = [0u32; GAP_SEGMENT_ROWS];
-    let mut segment_value = [0u32; GAP_SEGMENT_ROWS];
-    let mut segment_gap = [0u32; GAP_SEGMENT_ROWS];
-    let mut out = [0u8; 81];
-    let proposed = propose_split(
+    let mut out = [0u8; ANSWER_BYTES];
+    let mut lines = [0u8; TABLE_BYTES];
+    let r = answer_job(
         [
-            stored(long, sizes, 0),
-            stored(long, sizes, 1),
-            stored(long, sizes, 2),
-            stored(long, sizes, 3),
-            stored(long, sizes, 4),
-            stored(long, sizes, 5),
-            stored(long, sizes, 6),
-            stored(long, sizes, 7),
-            stored(long, sizes, 8),
-            stored(long, sizes, 9),
-            stored(long, sizes, 10),
-            stored(long, sizes, 11),
-            stored(long, sizes, 12),
-            stored(long, sizes, 13),
-            stored(long, sizes, 14),
-            stored(long, sizes, 15),
-            stored(long, sizes, 16),
-            stored(long, sizes, 17),
-            stored(long, sizes, 18),
-            stored(long, sizes, 19),
-            stored(long, sizes, 20),
-            stored(long, sizes, 21),
-            stored(long, sizes, 22),
+            stored(long, sizes, B, 0),
+            stored(long, sizes, B, 1),
+            stored(long, sizes, B, 2),
+            stored(long, sizes, V, 0),
+            stored(long, sizes, S, 0),
+            stored(long, sizes, S, 1),
+            stored(long, sizes, S, 2),
+            stored(long, sizes, S, 3),
+            stored(long, sizes, S, 4),
+            stored(long, sizes, S, 5),
+            stored(long, sizes, U, 0),
+            stored(long, sizes, U, 1),
+            stored(long, sizes, U, 2),
+            stored(long, sizes, W, 0),
+            stored(long, sizes, E, 0),
+            stored(long, sizes, E, 1),
+            stored(long, sizes, E, 2),
+            stored(long, sizes, E, 3),
+            stored(long, sizes, E, 4),
+            stored(long, sizes, E, 5),
+            stored(long, sizes, F, 0),
+            stored(long, sizes, F, 1),
+            stored(long, sizes, F, 2),
         ],
         parameters,
-        &mut prev,
-        &mut next,
-        &mut inst,
-        &mut weight,
-        &mut left,
-        &mut right,
-        &mut gap_from,
-        &mut gap_to,
-        &mut gap_weight,
-        &mut live,
-        &mut freq,
-        &mut segment_from,
-        &mut segment_to,
-        &mut segment_value,
-        &mut segment_gap,
+        sheet_rooms(),
+        &mut out,
+        &mut lines,
     );
-    let r = answer_job(proposed, parameters.k, items_of(sizes, 1), &mut out);
-    let found = Rows {
-        links: r.links,
-        uses: r.uses,
-        gaps: r.gaps,
-        gap_segments: r.gap_segments,
-    };
-    let w = r.written;
-    let a = written_agrees(record, &out, w, answer);
-    let t = tables_agree(
-        record,
-        tables,
-        found,
-        rows,
-        &prev,
-        &next,
-        &inst,
-        &weight,
-        &left,
-        &right,
-        &gap_from,
-        &gap_to,
-        &gap_weight,
-        &live,
-        &freq,
-        &segment_from,
-        &segment_to,
-        &segment_value,
-        &segment_gap,
-    );
-    both(a, t)
+    let a = r.answer;
+    let t = r.tables;
+    written_agrees(record, &out, a, &lines, t, answer, tables)
 }
 
-// Reads a record's sheet, lengthens a table (0 to 6: B V S U W E F), and says whether the answer and the tables agree with those recorded.
+// The kind that a record's number stands for; none for a number too high.
+fn kind_at(table: usize) -> usize {
+    if table < 7 {
+        return TABLES[table];
+    }
+    KINDS
+}
+
+// Reads a record's sheet, lengthens a table, and says whether the answer and the tables agree with those recorded.
 pub(crate) fn replay_long(
     record: usize,
     text: &[u8],
     answer: &[u8],
     tables: &[u8],
-    rows: Rows,
     table: usize,
     items: usize,
-) -> bool
-    requires { ⌜ table < 1000000 ⌝ }
-{
-    let mut cells = [0u32; 4101];
+) -> bool {
+    let mut cells = [0u32; CELLS];
     let reading = read_sheet(text, &mut cells);
     let v = reading.verdict;
     let Verdict::Sound = v else {
@@ -312,18 +235,10 @@ pub(crate) fn replay_long(
     let read = reading.counts;
     let sizes = Sizes {
         read,
-        table: table + 1,
+        kind: kind_at(table),
         items,
     };
-    let mut long = [0u32; 94231];
+    let mut long = [0u32; ALL];
     lengthen(&mut long, &cells, sizes);
-    replay_stored(
-        record,
-        &long,
-        sizes,
-        parameters_in(&cells),
-        answer,
-        tables,
-        rows,
-    )
+    replay_stored(record, &long, sizes, parameters_in(&cells), answer, tables)
 }

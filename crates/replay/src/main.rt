@@ -2,24 +2,22 @@
 // are recorded (data/README.md has the form of the files).
 //
 // Of each file it prints how many records agree, or calls for the lower-cost split point, where its records are block lists. A difference
-// is named by its record, its table and its row, or its call; places count from 0.
+// is named by its record, and by its line among the tables or its call; places count from 0.
 mod compare;
 mod long;
 mod points;
 mod text;
 
-use answers::room::GAP_ROWS;
-use answers::room::GAP_SEGMENT_ROWS;
-use answers::room::LINK_ROWS;
-use answers::room::USE_ROWS;
-use compare::Rows;
+use answers::room::sheet_rooms;
 use compare::print_count;
 use compare::replay_record;
 use compare::tell_broken;
+use filling::lent::Rooms;
 use libc::STDOUT_FILENO;
 use long::replay_long;
 use points::replay_points;
 use text::byte_at;
+use text::closed_at;
 use text::field;
 use text::part;
 ghost use Prim.Native.Nat.{_≤_, _<_};
@@ -28,22 +26,17 @@ ghost use lib.ListN.{length};
 ghost use Rattle.io.specs.Counts.{Counts};
 
 // A line t has the rows of the tables that are lent; without one there is room for every sheet.
-fn lent_at(text: &[u8], at: usize) -> Rows
+fn lent_at(text: &[u8], at: usize) -> Rooms
     requires { ⌜ at ≤ 1048576 ⌝ }
 {
-    if byte_at(text, at) == b't' {
-        return Rows {
-            uses: field(text, at, 0),
-            gaps: field(text, at, 1),
-            gap_segments: field(text, at, 2),
-            links: field(text, at, 3),
-        };
+    if byte_at(text, at) != b't' {
+        return sheet_rooms();
     }
-    Rows {
-        uses: USE_ROWS,
-        gaps: GAP_ROWS,
-        gap_segments: GAP_SEGMENT_ROWS,
-        links: LINK_ROWS,
+    Rooms {
+        uses: field(text, at, 0),
+        gaps: field(text, at, 1),
+        gap_segments: field(text, at, 2),
+        links: field(text, at, 3),
     }
 }
 
@@ -68,17 +61,15 @@ fn record_agrees(
     sheet: &[u8],
     answer: &[u8],
     tables: &[u8],
-    rows: Rows,
 ) -> bool
     requires { ⌜ at ≤ 1048576 ⌝ }
 {
     if byte_at(text, at) == b'n' {
         let table = field(text, at, 0);
         let items = field(text, at, 1);
-        return replay_long(record, sheet, answer, tables, rows, table, items);
+        return replay_long(record, sheet, answer, tables, table, items);
     }
-    let lent = lent_at(text, at);
-    replay_record(record, sheet, answer, tables, rows, lent)
+    replay_record(record, sheet, answer, tables, lent_at(text, at))
 }
 
 // A record's end, behind its line `=`.
@@ -87,7 +78,7 @@ struct Replayed {
     end: usize,
 }
 
-// Replays the record at a place.
+// Replays the record at a place. Its line s has the lengths of the sheet and of the answer; the tables end before the line `=`.
 fn replay_at(text: &[u8], at: usize, record: usize) -> Replayed
     requires { ⌜ at ≤ 1048576 ⌝ }
     ensures { λ r. ⌜ (at < r .end) × (r .end ≤ 999999999) ⌝ }
@@ -95,27 +86,18 @@ fn replay_at(text: &[u8], at: usize, record: usize) -> Replayed
     let s = at + head_at(text, at);
     let sheet = field(text, s, 0);
     let answer = field(text, s, 1);
-    let links = field(text, s, 2);
-    let uses = field(text, s, 3);
-    let gaps = field(text, s, 4);
-    let gap_segments = field(text, s, 5);
     let body = s + 79;
-    let tables = body + sheet + answer;
+    let rest = body + sheet + answer;
+    let tables = closed_at(part(text, rest, 999999));
     let agrees = record_agrees(
         text,
         at,
         record,
         part(text, body, sheet),
         part(text, body + sheet, answer),
-        part(text, tables, 999999),
-        Rows {
-            links,
-            uses,
-            gaps,
-            gap_segments,
-        },
+        part(text, rest, tables),
     );
-    let end = tables + 24 * links + 46 * uses + 57 * gaps + 46 * gap_segments + 2;
+    let end = rest + tables + 2;
     Replayed { agrees, end }
 }
 

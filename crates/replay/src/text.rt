@@ -39,7 +39,9 @@ pub(crate) fn field(text: &[u8], at: usize, c: usize) -> usize
 }
 
 // The n bytes at a place, as far as the text goes.
-pub(crate) fn part(text: &[u8], from: usize, n: usize) -> &[u8] {
+pub(crate) fn part(text: &[u8], from: usize, n: usize) -> &[u8]
+    ensures { λ r. ⌜ length (now r) ≤ n ⌝ }
+{
     if text.len() <= from {
         return &text[..0];
     }
@@ -50,10 +52,43 @@ pub(crate) fn part(text: &[u8], from: usize, n: usize) -> &[u8] {
     &text[from..to]
 }
 
-// What stands behind the first so many lines of w bytes each; no file has a million.
-pub(crate) fn behind(text: &[u8], w: u8, lines: usize) -> &[u8] {
-    if lines > 1000000 {
+// How many bytes the first line has, its line feed with it.
+fn line_length(text: &[u8]) -> usize
+    ensures { λ r. ⌜ (r ≤ length (now (text .entry))) × (0 < length (now (text .entry)) → 0 < r) ⌝ }
+{
+    let mut i: usize = 0;
+    while i < text.len() {
+        if text[i] == b'\n' {
+            return i + 1;
+        }
+        i += 1;
+    }
+    i
+}
+
+// The line at a place; nothing past the text's end.
+pub(crate) fn line_at(text: &[u8], at: usize) -> &[u8]
+    ensures { λ r. ⌜ at < length (now (text .entry)) → (0 < length (now r)) × (at + length (now r) ≤ length (now (text .entry))) ⌝ }
+{
+    if text.len() <= at {
         return &text[..0];
     }
-    part(text, w as usize * lines, text.len())
+    let rest = &text[at..];
+    let n = line_length(rest);
+    &rest[..n]
+}
+
+// How many bytes stand in front of the line `=`; all, where there is none.
+pub(crate) fn closed_at(text: &[u8]) -> usize
+    ensures { λ r. ⌜ r ≤ length (now (text .entry)) ⌝ }
+{
+    let mut at: usize = 0;
+    while at < text.len() {
+        if text[at] == b'=' {
+            break;
+        }
+        let line = line_at(text, at);
+        at += line.len();
+    }
+    at
 }

@@ -5,12 +5,9 @@
 // those of a text that has more decide its answer (proofs/Front.antt of `answers`). The work tables have room for every sheet
 // (proofs/Rooms.antt there). What is read and written is not proved; the work is done by `answer_sheet`, on slices.
 use answers::answer::answer_sheet;
-use answers::room::GAP_ROWS;
-use answers::room::GAP_SEGMENT_ROWS;
-use answers::room::LINK_ROWS;
-use answers::room::USE_ROWS;
-use answers::rows::Table;
-use answers::rows::write_row;
+use answers::room::ANSWER_BYTES;
+use answers::room::TABLE_BYTES;
+use answers::room::sheet_rooms;
 use libc::STDERR_FILENO;
 use libc::STDIN_FILENO;
 use libc::STDOUT_FILENO;
@@ -186,275 +183,20 @@ fn print_written(text: &[u8], w: Written) -> bool {
     print_front(text, n)
 }
 
-// Prints the first rows of a table, and answers whether they were written.
-fn print_table(
-    table: Table,
-    rows: usize,
-    prev: &[u32],
-    next: &[u32],
-    inst: &[u32],
-    weight: &[f32],
-    left: &[f32],
-    right: &[f32],
-    gap_from: &[u32],
-    gap_to: &[u32],
-    gap_weight: &[f32],
-    live: &[u32],
-    freq: &[f32],
-    segment_from: &[u32],
-    segment_to: &[u32],
-    segment_value: &[u32],
-    segment_gap: &[u32],
-) -> bool {
-    let mut i: usize = 0;
-    while i < rows {
-        let mut line = [0u8; 57];
-        let w = write_row(
-            table,
-            prev,
-            next,
-            inst,
-            weight,
-            left,
-            right,
-            gap_from,
-            gap_to,
-            gap_weight,
-            live,
-            freq,
-            segment_from,
-            segment_to,
-            segment_value,
-            segment_gap,
-            i,
-            &mut line,
-        );
-        if !print_written(&line, w) {
-            return false;
-        }
-        i += 1;
-    }
-    true
-}
-
-// Prints the rows used of all tables, where they are asked for and the answer was written.
-fn print_tables(
-    asked: bool,
-    is_written: bool,
-    links: usize,
-    uses: usize,
-    gaps: usize,
-    gap_segments: usize,
-    prev: &[u32],
-    next: &[u32],
-    inst: &[u32],
-    weight: &[f32],
-    left: &[f32],
-    right: &[f32],
-    gap_from: &[u32],
-    gap_to: &[u32],
-    gap_weight: &[f32],
-    live: &[u32],
-    freq: &[f32],
-    segment_from: &[u32],
-    segment_to: &[u32],
-    segment_value: &[u32],
-    segment_gap: &[u32],
-) -> bool {
-    if !is_written {
+// Prints the answer to a text, and where they are asked for its tables; answers whether all was written.
+fn print_answer(text: &[u8], tables: bool) -> bool {
+    let mut out = [0u8; ANSWER_BYTES];
+    let mut lines = [0u8; TABLE_BYTES];
+    let r = answer_sheet(text, sheet_rooms(), &mut out, &mut lines);
+    let answer = r.answer;
+    if !print_written(&out, answer) {
         return false;
     }
-    if !asked {
+    if !tables {
         return true;
     }
-    let a = print_table(
-        Table::Links,
-        links,
-        prev,
-        next,
-        inst,
-        weight,
-        left,
-        right,
-        gap_from,
-        gap_to,
-        gap_weight,
-        live,
-        freq,
-        segment_from,
-        segment_to,
-        segment_value,
-        segment_gap,
-    );
-    let b = print_table(
-        Table::Uses,
-        uses,
-        prev,
-        next,
-        inst,
-        weight,
-        left,
-        right,
-        gap_from,
-        gap_to,
-        gap_weight,
-        live,
-        freq,
-        segment_from,
-        segment_to,
-        segment_value,
-        segment_gap,
-    );
-    let c = print_table(
-        Table::Gaps,
-        gaps,
-        prev,
-        next,
-        inst,
-        weight,
-        left,
-        right,
-        gap_from,
-        gap_to,
-        gap_weight,
-        live,
-        freq,
-        segment_from,
-        segment_to,
-        segment_value,
-        segment_gap,
-    );
-    let d = print_table(
-        Table::GapSegments,
-        gap_segments,
-        prev,
-        next,
-        inst,
-        weight,
-        left,
-        right,
-        gap_from,
-        gap_to,
-        gap_weight,
-        live,
-        freq,
-        segment_from,
-        segment_to,
-        segment_value,
-        segment_gap,
-    );
-    a && b && c && d
-}
-
-// Prints the answer to a text, with the tables lent, and answers whether all was written.
-fn print_lent(
-    text: &[u8],
-    tables: bool,
-    cells: &mut [u32],
-    prev: &mut [u32],
-    next: &mut [u32],
-    inst: &mut [u32],
-    weight: &mut [f32],
-    left: &mut [f32],
-    right: &mut [f32],
-    gap_from: &mut [u32],
-    gap_to: &mut [u32],
-    gap_weight: &mut [f32],
-    live: &mut [u32],
-    freq: &mut [f32],
-    segment_from: &mut [u32],
-    segment_to: &mut [u32],
-    segment_value: &mut [u32],
-    segment_gap: &mut [u32],
-    out: &mut [u8],
-) -> bool {
-    let r = answer_sheet(
-        text,
-        cells,
-        prev,
-        next,
-        inst,
-        weight,
-        left,
-        right,
-        gap_from,
-        gap_to,
-        gap_weight,
-        live,
-        freq,
-        segment_from,
-        segment_to,
-        segment_value,
-        segment_gap,
-        out,
-    );
-    let w = r.written;
-    let is_written = print_written(out, w);
-    print_tables(
-        tables,
-        is_written,
-        r.links,
-        r.uses,
-        r.gaps,
-        r.gap_segments,
-        prev,
-        next,
-        inst,
-        weight,
-        left,
-        right,
-        gap_from,
-        gap_to,
-        gap_weight,
-        live,
-        freq,
-        segment_from,
-        segment_to,
-        segment_value,
-        segment_gap,
-    )
-}
-
-// The same, with room for every sheet.
-fn print_answer(text: &[u8], tables: bool) -> bool {
-    let mut cells = [0u32; 4101];
-    let mut prev = [0u32; LINK_ROWS];
-    let mut next = [0u32; LINK_ROWS];
-    let mut inst = [0u32; USE_ROWS];
-    let mut weight = [0f32; USE_ROWS];
-    let mut left = [0f32; USE_ROWS];
-    let mut right = [0f32; USE_ROWS];
-    let mut gap_from = [0u32; GAP_ROWS];
-    let mut gap_to = [0u32; GAP_ROWS];
-    let mut gap_weight = [0f32; GAP_ROWS];
-    let mut live = [0u32; GAP_ROWS];
-    let mut freq = [0f32; GAP_ROWS];
-    let mut segment_from = [0u32; GAP_SEGMENT_ROWS];
-    let mut segment_to = [0u32; GAP_SEGMENT_ROWS];
-    let mut segment_value = [0u32; GAP_SEGMENT_ROWS];
-    let mut segment_gap = [0u32; GAP_SEGMENT_ROWS];
-    let mut out = [0u8; 81];
-    print_lent(
-        text,
-        tables,
-        &mut cells,
-        &mut prev,
-        &mut next,
-        &mut inst,
-        &mut weight,
-        &mut left,
-        &mut right,
-        &mut gap_from,
-        &mut gap_to,
-        &mut gap_weight,
-        &mut live,
-        &mut freq,
-        &mut segment_from,
-        &mut segment_to,
-        &mut segment_value,
-        &mut segment_gap,
-        &mut out,
-    )
+    let rows = r.tables;
+    print_written(&lines, rows)
 }
 
 fn main() {

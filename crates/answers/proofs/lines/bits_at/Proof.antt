@@ -5,8 +5,8 @@ use lib.ListN.{List·getD-eq-default}
 use Rattle.columns.proofs.Tables.{row-any}
 use Rattle.numbers.specs.Weight.{zeroWeight}
 use borrow.Author.Needs.{needs}
-use Rattle.answers.proofs.rows.bits_at.Statement.{statement}
-use Rattle.answers.proofs.rows.bits_at.Tie as tie
+use Rattle.answers.proofs.lines.bits_at.Statement.{statement}
+use Rattle.answers.proofs.lines.bits_at.Tie as tie
 
 -- zero's bits
 zero-bits : 0 ≡ toBits binary32 zeroWeight

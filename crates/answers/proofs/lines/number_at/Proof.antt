@@ -2,8 +2,8 @@
 use mathlib.Core.Path.{sym}
 use lib.ListN.{List·getD-eq-default}
 use borrow.Author.Needs.{needs}
-use Rattle.answers.proofs.rows.number_at.Statement.{statement}
-use Rattle.answers.proofs.rows.number_at.Tie as tie
+use Rattle.answers.proofs.lines.number_at.Statement.{statement}
+use Rattle.answers.proofs.lines.number_at.Tie as tie
 
 mul-result : tie.Need-mul-result
 mul-result c = search needs
