@@ -6,6 +6,7 @@ use mathlib.Core.List.{List, [], _∷_, _++_}
 use native.Mathlib.Omega.{arith}
 use lib.ListN.{length, length-map}
 use lib.Dec.{eqb}
+use borrow.Author.Tests.{le-ltb}
 use Rattle.sheet.specs.Kinds.{pick}
 use Rattle.sheet.specs.Refusal.{linesOf, fault, judged, verdictBelow, verdict, sheetOf}
 use Rattle.sheet.specs.Answer.{answerText, Wrote}
@@ -20,6 +21,7 @@ use Rattle.links.specs.Blocks.{BlockRow}
 use Rattle.links.specs.declared.lower.Side.the-variants.{Previous}
 use Rattle.links.specs.declared.blocks.Checked.{Checked}
 use Rattle.links.specs.declared.blocks.Checked.the-variants as Checked·is
+use Rattle.columns.specs.Below.{joined}
 use Rattle.columns.proofs.Tables.{table-length}
 use Rattle.use_rows.specs.declared.row.BestUse.{BestUse}
 use Rattle.use_rows.specs.declared.row.BestUse.the-variants as BestUse·is
@@ -87,7 +89,7 @@ module _ (job : Job) (n : ℕ) (counted : n ≡ length (job .blocks)) where
   links-filled rooms = links-checked (refusalOf job rooms) (bestOf (sourceOfJob job))
 
 -- a job that was proposed, with tables of the rows lent
-module _ {job : Job} {asked : Rooms} {lent now : WorkColumns} {p : Proposed} (proposed : IsProposed job lent now p)
+module _ {job : Job} (asked : Rooms) {lent now : WorkColumns} {p : Proposed} (proposed : IsProposed job lent now p)
     (rooms : roomsOf lent ≡ roomsLent asked) where
   -- as many rows as the tables have
   rows-said : (blocks : ℕ) → blocks ≡ length (job .blocks) → rowsOfProposed p blocks ≡ rowsOfTables (tablesOf job (roomsOf lent))
@@ -108,7 +110,12 @@ module _ {job : Job} {asked : Rooms} {lent now : WorkColumns} {p : Proposed} (pr
 
 -- no text at all
 pub nothing-wrote : (out : List ℕ) → Wrote [] out out (Written·is.Bytes 0)
-nothing-wrote out = record { answer = refl; bytes = refl }
+nothing-wrote out = let e = le-ltb (length out) 0 (omega arith) in record { answer = rw e; bytes = rw e }
+
+-- no tables have no text
+no-text : tablesText noTables ≡ []
+unfolding joined
+no-text = refl
 
 -- a text that is refused
 pub refused-answered : (text : List ℕ) (asked : Rooms) (number line : ℕ) → verdict text ≡ Verdict·is.Refused number line
@@ -119,7 +126,7 @@ refused-answered text asked number line e {out} {out-now} tables {w} wrote =
     record {
       answer = subst (λ (v : Verdict). Wrote (answerText (ofVerdict v (shownOfJob job (roomsLent asked)))) out out-now w) (sym e) wrote;
       tables = subst (λ (v : Verdict). Wrote (tablesText (ifRead v (tablesOf job (roomsLent asked)))) tables tables (Written·is.Bytes 0)) (sym e)
-          (nothing-wrote tables);
+          (subst (λ (x : List ℕ). Wrote x tables tables (Written·is.Bytes 0)) (sym no-text) (nothing-wrote tables));
     }
 
 -- a sheet, by the answer to its job

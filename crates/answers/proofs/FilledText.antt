@@ -36,7 +36,7 @@ joined-same f g i zero h = refl
 joined-same f g i (suc n) h = λ j. h i (omega arith) j ++ joined-same f g (suc i) n (λ k b. h k (omega arith)) j
 
 -- a column that begins with rows has them at their places
-module _ {A : Type 0} (rows : List A) {lent column : List A} (f : column ≡ filled rows lent) (d : A) (n : ℕ) (long : length rows ≡ n) where
+module _ {A : Type 0} (rows lent : List A) {column : List A} (f : column ≡ filled rows lent) (d : A) (n : ℕ) (long : length rows ≡ n) where
   begins-at : (k : ℕ) → k < n → getD column k d ≡ getD rows k d
   begins-at k h = ap (λ (x : List A). getD x k d) f ∙ List·getD-append rows (drop (length rows) lent) d k (omega arith)
 
@@ -46,20 +46,20 @@ pub record Even (t : Tables) : Type 0 where
   pub lives : length (t .lives) ≡ length (t .gaps)
 
 module _ {t : Tables} {lent now : WorkColumns} (f : FilledBy t lent now) (even : Even t) where
-  number : (rows : List ℕ) {lent column : List ℕ} → column ≡ filled rows lent → (n : ℕ) → length rows ≡ n → (k : ℕ) → k < n
+  number : (rows before : List ℕ) {column : List ℕ} → column ≡ filled rows before → (n : ℕ) → length rows ≡ n → (k : ℕ) → k < n
       → numberIn column k ≡ numberIn rows k
-  number rows e n l k h = begins-at rows e 0 n l k h
+  number rows before e n l k h = begins-at rows before e 0 n l k h
 
-  bits : (rows : List Float) {lent column : List Float} → column ≡ filled rows lent → (n : ℕ) → length rows ≡ n → (k : ℕ) → k < n
+  bits : (rows before : List Float) {column : List Float} → column ≡ filled rows before → (n : ℕ) → length rows ≡ n → (k : ℕ) → k < n
       → bitsIn column k ≡ bitsIn rows k
-  bits rows e n l k h = ap (toBits binary32) (begins-at rows e zeroWeight n l k h)
+  bits rows before e n l k h = ap (toBits binary32) (begins-at rows before e zeroWeight n l k h)
 
   links-same : joined (linkLine (now .prevs) (now .nexts)) 0 (length (t .prevs)) ≡ joined (linkLine (t .prevs) (t .nexts)) 0 (length (t .prevs))
   links-same =
       let n = length (t .prevs) in
       joined-same (linkLine (now .prevs) (now .nexts)) (linkLine (t .prevs) (t .nexts)) 0 n
       (λ k b. let h : k < n = omega arith in
-      λ j. lineText 108 (number (t .prevs) (f .prev) n refl k h j ∷ number (t .nexts) (f .next) n (even .links) k h j ∷ []))
+      λ j. lineText 108 (number (t .prevs) (lent .prevs) (f .prev) n refl k h j ∷ number (t .nexts) (lent .nexts) (f .next) n (even .links) k h j ∷ []))
 
   abbrev c : WorkColumns
   c = columnsOfTables t
@@ -71,10 +71,10 @@ module _ {t : Tables} {lent now : WorkColumns} (f : FilledBy t lent now) (even :
       joined-same (useLine (now .insts) (now .mains) (now .lefts) (now .rights)) (useLine (c .insts) (c .mains) (c .lefts) (c .rights)) 0 n
       (λ k b. let h : k < n = omega arith in
       λ j. lineText 117
-      (number (c .insts) (f .inst) n (length-map (t .uses) (λ (u : SplitUse). u .inst .0)) k h j
-      ∷ bits (c .mains) (f .main) n (length-map (t .uses) (λ (u : SplitUse). u .weight)) k h j
-      ∷ bits (c .lefts) (f .left) n (length-map (t .uses) (λ (u : SplitUse). u .«left_weight»)) k h j
-      ∷ bits (c .rights) (f .right) n (length-map (t .uses) (λ (u : SplitUse). u .«right_weight»)) k h j
+      (number (c .insts) (lent .insts) (f .inst) n (length-map (t .uses) (λ (u : SplitUse). u .inst .0)) k h j
+      ∷ bits (c .mains) (lent .mains) (f .main) n (length-map (t .uses) (λ (u : SplitUse). u .weight)) k h j
+      ∷ bits (c .lefts) (lent .lefts) (f .left) n (length-map (t .uses) (λ (u : SplitUse). u .«left_weight»)) k h j
+      ∷ bits (c .rights) (lent .rights) (f .right) n (length-map (t .uses) (λ (u : SplitUse). u .«right_weight»)) k h j
       ∷ []))
 
   gaps-same : joined (gapLine (now .froms) (now .tos) (now .weights) (now .lives) (now .freqs)) 0 (length (t .gaps))
@@ -85,11 +85,11 @@ module _ {t : Tables} {lent now : WorkColumns} (f : FilledBy t lent now) (even :
       (gapLine (c .froms) (c .tos) (c .weights) (c .lives) (c .freqs)) 0 n
       (λ k b. let h : k < n = omega arith in
       λ j. lineText 103
-      (number (c .froms) (f .from) n (length-map (t .gaps) (λ (g : Gap). g .from)) k h j
-      ∷ number (c .tos) (f .to) n (length-map (t .gaps) (λ (g : Gap). g .to)) k h j
-      ∷ bits (c .weights) (f .weight) n (length-map (t .gaps) gapWeight) k h j
-      ∷ number (t .lives) (f .live) n (even .lives) k h j
-      ∷ bits (c .freqs) (f .freq) n (length-map (t .gaps) (λ (g : Gap). g .freq)) k h j
+      (number (c .froms) (lent .froms) (f .from) n (length-map (t .gaps) (λ (g : Gap). g .from)) k h j
+      ∷ number (c .tos) (lent .tos) (f .to) n (length-map (t .gaps) (λ (g : Gap). g .to)) k h j
+      ∷ bits (c .weights) (lent .weights) (f .weight) n (length-map (t .gaps) gapWeight) k h j
+      ∷ number (t .lives) (lent .lives) (f .live) n (even .lives) k h j
+      ∷ bits (c .freqs) (lent .freqs) (f .freq) n (length-map (t .gaps) (λ (g : Gap). g .freq)) k h j
       ∷ []))
 
   segments-same : joined (gapSegmentLine (now .segment-froms) (now .segment-tos) (now .segment-values) (now .segment-gaps)) 0 (length (t .segments))
@@ -100,10 +100,10 @@ module _ {t : Tables} {lent now : WorkColumns} (f : FilledBy t lent now) (even :
       (gapSegmentLine (c .segment-froms) (c .segment-tos) (c .segment-values) (c .segment-gaps)) 0 n
       (λ k b. let h : k < n = omega arith in
       λ j. lineText 111
-      (number (c .segment-froms) (f .segment-from) n (length-map (t .segments) (λ (s : Overlap). s .from)) k h j
-      ∷ number (c .segment-tos) (f .segment-to) n (length-map (t .segments) (λ (s : Overlap). s .to)) k h j
-      ∷ number (c .segment-values) (f .segment-value) n (length-map (t .segments) (λ (s : Overlap). s .value)) k h j
-      ∷ number (c .segment-gaps) (f .segment-gap) n (length-map (t .segments) (λ (s : Overlap). s .gap)) k h j
+      (number (c .segment-froms) (lent .segment-froms) (f .segment-from) n (length-map (t .segments) (λ (s : Overlap). s .from)) k h j
+      ∷ number (c .segment-tos) (lent .segment-tos) (f .segment-to) n (length-map (t .segments) (λ (s : Overlap). s .to)) k h j
+      ∷ number (c .segment-values) (lent .segment-values) (f .segment-value) n (length-map (t .segments) (λ (s : Overlap). s .value)) k h j
+      ∷ number (c .segment-gaps) (lent .segment-gaps) (f .segment-gap) n (length-map (t .segments) (λ (s : Overlap). s .gap)) k h j
       ∷ []))
 
   pub filled-text : columnsText now (rowsOfTables t) ≡ tablesText t

@@ -1,18 +1,18 @@
 -- Rows that are written one behind the other are one text
 use Prim.Native.Nat.{ℕ, zero, suc, _+_, _*_, _-_, _≤_, _<_}
 use mathlib.Core.Path.{_≡_, refl, sym, ap, _∙_}
-use mathlib.Core.Bool.{Bool, false}
+use mathlib.Core.Bool.{Bool, true, false, not}
 use mathlib.Core.List.{List, [], _∷_, _++_, append-assoc, append-nil}
-use native.Mathlib.Nat.{mul-suc}
+use native.Mathlib.Nat.{mul-suc, mul-zero}
 use native.Mathlib.Omega.{arith}
 use lib.ListN.{length, take, drop, length-append, length-drop, drop-of-length-le}
-use lib.Dec.{ltb}
-use borrow.Author.Tests.{le-ltb}
+use lib.Dec.{ltb, leb}
+use borrow.Author.Tests.{le-ltb, le-leb, lt-leb, leb-true, leb-false, not-true, not-false}
 use borrow.Rule.Slice.PartMut.{midOf, putMid}
 use lib.Ieee.{Float}
 use lib.Seq.{sets, sets-eq, take-all, drop-drop}
 use Rattle.columns.specs.Below.{joined}
-use Rattle.columns.proofs.Joining.{joined-next, joined-none}
+use Rattle.columns.proofs.Joining.{joined-next, joined-none, fromOn-all}
 use Rattle.sheet.specs.Sheet.{lineText}
 use Rattle.sheet.specs.Answer.{Wrote}
 use Rattle.sheet.specs.Kinds.{pick}
@@ -23,6 +23,20 @@ use Rattle.sheet.proofs.WriteLaws.{Put, put-none, put-more, put-as, wrote-none,
 use Rattle.filling.specs.SourceTables.{WorkColumns}
 use Rattle.filling.specs.declared.lent.Rooms.{Rooms}
 use Rattle.answers.specs.TablesText.{linkLine, useLine, gapLine, gapSegmentLine, columnsText, bytesOfRows}
+
+-- tests of room: two that say the same, and what each answer says
+pub leb-same : (a b c d : ℕ) → (a ≤ b → c ≤ d) → (b < a → d < c) → leb a b ≡ leb c d
+leb-same a b c d f g = by (leb a b) refl
+  where
+    by : (t : Bool) → leb a b ≡ t → leb a b ≡ leb c d
+    by true e = e ∙ sym (le-leb c d (f (leb-true a b e)))
+    by false e = e ∙ sym (lt-leb c d (g (leb-false a b e)))
+
+pub room-short : {r : Bool} (a b : ℕ) → r ≡ leb a b → not r ≡ true → b < a
+room-short {r} a b e t = leb-false a b (sym e ∙ not-true r t)
+
+pub room-enough : {r : Bool} (a b : ℕ) → r ≡ leb a b → not r ≡ false → a ≤ b
+room-enough {r} a b e t = leb-true a b (sym e ∙ not-false r t)
 
 -- rows of w bytes
 module _ (row : ℕ → List ℕ) (w : ℕ) (wide : (j : ℕ) → length (row j) ≡ w) where
@@ -37,12 +51,15 @@ module _ (row : ℕ → List ℕ) (w : ℕ) (wide : (j : ℕ) → length (row j)
       ∙ sets-append (row i) rest out p
       ∙ ap (sets out p) (sym (joined-next row i n h))
 
+  pub rows-start : (n p q : ℕ) (out : List ℕ) → p ≡ q → sets out p (joined row 0 (n - 0)) ≡ sets out q (joined row 0 n)
+  rows-start n p q out e = ap (λ (j : ℕ). sets out j (joined row 0 (n - 0))) e ∙ ap (sets out q) (sym (fromOn-all row n))
+
   pub rows-end : (n i p : ℕ) (out : List ℕ) → n ≤ i → sets out p (joined row i (n - i)) ≡ out
   rows-end n i p out h = ap (sets out p) (joined-none row i (n - i) (λ k a b. absurd (omega (arith, h, a, b))))
 
   pub rows-length : (i n : ℕ) → length (joined row i n) ≡ w * n
   unfolding joined
-  rows-length i zero = refl
+  rows-length i zero = sym (mul-zero w)
   rows-length i (suc n) = length-append (row i) (joined row (suc i) n) ∙ omega (arith, wide i, rows-length (suc i) n, mul-suc w n)
 
 -- the lines' widths
@@ -122,7 +139,9 @@ behind-put out part at text w h wrote =
         wrote .bytes ∙ ap (λ (x : Bool). pick x m (text ++ drop (length text) m)) f in
     let r : part ≡ text ++ drop (at + length text) out =
         b ∙ ap (λ (x : List ℕ). text ++ drop (length text) x) same ∙ ap (λ (x : List ℕ). text ++ x) (drop-drop (length text) at out) in
-    let e : drop k (drop at out) ≡ [] = drop-of-length-le (drop at out) (omega (arith, length-drop at out)) in
+    let past : length (drop at out) ≤ k = omega (arith, length-drop at out) in
+    let e : drop k (drop at out) ≡ [] = drop-of-length-le (drop at out) past in
     ap (λ (x : List ℕ). take at out ++ (part ++ x)) e
     ∙ ap (λ (x : List ℕ). take at out ++ x) (append-nil part ∙ r)
+    ∙ sym (append-assoc (take at out) text (drop (at + length text) out))
     ∙ sym (sets-eq text out at h)

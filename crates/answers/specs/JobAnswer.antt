@@ -20,9 +20,9 @@ abbrev pub shownOfJob : Job → Rooms → Shown.Answer
 shownOfJob job rooms = shownOf (job .k) (answerOf job rooms)
 
 -- what the call leaves where so many rows are asked for: the answer's text, and that of the tables; a refused job has none
-pub record IsAnsweredJob (job : Job) (asked : Rooms) (out out-now tables tables-now : List ℕ) (r : Answered) : Type 0 where
+pub record IsAnsweredJob (job : Job) (asked : Rooms) (out out-now lines lines-now : List ℕ) (r : Answered) : Type 0 where
   pub answer : Wrote (answerText (shownOfJob job (roomsLent asked))) out out-now (r .answer)
-  pub tables : Wrote (tablesText (tablesOf job (roomsLent asked))) tables tables-now (r .tables)
+  pub tables : Wrote (tablesText (tablesOf job (roomsLent asked))) lines lines-now (r .tables)
 
 -- ---- for contracts of private functions
 -- how many links are filled: one a block, and none where the job is refused

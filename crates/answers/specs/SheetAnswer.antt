@@ -37,6 +37,6 @@ abbrev pub tablesOfText : List ℕ → Rooms → Tables
 tablesOfText text rooms = ifRead (verdict text) (tablesOf (jobOfSheet (sheetOf text)) rooms)
 
 -- what the call leaves where so many rows are asked for: the answer's text, and that of the tables
-pub record IsAnswered (text : List ℕ) (asked : Rooms) (out out-now tables tables-now : List ℕ) (r : Answered) : Type 0 where
+pub record IsAnswered (text : List ℕ) (asked : Rooms) (out out-now lines lines-now : List ℕ) (r : Answered) : Type 0 where
   pub answer : Wrote (answerOfText text (roomsLent asked)) out out-now (r .answer)
-  pub tables : Wrote (tablesText (tablesOfText text (roomsLent asked))) tables tables-now (r .tables)
+  pub tables : Wrote (tablesText (tablesOfText text (roomsLent asked))) lines lines-now (r .tables)
