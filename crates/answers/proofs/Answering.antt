@@ -8,7 +8,7 @@ use lib.ListN.{length, length-map}
 use lib.Dec.{eqb}
 use borrow.Author.Tests.{le-ltb}
 use Rattle.sheet.specs.Kinds.{pick}
-use Rattle.sheet.specs.Refusal.{linesOf, fault, judged, verdictBelow, verdict, sheetOf}
+use Rattle.sheet.specs.Refusal.{linesOf, fault, judged, verdictBelow, verdict, sheetOf, latest, isComplete}
 use Rattle.sheet.specs.Answer.{answerText, Wrote}
 use Rattle.sheet.specs.declared.check.Verdict.{Verdict}
 use Rattle.sheet.specs.declared.check.Verdict.the-variants as Verdict·is
@@ -51,7 +51,11 @@ use Rattle.answers.proofs.FilledText.{filled-text, tables-even}
 -- no text's verdict is NoRoom
 below-never : (ls above : List (List ℕ)) → verdictBelow above ls ≡ Verdict·is.NoRoom → ⊥
 unfolding verdictBelow
-below-never [] above e = let z : _≡_ {A = ℕ} 0 1 = cc in omega arith
+below-never [] above e = at-end (isComplete (length above) (latest above)) e
+  where
+    at-end : (b : Bool) → pick b Verdict·is.Sound (Verdict·is.Refused 14 (length above + 1)) ≡ Verdict·is.NoRoom → ⊥
+    at-end true q = let z : _≡_ {A = ℕ} 0 1 = cc in omega arith
+    at-end false q = let z : _≡_ {A = ℕ} 0 1 = cc in omega arith
 below-never (l ∷ ls) above e = by (fault above l) e (below-never ls (above ++ (l ∷ [])))
   where
     by : (n : ℕ) → judged n (length above + 1) (verdictBelow (above ++ (l ∷ [])) ls) ≡ Verdict·is.NoRoom
@@ -61,11 +65,7 @@ below-never (l ∷ ls) above e = by (fault above l) e (below-never ls (above ++ 
 
 pub verdict-never : (text : List ℕ) → verdict text ≡ Verdict·is.NoRoom → ⊥
 unfolding verdict
-verdict-never text e = by (eqb (length text) 0) e
-  where
-    by : (b : Bool) → pick b (Verdict·is.Refused 14 1) (verdictBelow [] (linesOf text)) ≡ Verdict·is.NoRoom → ⊥
-    by true q = let z : _≡_ {A = ℕ} 0 1 = cc in omega arith
-    by false q = below-never (linesOf text) [] q
+verdict-never text e = below-never (linesOf text) [] e
 
 -- one link a block, none where the job is refused
 module _ (job : Job) (n : ℕ) (counted : n ≡ length (job .blocks)) where
@@ -135,7 +135,7 @@ pub sheet-answered : (text : List ℕ) (asked : Rooms) → verdict text ≡ Verd
     → IsAnswered text asked out out-now tables tables-now a
 sheet-answered text asked e {job} same {out} {out-now} {tables} {tables-now} {a} said =
     let own : IsAnsweredJob (jobOfSheet (sheetOf text)) asked out out-now tables tables-now a =
-        subst (λ (j : Job). IsAnsweredJob j asked out out-now tables tables-now a) same said in
+    subst (λ (j : Job). IsAnsweredJob j asked out out-now tables tables-now a) same said in
     let j = jobOfSheet (sheetOf text) in
     record {
       answer = subst (λ (v : Verdict). Wrote (answerText (ofVerdict v (shownOfJob j (roomsLent asked)))) out out-now (a .answer)) (sym e) (own .answer);

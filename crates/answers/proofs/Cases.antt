@@ -5,10 +5,11 @@ use Prim.Native.String.{String, [] as []ᵗ, _∷_ as _∷ᵗ_}
 use mathlib.Core.Path.{_≡_, refl}
 use mathlib.Core.List.{List, [], _∷_, _++_, map}
 use lib.Ieee.{ofBits, toBits, add, sub, mul, div, round, lt, eq, ofInt}
-use Rattle.sheet.specs.Kinds.{letter, fields, limit, width, position, kindOf}
+use Rattle.sheet.specs.Kinds.{kindAt, letter, fields, limit, once, needed, width, position, kindOf}
 use Rattle.sheet.specs.Field.{digitOrBlank, digits, field, valueBehind, value, sameText, isField}
 use Rattle.sheet.specs.Sheet.{fieldsText, lineText, line, linesText, textFrom, render}
-use Rattle.sheet.specs.Refusal.{linesOf, areFields, isLine, kindOfLine, latest, ofKind, isInOrder, fault, verdictBelow, verdict, numbers, rowOf, sheetOf}
+use Rattle.sheet.specs.Refusal.{linesOf, areFields, isLine, kindOfLine, latest, ofKind, fault, verdictBelow, verdict, numbers, rowOf, sheetOf}
+use Rattle.sheet.specs.Refusal.{openKind, noneNeeded, isInOrder, isComplete}
 use Rattle.sheet.specs.Cells.{column}
 use Rattle.sheet.specs.Answer.{endText, endsText, weightsText, figuresText, answerText}
 use Rattle.numbers.specs.declared.MaybeInst.{MaybeInst}
@@ -177,8 +178,8 @@ cases = caseA ++ others
 
 -- every case holds; the text is computed by itself, as it takes most steps
 sheet-read : answerOfText textOfA sheetRooms ≡ printedOfA
-unfolding textOfA printedOfA letter fields limit width position kindOf digitOrBlank digits field valueBehind value sameText isField fieldsText lineText line
-    linesText textFrom render linesOf areFields isLine kindOfLine latest ofKind isInOrder fault verdictBelow verdict numbers rowOf sheetOf column endText
+unfolding textOfA printedOfA kindAt letter fields limit once needed width position kindOf digitOrBlank digits field valueBehind value sameText isField fieldsText lineText line
+    linesText textFrom render linesOf areFields isLine kindOfLine latest ofKind openKind noneNeeded isInOrder isComplete fault verdictBelow verdict numbers rowOf sheetOf column endText
     endsText weightsText figuresText answerText figure unitsOf toBits firstBroken badParameters someLong badSizes isBad badBounds badList badDef badUse badEnd
     badSpan badKind badFixedUse countBelow anyBelow bestUse useTable rowsFrom carries splitUse addedToRow partOf costOf frequencyAt firstInst lastInst valueOf
     ofBits spillCost scaled firstBelow blockOf add sub mul round eq lt table gapsOf gapsBetween cuts cutGaps plus joined follow lowerLink isLower sumBelow

@@ -1,4 +1,4 @@
--- The first 47,485 bytes of a text decide its answer and its tables: a sheet has no more, and the verdict of a longer text is that of its front
+-- The longest sheet's bytes, and a line more, decide a text's answer and its tables: a sheet has no more, and the verdict of a longer text is that of its front
 use Prim.Native.Nat.{ℕ, _+_, _≤_}
 use mathlib.Core.Path.{_≡_, refl, sym, ap, _∙_}
 use mathlib.Core.List.{List}
@@ -9,7 +9,8 @@ use Rattle.sheet.specs.Refusal.{verdict, sheetOf}
 use Rattle.sheet.specs.Answer.{answerText}
 use Rattle.sheet.specs.declared.check.Verdict.{Verdict}
 use Rattle.sheet.specs.declared.check.Verdict.the-variants as Verdict·is
-use Rattle.sheet.proofs.Prefix.{longest, sheet-short, front-decides}
+use Rattle.sheet.specs.Kinds.{widest, longest}
+use Rattle.sheet.proofs.Prefix.{sheet-short, front-decides}
 use Rattle.filling.specs.declared.lent.Rooms.{Rooms}
 use Rattle.filling.specs.SourceTables.{Tables}
 use Rattle.tables.specs.JobTables.{tablesOf}
@@ -20,7 +21,7 @@ use Rattle.answers.specs.SheetAnswer.{ofVerdict, answerOfText, ifRead, t
 use Rattle.answers.proofs.Answering.{verdict-never}
 
 -- as much of a text as a sheet and a line more, or further
-module _ (text : List ℕ) (n : ℕ) (long : longest + 68 ≤ n) where
+module _ (text : List ℕ) (n : ℕ) (long : longest + widest ≤ n) where
   -- a sheet lies in it whole
   pub sheet-whole : verdict text ≡ Verdict·is.Sound → take n text ≡ text
   sheet-whole e = take-all n text (omega (arith, sheet-short text e))

@@ -1,4 +1,4 @@
--- Work tables of `sheetRooms` rows, 258 uses, 386 gaps, 514 gap segments and 128 links, are never too short for a sheet: refusal 12 is not given
+-- Work tables of `sheetRooms` rows are never too short for a sheet: refusal 12 is not given
 use Prim.Native.Nat.{ℕ, zero, suc, _≤_}
 use mathlib.Core.Path.{_≡_, refl, sym, _∙_}
 use mathlib.Core.List.{List, [], _∷_, _++_}
@@ -6,7 +6,7 @@ use native.Mathlib.Nat.{le-trans, le-of-eq}
 use native.Mathlib.Omega.{arith}
 use lib.ListN.{length, getD, length-map}
 use borrow.Author.Tests.{le-ltb}
-use Rattle.sheet.specs.Kinds.{limit}
+use Rattle.sheet.specs.Kinds.{kindB, kindS, kindU, kindAt, limitOf, limit}
 use Rattle.sheet.specs.Sheet.{Sheet, Within}
 use Rattle.sheet.specs.Refusal.{verdict, sheetOf}
 use Rattle.sheet.specs.Cells.{column}
@@ -51,19 +51,19 @@ module _ (s : Sheet) (within : Within s) where
   abbrev size : ℕ → ℕ → ℕ
   size k c = length (column c (s k))
 
-  few-blocks : length (jobOfSheet s .blocks) ≤ 128
-  unfolding limit
-  few-blocks = le-trans (first-most _ (size 1 0) (size 1 1) (size 1 2 ∷ [])) (omega (arith, column-rows 0 (s 1), within 1 (omega arith)))
+  few-blocks : length (jobOfSheet s .blocks) ≤ limitOf kindB
+  unfolding limit kindAt
+  few-blocks = le-trans (first-most _ (size kindB 0) (size kindB 1) (size kindB 2 ∷ [])) (omega (arith, column-rows 0 (s kindB), within kindB (omega arith)))
 
-  few-segments : length (jobOfSheet s .segments) ≤ 128
-  unfolding limit
+  few-segments : length (jobOfSheet s .segments) ≤ limitOf kindS
+  unfolding limit kindAt
   few-segments =
-      le-trans (first-most _ (size 3 0) (size 3 1) (size 3 2 ∷ size 3 3 ∷ size 3 4 ∷ size 3 5 ∷ []))
-      (omega (arith, column-rows 0 (s 3), within 3 (omega arith)))
+      le-trans (first-most _ (size kindS 0) (size kindS 1) (size kindS 2 ∷ size kindS 3 ∷ size kindS 4 ∷ size kindS 5 ∷ []))
+      (omega (arith, column-rows 0 (s kindS), within kindS (omega arith)))
 
-  few-uses : length (jobOfSheet s .uses) ≤ 256
-  unfolding limit
-  few-uses = le-trans (first-most _ (size 4 0) (size 4 1) (size 4 2 ∷ [])) (omega (arith, column-rows 0 (s 4), within 4 (omega arith)))
+  few-uses : length (jobOfSheet s .uses) ≤ limitOf kindU
+  unfolding limit kindAt
+  few-uses = le-trans (first-most _ (size kindU 0) (size kindU 1) (size kindU 2 ∷ [])) (omega (arith, column-rows 0 (s kindU), within kindU (omega arith)))
 
   abbrev needed : ℕ → ℕ
   needed i = getD (roomsNeeded (sizesOf (jobOfSheet s))) i 0

@@ -136,9 +136,9 @@ behind-put out part at text w h wrote =
     let long : length text ≤ length m = omega (arith, ap length same, length-drop at out) in
     let f : ltb (length m) (length text) ≡ false = le-ltb (length m) (length text) long in
     let b : part ≡ text ++ drop (length text) m =
-        wrote .bytes ∙ ap (λ (x : Bool). pick x m (text ++ drop (length text) m)) f in
+    wrote .bytes ∙ ap (λ (x : Bool). pick x m (text ++ drop (length text) m)) f in
     let r : part ≡ text ++ drop (at + length text) out =
-        b ∙ ap (λ (x : List ℕ). text ++ drop (length text) x) same ∙ ap (λ (x : List ℕ). text ++ x) (drop-drop (length text) at out) in
+    b ∙ ap (λ (x : List ℕ). text ++ drop (length text) x) same ∙ ap (λ (x : List ℕ). text ++ x) (drop-drop (length text) at out) in
     let past : length (drop at out) ≤ k = omega (arith, length-drop at out) in
     let e : drop k (drop at out) ≡ [] = drop-of-length-le (drop at out) past in
     ap (λ (x : List ℕ). take at out ++ (part ++ x)) e

@@ -1,10 +1,10 @@
 // The answer to a job and its tables, as text. The work tables stand here.
+use crate::lines::write_tables;
 use crate::room::GAP_ROWS;
 use crate::room::GAP_SEGMENT_ROWS;
 use crate::room::LINK_ROWS;
 use crate::room::USE_ROWS;
 use crate::room::rooms_lent;
-use crate::lines::write_tables;
 use figures::figures::shown_of;
 use filling::lent::Rooms;
 use links::blocks::count;

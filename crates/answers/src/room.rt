@@ -5,16 +5,20 @@ use crate::lines::LINK_LINE;
 use crate::lines::USE_LINE;
 use columns::rows::shorter;
 use filling::lent::Rooms;
+use sheet::kinds::B;
+use sheet::kinds::S;
+use sheet::kinds::TABLE;
+use sheet::kinds::U;
 ghost use mathlib.Core.Path.{_≡_};
 ghost use Rattle.answers.specs.SheetRooms.{sheetRooms, roomsLent};
 
-pub const USE_ROWS: usize = 258;
+pub const USE_ROWS: usize = TABLE[U].limit + 2;
 
-pub const GAP_ROWS: usize = 386;
+pub const GAP_ROWS: usize = TABLE[U].limit + TABLE[B].limit + 2;
 
-pub const GAP_SEGMENT_ROWS: usize = 514;
+pub const GAP_SEGMENT_ROWS: usize = TABLE[U].limit + TABLE[B].limit + TABLE[S].limit + 2;
 
-pub const LINK_ROWS: usize = 128;
+pub const LINK_ROWS: usize = TABLE[B].limit;
 
 // The longest answer's bytes.
 pub const ANSWER_BYTES: usize = 81;

@@ -4,6 +4,7 @@ use sheet::column_of;
 use sheet::kinds::B;
 use sheet::kinds::E;
 use sheet::kinds::F;
+use sheet::kinds::KINDS;
 use sheet::kinds::P;
 use sheet::kinds::S;
 use sheet::kinds::U;
@@ -11,11 +12,12 @@ use sheet::kinds::V;
 use sheet::kinds::W;
 ghost use mathlib.Core.Path.{_≡_};
 ghost use mathlib.Core.List.{map};
+ghost use Rattle.sheet.specs.Kinds.{kindP};
 ghost use Rattle.refusals.specs.Job.{jobOf, jobColumnsIn};
 ghost use Rattle.cells.specs.SheetJob.{parameterOf, parametersOf, jobOfColumns, cellsColumn, IsColumn, InCells};
 
 // Column c of kind k: as many cells as the kind has rows.
-fn column(cells: &[u32], counts: [usize; 8], k: usize, c: usize) -> &[u32]
+fn column(cells: &[u32], counts: [usize; KINDS], k: usize, c: usize) -> &[u32]
     requires { ⌜ InCells (now cells) counts × IsColumn k c ⌝ }
     ensures { λ r. ⌜ now r ≡ cellsColumn (now (cells .entry)) counts k c ⌝ }
 {
@@ -25,8 +27,8 @@ fn column(cells: &[u32], counts: [usize; 8], k: usize, c: usize) -> &[u32]
 }
 
 // The number in column c of the line P.
-fn parameter(cells: &[u32], counts: [usize; 8], c: usize) -> u32
-    requires { ⌜ InCells (now cells) counts × IsColumn 0 c ⌝ }
+fn parameter(cells: &[u32], counts: [usize; KINDS], c: usize) -> u32
+    requires { ⌜ InCells (now cells) counts × IsColumn kindP c ⌝ }
     ensures { λ r. ⌜ r ≡ parameterOf (cellsColumn (now (cells .entry)) counts) c ⌝ }
 {
     let p = column(cells, counts, P, c);
@@ -34,7 +36,7 @@ fn parameter(cells: &[u32], counts: [usize; 8], c: usize) -> u32
 }
 
 // The line P.
-pub fn parameters_of(cells: &[u32], counts: [usize; 8]) -> Parameters
+pub fn parameters_of(cells: &[u32], counts: [usize; KINDS]) -> Parameters
     requires { ⌜ InCells (now cells) counts ⌝ }
     ensures { λ r. ⌜ r ≡ parametersOf (cellsColumn (now (cells .entry)) counts) ⌝ }
 {
@@ -48,7 +50,7 @@ pub fn parameters_of(cells: &[u32], counts: [usize; 8]) -> Parameters
 }
 
 // The 23 columns, in the order of `jobColumnsIn`.
-pub fn columns_of<'a>(cells: &'a [u32], counts: [usize; 8]) -> [&'a [u32]; 23]
+pub fn columns_of<'a>(cells: &'a [u32], counts: [usize; KINDS]) -> [&'a [u32]; 23]
     requires { ⌜ InCells (now cells) counts ⌝ }
     ensures { λ r. ⌜
         (let at = cellsColumn (now (cells .entry)) counts in

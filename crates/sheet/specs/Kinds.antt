@@ -79,6 +79,9 @@ letter k = kindAt k .letter
 unfoldable pub fields : ℕ → ℕ
 fields k = kindAt k .fields
 
+abbrev pub limitOf : ℕ → ℕ
+limitOf k = getD kindTable k (kind 0 0 0 Any) .limit
+
 unfoldable pub limit : ℕ → ℕ
 limit k = kindAt k .limit
 

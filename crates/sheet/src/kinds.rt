@@ -40,7 +40,7 @@ pub struct Kind {
     pub asked: Asked,
 }
 
-const TABLE: [Kind; KINDS] = [
+pub const TABLE: [Kind; KINDS] = [
     Kind {
         letter: b'P',
         fields: 5,

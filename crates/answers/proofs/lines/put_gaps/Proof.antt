@@ -49,7 +49,7 @@ loop-again c =
       w .kept .0 ∙ l .inv .1,
       rows-step (gapLine (a .from .now) (a .to .now) (a .weight .now) (a .live .now) (a .freq .now)) 57 (gap-wide (a .from .now) (a .to .now) (a .weight .now) (a .live .now) (a .freq .now)) (a .rows) (l .i) (a .at + 57 * l .i) (a .at + 57 * (l .i + 1)) (l .out)
           (w .last .0) (t .loop-test .taken) (omega arith) (w .ensures)
-      ∙ l .inv .2,
+          ∙ l .inv .2,
     )
 
 same-length : tie.Need-same-length Inv-loop μ-loop
