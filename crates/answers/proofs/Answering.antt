@@ -46,7 +46,7 @@ use Rattle.answers.specs.SheetRooms.{roomsLent}
 use Rattle.answers.specs.JobAnswer.{shownOfJob, linksUsed, rowsOfProposed, IsAnsweredJob}
 use Rattle.answers.specs.SheetAnswer.{ofVerdict, ifRead, IsAnswered}
 use Rattle.answers.specs.declared.job.Answered.{Answered}
-use Rattle.answers.proofs.FilledText.{filled-text, tables-even}
+use Rattle.answers.proofs.FilledText.{filled-begun, longer, longer-begun, begun-text, tables-even}
 
 -- no text's verdict is NoRoom
 below-never : (ls above : List (List ℕ)) → verdictBelow above ls ≡ Verdict·is.NoRoom → ⊥
@@ -97,11 +97,12 @@ module _ {job : Job} (asked : Rooms) {lent now : WorkColumns} {p : Proposed} (pr
       let links = ap (λ (x : Answer). linksUsed x blocks) (proposed .answer) ∙ links-filled job blocks counted (roomsOf lent) in
       λ i. record { uses = proposed .uses i; gaps = proposed .gaps i; «gap_segments» = proposed .segments i; links = links i }
 
-  -- the text of the columns is that of the tables
-  pub tables-said : (blocks : ℕ) → blocks ≡ length (job .blocks) → columnsText now (rowsOfProposed p blocks) ≡ tablesText (tablesOf job (roomsLent asked))
-  tables-said blocks counted =
-      ap (columnsText now) (rows-said blocks counted)
-      ∙ filled-text (proposed .tables) (tables-even job (roomsOf lent))
+  -- the text of the columns, and of any longer ones, is that of the tables
+  pub tables-said : (more : WorkColumns) (blocks : ℕ) → blocks ≡ length (job .blocks)
+      → columnsText (longer now more) (rowsOfProposed p blocks) ≡ tablesText (tablesOf job (roomsLent asked))
+  tables-said more blocks counted =
+      ap (columnsText (longer now more)) (rows-said blocks counted)
+      ∙ begun-text (longer-begun more (filled-begun lent (proposed .tables))) (tables-even job (roomsOf lent))
       ∙ ap (λ (r : Rooms). tablesText (tablesOf job r)) rooms
 
   -- the answer is that of the job

@@ -1,6 +1,7 @@
 -- The tables as one text, what a job and a sheet are answered, how much of a text decides it, how much room is enough, and the cases
 pub mod TextLaws
 pub mod FilledText
+pub mod Lending
 pub mod ReadJob
 pub mod Answering
 pub mod Front

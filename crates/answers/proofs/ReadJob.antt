@@ -1,13 +1,14 @@
 -- The job of the cells is that of the sheet that was read into them
-use Prim.Native.Nat.{ℕ}
+use Prim.Native.Nat.{ℕ, _≤_}
 use mathlib.Core.Path.{_≡_, refl, sym, ap, _∙_}
 use native.Mathlib.Omega.{arith}
 use mathlib.Core.List.{List, []}
 use mathlib.Core.Bool.{Bool, true, false}
 use lib.ListN.{length, getD}
 use lib.Dec.{ltb}
-use Rattle.sheet.specs.Kinds.{pick, kind, kindTable, kindP, kindB, kinds, kindAt, needed}
-use Rattle.sheet.specs.Refusal.{sheetOf}
+use borrow.Author.Tests.{le-ltb}
+use Rattle.sheet.specs.Kinds.{pick, kind, kindTable, kindP, kinds, kindAt, needed, cellCount}
+use Rattle.sheet.specs.Refusal.{verdict, sheetOf}
 use Rattle.sheet.specs.Cells.{cellsAfter, Read}
 use Rattle.sheet.specs.declared.kinds.Asked.the-variants.{Any}
 use Rattle.sheet.specs.declared.check.Verdict.{Verdict}
@@ -61,3 +62,7 @@ module _ {text cells cells-now counts : List ℕ} {v : Verdict} (read : Read tex
   read-job =
       job-same (cellsColumn cells-now counts) (columnsOf (sheetOf text))
       (λ k c i. exact.read-column text cells cells-now v counts read sound k c (i .kind) (i .field))
+
+-- with as many cells as a sheet needs the verdict is the text's own
+pub read-verdict : {text cells cells-now counts : List ℕ} {v : Verdict} → Read text cells cells-now v counts → cellCount ≤ length cells → v ≡ verdict text
+read-verdict {text} {cells} read h = read .answer ∙ rw (le-ltb (length cells) cellCount h)
