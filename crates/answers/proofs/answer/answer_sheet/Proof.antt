@@ -6,7 +6,7 @@ use native.Mathlib.Nat.{le-of-eq}
 use denote.Ref.{now}
 use lib.ListN.{length, replicate, length-replicate}
 use borrow.Author.Needs.{needs}
-use Rattle.sheet.specs.Cells.{cellCount}
+use Rattle.sheet.specs.Kinds.{kindAt, fields, limit, base, cellCount}
 use Rattle.refusals.specs.declared.job.Parameters.{Parameters}
 use Rattle.refusals.specs.Job.{jobOf, jobColumnsIn}
 use Rattle.answers.proofs.ReadJob.{read-cells, read-job, read-verdict}
@@ -15,8 +15,8 @@ use Rattle.answers.proofs.answer.answer_sheet.Statement.{statement}
 use Rattle.answers.proofs.answer.answer_sheet.Tie as tie
 
 -- there are as many cells as a sheet needs
-enough : cellCount ≤ length {A = ℕ} (replicate 4101 0)
-enough = le-of-eq (sym (length-replicate {A = ℕ} 4101 0))
+enough : cellCount ≤ length {A = ℕ} (replicate cellCount 0)
+enough = le-of-eq (sym (length-replicate {A = ℕ} cellCount 0))
 
 slice-aggregate-read-sheet : tie.Need-slice-aggregate-read-sheet
 slice-aggregate-read-sheet c = search needs
@@ -55,6 +55,7 @@ same-length : tie.Need-same-length
 same-length c = search needs
 
 returns : tie.Need-returns
+unfolding cellCount base fields limit kindAt
 returns c =
     let v = c .before .before .before .before .before in
     let r = v .before .before .before in
@@ -69,6 +70,7 @@ same-length-3 : tie.Need-same-length-3
 same-length-3 c = search needs
 
 returns-2 : tie.Need-returns-2
+unfolding cellCount base fields limit kindAt
 returns-2 c =
     let j = c .before .before .before .before in
     let p = j .before .before .before in
@@ -85,6 +87,7 @@ returns-2 c =
     (j .answer-job .ensures)
 
 returns-3 : tie.Need-returns-3
+unfolding cellCount base fields limit kindAt
 returns-3 c =
     let r = c .before .before .before in
     absurd
