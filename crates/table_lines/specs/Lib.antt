@@ -1,0 +1,2 @@
+-- The tables of a job as text
+pub mod TablesText
