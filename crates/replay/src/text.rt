@@ -54,7 +54,7 @@ pub(crate) fn part(text: &[u8], from: usize, n: usize) -> &[u8]
 
 // How many bytes the first line has, its line feed with it.
 fn line_length(text: &[u8]) -> usize
-    ensures { λ r. ⌜ (r ≤ length (now (text .entry))) × (0 < length (now (text .entry)) → 0 < r) ⌝ }
+    ensures { λ r. ⌜ (r ≤ length (now (text .entry))) × ((0 < length (now (text .entry))) → 0 < r) ⌝ }
 {
     let mut i: usize = 0;
     while i < text.len() {
@@ -68,7 +68,7 @@ fn line_length(text: &[u8]) -> usize
 
 // The line at a place; nothing past the text's end.
 pub(crate) fn line_at(text: &[u8], at: usize) -> &[u8]
-    ensures { λ r. ⌜ at < length (now (text .entry)) → (0 < length (now r)) × (at + length (now r) ≤ length (now (text .entry))) ⌝ }
+    ensures { λ r. ⌜ (at < length (now (text .entry)) → (0 < length (now r)) × (at + length (now r) ≤ length (now (text .entry)))) ⌝ }
 {
     if text.len() <= at {
         return &text[..0];

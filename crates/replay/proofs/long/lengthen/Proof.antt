@@ -1,4 +1,4 @@
--- `lengthen` stores each of the 23 columns
+-- `lengthen` ends, and stays within the columns
 use Prim.Native.Nat.{_-_, _≤_}
 use mathlib.Core.Path.{_≡_}
 use lib.ListN.{length}
@@ -7,31 +7,19 @@ use Rattle.replay.proofs.long.lengthen.Statement.{statement}
 use Rattle.replay.proofs.long.lengthen.Tie as tie
 
 abbrev Inv-loop : tie.InvT-loop
-Inv-loop long₀ cells sizes column₀ long column = (column ≤ 23) × (length long ≡ length long₀)
+Inv-loop long₀ cells sizes k₀ long k = (k ≤ 8) × (length long ≡ length long₀)
 
 abbrev μ-loop : tie.MeasureT-loop
-μ-loop long₀ cells sizes column₀ long column = 23 - column
+μ-loop long₀ cells sizes k₀ long k = 8 - k
 
 loop-holds : tie.Need-loop-holds Inv-loop μ-loop
 loop-holds c = search needs
 
-mul-k : tie.Need-mul-k Inv-loop μ-loop
-mul-k c = search needs
+lengthen-kind-requires : tie.Need-lengthen-kind-requires Inv-loop μ-loop
+lengthen-kind-requires c κs = search needs
 
-array-read-k : tie.Need-array-read-k Inv-loop μ-loop
-array-read-k c = search needs
-
-read-of-requires : tie.Need-read-of-requires Inv-loop μ-loop
-read-of-requires c κs = search needs
-
-items-of-requires : tie.Need-items-of-requires Inv-loop μ-loop
-items-of-requires c κs = search needs
-
-lengthen-column-requires : tie.Need-lengthen-column-requires Inv-loop μ-loop
-lengthen-column-requires c κs = search needs
-
-add-column : tie.Need-add-column Inv-loop μ-loop
-add-column c = search needs
+add-k : tie.Need-add-k Inv-loop μ-loop
+add-k c = search needs
 
 loop-less : tie.Need-loop-less Inv-loop μ-loop
 loop-less c = search needs
@@ -52,12 +40,8 @@ lengthen-spec =
     Inv-loop
     μ-loop
     loop-holds
-    mul-k
-    array-read-k
-    read-of-requires
-    items-of-requires
-    lengthen-column-requires
-    add-column
+    lengthen-kind-requires
+    add-k
     loop-less
     loop-again
     same-length

@@ -7,28 +7,22 @@ use Rattle.replay.proofs.long.lengthen_column.Statement.{statement}
 use Rattle.replay.proofs.long.lengthen_column.Tie as tie
 
 abbrev Inv-loop : tie.InvT-loop
-Inv-loop long₀ cells column read n k c i₀ long i = (i ≤ n) × (length long ≡ length long₀)
+Inv-loop long₀ cells k c place read n i₀ long i = (i ≤ n) × (length long ≡ length long₀)
 
 abbrev μ-loop : tie.MeasureT-loop
-μ-loop long₀ cells column read n k c i₀ long i = n - i
+μ-loop long₀ cells k c place read n i₀ long i = n - i
 
-mul-k : tie.Need-mul-k Inv-loop μ-loop
-mul-k c = search needs
+place-of-requires : tie.Need-place-of-requires Inv-loop μ-loop
+place-of-requires c κs = search needs
 
-array-read-k : tie.Need-array-read-k Inv-loop μ-loop
-array-read-k c = search needs
+read-of-requires : tie.Need-read-of-requires Inv-loop μ-loop
+read-of-requires c κs = search needs
 
-mul-c : tie.Need-mul-c Inv-loop μ-loop
-mul-c c = search needs
-
-array-read-c : tie.Need-array-read-c Inv-loop μ-loop
-array-read-c c = search needs
+items-of-requires : tie.Need-items-of-requires Inv-loop μ-loop
+items-of-requires c κs = search needs
 
 loop-holds : tie.Need-loop-holds Inv-loop μ-loop
 loop-holds c = search needs
-
-mul-put : tie.Need-mul-put Inv-loop μ-loop
-mul-put c = search needs
 
 add-put : tie.Need-add-put Inv-loop μ-loop
 add-put c = search needs
@@ -63,12 +57,10 @@ lengthen-column-spec =
     (tie.spec
     Inv-loop
     μ-loop
-    mul-k
-    array-read-k
-    mul-c
-    array-read-c
+    place-of-requires
+    read-of-requires
+    items-of-requires
     loop-holds
-    mul-put
     add-put
     row-of-requires
     cell-requires
