@@ -58,7 +58,8 @@ fn answer_of(block_weight: u32, before: u32) -> Answer {
     let met_index = [0u32, 0];
     let fixed = [4294967295u32, 0];
     // F: no fixed use
-    let none = [0u32];
+    let unused = [0u32];
+    let none = &unused[..0];
     let mut prev = [0u32; 1];
     let mut next = [0u32; 1];
     let mut inst = [0u32; 4];
@@ -96,9 +97,9 @@ fn answer_of(block_weight: u32, before: u32) -> Answer {
             &reserved_kind,
             &met_index,
             &fixed,
-            &none[..0],
-            &none[..0],
-            &none[..0],
+            none,
+            none,
+            none,
         ],
         Parameters {
             k: 0,

@@ -19,9 +19,6 @@ weight-of-requires c κs = search needs
 least-above-requires : tie.Need-least-above-requires Inv-loop μ-loop
 least-above-requires c κs = search needs
 
-job-of-requires : tie.Need-job-of-requires Inv-loop μ-loop
-job-of-requires c κs = search needs
-
 answer-of-requires : tie.Need-answer-of-requires Inv-loop μ-loop
 answer-of-requires c κs = search needs
 
@@ -55,7 +52,6 @@ run-spec =
     loop-holds
     weight-of-requires
     least-above-requires
-    job-of-requires
     answer-of-requires
     is-member-requires
     returns
