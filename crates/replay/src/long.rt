@@ -26,28 +26,33 @@ ghost use Prim.Native.Nat.{_≤_, _<_, _+_};
 // The kinds that a record numbers from 0 on.
 const TABLES: [usize; 7] = [B, V, S, U, W, E, F];
 
-// The columns stand one behind the other, six to a kind, each with room for so many items.
+// The columns stand one behind the other, up to six to a kind, each with room for so many items.
 const ITEMS: usize = 4097;
 
 const FIELDS: usize = 6;
 
 const ALL: usize = ITEMS * FIELDS * KINDS;
 
-// Where column c of kind k starts.
+// Where column c of kind k starts; behind all columns for what is none.
 fn place_of(k: usize, c: usize) -> usize
-    requires { ⌜ (k < 8) × (c < 6) ⌝ }
-    ensures { λ r. ⌜ r + 4097 ≤ 196656 ⌝ }
+    ensures { λ r. ⌜ r ≤ 1000000 ⌝ }
 {
+    if k >= KINDS {
+        return ALL;
+    }
+    if c >= FIELDS {
+        return ALL;
+    }
     ITEMS * (FIELDS * k + c)
 }
 
 // The number that was read for a row of a kind's column.
-fn cell(cells: &[u32], k: usize, c: usize, row: usize) -> u32
-    requires { ⌜ row ≤ 4097 ⌝ }
-{
-    let at = column_of(k, c) + row;
-    if at < cells.len() {
-        return cells[at];
+fn cell(cells: &[u32], k: usize, c: usize, row: usize) -> u32 {
+    let from = column_of(k, c);
+    if from < cells.len() {
+        if row < cells.len() - from {
+            return cells[from + row];
+        }
     }
     0
 }
@@ -74,7 +79,7 @@ fn put(long: &mut [u32], at: usize, number: u32) {
 
 // How many items of each kind were read; the kind whose table is lengthened, and to how many items.
 struct Sizes {
-    read: [usize; 8],
+    read: [usize; KINDS],
     kind: usize,
     items: usize,
 }
@@ -103,9 +108,7 @@ fn items_of(sizes: Sizes, k: usize) -> usize
 }
 
 // Stores the items of a column: those that were read, and then the last one again.
-fn lengthen_column(long: &mut [u32], cells: &[u32], sizes: Sizes, k: usize, c: usize)
-    requires { ⌜ (k < 8) × (c < 6) ⌝ }
-{
+fn lengthen_column(long: &mut [u32], cells: &[u32], sizes: Sizes, k: usize, c: usize) {
     let place = place_of(k, c);
     let read = read_of(sizes, k);
     let n = items_of(sizes, k);
@@ -117,9 +120,7 @@ fn lengthen_column(long: &mut [u32], cells: &[u32], sizes: Sizes, k: usize, c: u
 }
 
 // Stores the columns of a kind.
-fn lengthen_kind(long: &mut [u32], cells: &[u32], sizes: Sizes, k: usize)
-    requires { ⌜ k < 8 ⌝ }
-{
+fn lengthen_kind(long: &mut [u32], cells: &[u32], sizes: Sizes, k: usize) {
     let n = fields_of(k);
     let mut c: usize = 0;
     while c < n {
@@ -138,9 +139,7 @@ fn lengthen(long: &mut [u32], cells: &[u32], sizes: Sizes) {
 }
 
 // A column as it was stored.
-fn stored(long: &[u32], sizes: Sizes, k: usize, c: usize) -> &[u32]
-    requires { ⌜ (k < 8) × (c < 6) ⌝ }
-{
+fn stored(long: &[u32], sizes: Sizes, k: usize, c: usize) -> &[u32] {
     let from = place_of(k, c);
     let to = from + items_of(sizes, k);
     if to <= long.len() {

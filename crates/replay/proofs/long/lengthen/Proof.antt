@@ -3,14 +3,15 @@ use Prim.Native.Nat.{_-_, _≤_}
 use mathlib.Core.Path.{_≡_}
 use lib.ListN.{length}
 use borrow.Author.Needs.{needs}
+use Rattle.sheet.specs.Kinds.{kinds}
 use Rattle.replay.proofs.long.lengthen.Statement.{statement}
 use Rattle.replay.proofs.long.lengthen.Tie as tie
 
 abbrev Inv-loop : tie.InvT-loop
-Inv-loop long₀ cells sizes k₀ long k = (k ≤ 8) × (length long ≡ length long₀)
+Inv-loop long₀ cells sizes k₀ long k = (k ≤ kinds) × (length long ≡ length long₀)
 
 abbrev μ-loop : tie.MeasureT-loop
-μ-loop long₀ cells sizes k₀ long k = 8 - k
+μ-loop long₀ cells sizes k₀ long k = kinds - k
 
 loop-holds : tie.Need-loop-holds Inv-loop μ-loop
 loop-holds c = search needs
