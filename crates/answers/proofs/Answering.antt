@@ -41,7 +41,7 @@ use Rattle.tables.specs.JobTables.{ifAccepted, noTables, tablesOf}
 use Rattle.filling.specs.SourceTables.{Tables, freqsOf, tablesOfBest, WorkColumns, roomsOf}
 use Rattle.figures.specs.Figures.{shownOf}
 use Rattle.cells.specs.SheetJob.{jobOfSheet}
-use Rattle.table_lines.specs.TablesText.{columnsText, rowsOfTables, tablesText}
+use Rattle.answers.specs.TablesText.{columnsText, rowsOfTables, tablesText}
 use Rattle.answers.specs.SheetRooms.{roomsLent}
 use Rattle.answers.specs.JobAnswer.{shownOfJob, linksUsed, rowsOfProposed, IsAnsweredJob}
 use Rattle.answers.specs.SheetAnswer.{ofVerdict, ifRead, IsAnswered}

@@ -27,7 +27,7 @@ use Rattle.filling.specs.declared.lent.Rooms.{Rooms}
 use Rattle.refusals.specs.Job.{Job, sourceOfJob}
 use Rattle.rooms.specs.Rooms.{refusalOf}
 use Rattle.tables.specs.JobTables.{ifAccepted, noTables, tablesOf}
-use Rattle.table_lines.specs.TablesText.{numberIn, bitsIn, linkLine, useLine, gapLine, gapSegmentLine, columnsText, columnsOfTables, rowsOfTables, tablesText}
+use Rattle.answers.specs.TablesText.{numberIn, bitsIn, linkLine, useLine, gapLine, gapSegmentLine, columnsText, columnsOfTables, rowsOfTables, tablesText}
 
 -- lists that are the same one by one, joined
 joined-same : {A : Type 0} (f g : ℕ → List A) (i n : ℕ) → ((k : ℕ) → k < i + n → f k ≡ g k) → joined f i n ≡ joined g i n

@@ -1,2 +1,0 @@
--- The laws that the proofs of several functions cite.
-pub mod TextLaws

@@ -1,2 +1,0 @@
--- The tables of a job as text
-pub mod TablesText
