@@ -41,12 +41,13 @@ use Rattle.tables.specs.JobTables.{ifAccepted, noTables, tablesOf}
 use Rattle.filling.specs.SourceTables.{Tables, freqsOf, tablesOfBest, WorkColumns, roomsOf}
 use Rattle.figures.specs.Figures.{shownOf}
 use Rattle.cells.specs.SheetJob.{jobOfSheet}
-use Rattle.answers.specs.TablesText.{columnsText, rowsOfTables, tablesText}
+use Rattle.table_text.specs.TablesText.{columnsText, rowsOfTables, tablesText}
 use Rattle.answers.specs.SheetRooms.{roomsLent}
 use Rattle.answers.specs.JobAnswer.{shownOfJob, linksUsed, rowsOfProposed, IsAnsweredJob}
 use Rattle.answers.specs.SheetAnswer.{ofVerdict, ifRead, IsAnswered}
 use Rattle.answers.specs.declared.job.Answered.{Answered}
-use Rattle.answers.proofs.FilledText.{filled-begun, longer, longer-begun, begun-text, tables-even}
+use Rattle.table_text.proofs.FilledText.{filled-begun, longer, longer-begun, begun-text}
+use Rattle.answers.proofs.EvenTables.{tables-even}
 
 -- no text's verdict is NoRoom
 below-never : (ls above : List (List ℕ)) → verdictBelow above ls ≡ Verdict·is.NoRoom → ⊥

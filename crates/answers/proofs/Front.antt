@@ -15,7 +15,7 @@ use Rattle.filling.specs.declared.lent.Rooms.{Rooms}
 use Rattle.filling.specs.SourceTables.{Tables}
 use Rattle.tables.specs.JobTables.{tablesOf}
 use Rattle.cells.specs.SheetJob.{jobOfSheet}
-use Rattle.answers.specs.TablesText.{tablesText}
+use Rattle.table_text.specs.TablesText.{tablesText}
 use Rattle.answers.specs.JobAnswer.{shownOfJob}
 use Rattle.answers.specs.SheetAnswer.{ofVerdict, answerOfText, ifRead, tablesOfText}
 use Rattle.answers.proofs.Answering.{verdict-never}

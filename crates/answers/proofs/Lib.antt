@@ -1,6 +1,5 @@
--- The tables as one text, what a job and a sheet are answered, how much of a text decides it, how much room is enough, and the cases
-pub mod TextLaws
-pub mod FilledText
+-- What a job and a sheet are answered, how much of a text decides it, how much room is enough, and the cases
+pub mod EvenTables
 pub mod Lending
 pub mod ReadJob
 pub mod Answering

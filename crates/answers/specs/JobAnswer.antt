@@ -11,7 +11,7 @@ use Rattle.outcome.specs.declared.grow.Proposed.{Proposed}
 use Rattle.proposer.specs.Answer.{answerOf}
 use Rattle.tables.specs.JobTables.{tablesOf}
 use Rattle.figures.specs.Figures.{shownOf}
-use Rattle.answers.specs.TablesText.{tablesText}
+use Rattle.table_text.specs.TablesText.{tablesText}
 use Rattle.answers.specs.SheetRooms.{roomsLent}
 use Rattle.answers.specs.declared.job.Answered.{Answered}
 

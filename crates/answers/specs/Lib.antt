@@ -1,5 +1,4 @@
--- What a job and a sheet's text are answered, and the tables as text
-pub mod TablesText
+-- What a job and a sheet's text are answered
 pub mod SheetRooms
 pub mod JobAnswer
 pub mod SheetAnswer

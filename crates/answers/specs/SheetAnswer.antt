@@ -11,7 +11,7 @@ use Rattle.filling.specs.declared.lent.Rooms.{Rooms}
 use Rattle.filling.specs.SourceTables.{Tables}
 use Rattle.tables.specs.JobTables.{noTables, tablesOf}
 use Rattle.cells.specs.SheetJob.{jobOfSheet}
-use Rattle.answers.specs.TablesText.{tablesText}
+use Rattle.table_text.specs.TablesText.{tablesText}
 use Rattle.answers.specs.SheetRooms.{roomsLent}
 use Rattle.answers.specs.JobAnswer.{shownOfJob}
 use Rattle.answers.specs.declared.job.Answered.{Answered}

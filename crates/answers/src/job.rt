@@ -1,5 +1,4 @@
 // The answer to a job and its tables, as text. The work tables stand here.
-use crate::lines::write_tables;
 use crate::room::GAP_ROWS;
 use crate::room::GAP_SEGMENT_ROWS;
 use crate::room::LINK_ROWS;
@@ -14,6 +13,7 @@ use proposer::propose::propose_split;
 use refusals::job::Parameters;
 use sheet::Written;
 use sheet::write_answer;
+use table_text::write::write_tables;
 ghost use mathlib.Core.Path.{_≡_};
 ghost use mathlib.Core.List.{map};
 ghost use Rattle.refusals.specs.Job.{jobOf, jobColumnsIn};

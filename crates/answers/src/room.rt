@@ -1,14 +1,14 @@
 // How many rows the work tables of a program that answers sheets have: enough for every sheet (proofs/Rooms).
-use crate::lines::GAP_LINE;
-use crate::lines::GAP_SEGMENT_LINE;
-use crate::lines::LINK_LINE;
-use crate::lines::USE_LINE;
 use columns::rows::shorter;
 use filling::lent::Rooms;
 use sheet::kinds::B;
 use sheet::kinds::S;
 use sheet::kinds::TABLE;
 use sheet::kinds::U;
+use table_text::write::GAP_LINE;
+use table_text::write::GAP_SEGMENT_LINE;
+use table_text::write::LINK_LINE;
+use table_text::write::USE_LINE;
 ghost use mathlib.Core.Path.{_≡_};
 ghost use Rattle.answers.specs.SheetRooms.{sheetRooms, roomsLent};
 

@@ -11,9 +11,9 @@ use Rattle.filling.specs.SourceTables.{WorkColumns, workColumns}
 use Rattle.filling.specs.declared.lent.Rooms.{Rooms}
 use Rattle.refusals.specs.Job.{JobColumns, jobOf}
 use Rattle.refusals.proofs.Columns.{columns-taken}
-use Rattle.answers.specs.TablesText.{columnsText}
+use Rattle.table_text.specs.TablesText.{columnsText}
 use Rattle.answers.specs.JobAnswer.{rowsOfProposed}
-use Rattle.answers.proofs.FilledText.{longer}
+use Rattle.table_text.proofs.FilledText.{longer}
 use Rattle.answers.proofs.Lending.{behindOf, lent-long, back-long, links-few, uses-few, gaps-few, segments-few, lent-rooms}
 use Rattle.answers.proofs.Answering.{tables-said, answer-said}
 use Rattle.answers.proofs.job.answer_job.Statement.{statement}

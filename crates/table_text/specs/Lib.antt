@@ -1,0 +1,2 @@
+-- A job's tables as text
+pub mod TablesText
