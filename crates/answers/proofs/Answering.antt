@@ -42,7 +42,7 @@ use Rattle.filling.specs.SourceTables.{Tables, freqsOf, tablesOfBest, WorkColum
 use Rattle.figures.specs.Figures.{shownOf}
 use Rattle.cells.specs.SheetJob.{jobOfSheet}
 use Rattle.table_text.specs.TablesText.{columnsText, rowsOfTables, tablesText}
-use Rattle.answers.specs.SheetRooms.{roomsLent}
+use Rattle.answers.specs.SheetRooms.{roomsWithin}
 use Rattle.answers.specs.JobAnswer.{shownOfJob, linksUsed, rowsOfProposed, IsAnsweredJob}
 use Rattle.answers.specs.SheetAnswer.{ofVerdict, ifRead, IsAnswered}
 use Rattle.answers.specs.declared.job.Answered.{Answered}
@@ -91,7 +91,7 @@ module _ (job : Job) (n : ℕ) (counted : n ≡ length (job .blocks)) where
 
 -- a job that was proposed, with tables of the rows lent
 module _ {job : Job} (asked : Rooms) {lent now : WorkColumns} {p : Proposed} (proposed : IsProposed job lent now p)
-    (rooms : roomsOf lent ≡ roomsLent asked) where
+    (rooms : roomsOf lent ≡ roomsWithin asked) where
   -- as many rows as the tables have
   rows-said : (blocks : ℕ) → blocks ≡ length (job .blocks) → rowsOfProposed p blocks ≡ rowsOfTables (tablesOf job (roomsOf lent))
   rows-said blocks counted =
@@ -100,14 +100,14 @@ module _ {job : Job} (asked : Rooms) {lent now : WorkColumns} {p : Proposed} (pr
 
   -- the text of the columns, and of any longer ones, is that of the tables
   pub tables-said : (more : WorkColumns) (blocks : ℕ) → blocks ≡ length (job .blocks)
-      → columnsText (longer now more) (rowsOfProposed p blocks) ≡ tablesText (tablesOf job (roomsLent asked))
+      → columnsText (longer now more) (rowsOfProposed p blocks) ≡ tablesText (tablesOf job (roomsWithin asked))
   tables-said more blocks counted =
       ap (columnsText (longer now more)) (rows-said blocks counted)
       ∙ begun-text (longer-begun more (filled-begun lent (proposed .tables))) (tables-even job (roomsOf lent))
       ∙ ap (λ (r : Rooms). tablesText (tablesOf job r)) rooms
 
   -- the answer is that of the job
-  pub answer-said : shownOf (job .k) (p .answer) ≡ shownOfJob job (roomsLent asked)
+  pub answer-said : shownOf (job .k) (p .answer) ≡ shownOfJob job (roomsWithin asked)
   answer-said = ap (shownOf (job .k)) (proposed .answer) ∙ ap (λ (r : Rooms). shownOf (job .k) (answerOf job r)) rooms
 
 -- no text at all
@@ -126,8 +126,8 @@ pub refused-answered : (text : List ℕ) (asked : Rooms) (number line : ℕ) →
 refused-answered text asked number line e {out} {out-now} tables {w} wrote =
     let job = jobOfSheet (sheetOf text) in
     record {
-      answer = subst (λ (v : Verdict). Wrote (answerText (ofVerdict v (shownOfJob job (roomsLent asked)))) out out-now w) (sym e) wrote;
-      tables = subst (λ (v : Verdict). Wrote (tablesText (ifRead v (tablesOf job (roomsLent asked)))) tables tables (Written·is.Bytes 0)) (sym e)
+      answer = subst (λ (v : Verdict). Wrote (answerText (ofVerdict v (shownOfJob job (roomsWithin asked)))) out out-now w) (sym e) wrote;
+      tables = subst (λ (v : Verdict). Wrote (tablesText (ifRead v (tablesOf job (roomsWithin asked)))) tables tables (Written·is.Bytes 0)) (sym e)
           (subst (λ (x : List ℕ). Wrote x tables tables (Written·is.Bytes 0)) (sym no-text) (nothing-wrote tables));
     }
 
@@ -140,6 +140,6 @@ sheet-answered text asked e {job} same {out} {out-now} {tables} {tables-now} {a}
     subst (λ (j : Job). IsAnsweredJob j asked out out-now tables tables-now a) same said in
     let j = jobOfSheet (sheetOf text) in
     record {
-      answer = subst (λ (v : Verdict). Wrote (answerText (ofVerdict v (shownOfJob j (roomsLent asked)))) out out-now (a .answer)) (sym e) (own .answer);
-      tables = subst (λ (v : Verdict). Wrote (tablesText (ifRead v (tablesOf j (roomsLent asked)))) tables tables-now (a .tables)) (sym e) (own .tables);
+      answer = subst (λ (v : Verdict). Wrote (answerText (ofVerdict v (shownOfJob j (roomsWithin asked)))) out out-now (a .answer)) (sym e) (own .answer);
+      tables = subst (λ (v : Verdict). Wrote (tablesText (ifRead v (tablesOf j (roomsWithin asked)))) tables tables-now (a .tables)) (sym e) (own .tables);
     }

@@ -9,7 +9,7 @@ use Rattle.sheet.specs.Refusal.{verdict, sheetOf}
 use Rattle.sheet.specs.Answer.{answerText}
 use Rattle.sheet.specs.declared.check.Verdict.{Verdict}
 use Rattle.sheet.specs.declared.check.Verdict.the-variants as Verdict·is
-use Rattle.sheet.specs.Kinds.{widest, longest}
+use Rattle.sheet.specs.Kinds.{widest, longestText}
 use Rattle.sheet.proofs.Prefix.{sheet-short, front-decides}
 use Rattle.filling.specs.declared.lent.Rooms.{Rooms}
 use Rattle.filling.specs.SourceTables.{Tables}
@@ -21,7 +21,7 @@ use Rattle.answers.specs.SheetAnswer.{ofVerdict, answerOfText, ifRead, t
 use Rattle.answers.proofs.Answering.{verdict-never}
 
 -- as much of a text as a sheet and a line more, or further
-module _ (text : List ℕ) (n : ℕ) (long : longest + widest ≤ n) where
+module _ (text : List ℕ) (n : ℕ) (long : longestText + widest ≤ n) where
   -- a sheet lies in it whole
   pub sheet-whole : verdict text ≡ Verdict·is.Sound → take n text ≡ text
   sheet-whole e = take-all n text (omega (arith, sheet-short text e))

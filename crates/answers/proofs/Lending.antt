@@ -10,7 +10,7 @@ use lib.Seq.{length-take-le}
 use Rattle.columns.specs.Table.{shortest}
 use Rattle.filling.specs.SourceTables.{WorkColumns, workColumns, roomsOf}
 use Rattle.filling.specs.declared.lent.Rooms.{Rooms}
-use Rattle.answers.specs.SheetRooms.{sheetRooms, roomsLent}
+use Rattle.answers.specs.SheetRooms.{sheetRooms, roomsWithin}
 
 abbrev none : Float
 none = ofBits binary32 0
@@ -65,7 +65,7 @@ module _ {A : Type 0} (N n : ℕ) (a : A) (h : n ≤ N) where
       sym (length-append last (drop n (replicate N a)) ∙ omega (arith, d, l, h))
 
 -- the rows lent are few
-module _ (asked : Rooms) {r : Rooms} (e : r ≡ roomsLent asked) where
+module _ (asked : Rooms) {r : Rooms} (e : r ≡ roomsWithin asked) where
   pub links-few : r .links ≤ 128
   links-few = omega (arith, ap (λ (x : Rooms). x .links) e, min-le-right (asked .links) 128)
 
@@ -102,5 +102,5 @@ module _ (asked : Rooms) {r : Rooms} (e : r ≡ roomsLent asked) where
       let segments : roomsOf (lentOf r) .«gap_segments» ≡ r .«gap_segments» = (λ i. shortest (s i ∷ s i ∷ s i ∷ s i ∷ [])) ∙ four (r .«gap_segments») in
       λ i. record { uses = uses i; gaps = gaps i; «gap_segments» = segments i; links = links i }
 
-  pub lent-rooms : roomsOf (lentOf r) ≡ roomsLent asked
+  pub lent-rooms : roomsOf (lentOf r) ≡ roomsWithin asked
   lent-rooms = rooms-own ∙ e

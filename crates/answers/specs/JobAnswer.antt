@@ -12,7 +12,7 @@ use Rattle.proposer.specs.Answer.{answerOf}
 use Rattle.tables.specs.JobTables.{tablesOf}
 use Rattle.figures.specs.Figures.{shownOf}
 use Rattle.table_text.specs.TablesText.{tablesText}
-use Rattle.answers.specs.SheetRooms.{roomsLent}
+use Rattle.answers.specs.SheetRooms.{roomsWithin}
 use Rattle.answers.specs.declared.job.Answered.{Answered}
 
 -- the answer to a job in figures, where the work tables have so many rows
@@ -21,8 +21,8 @@ shownOfJob job rooms = shownOf (job .k) (answerOf job rooms)
 
 -- what the call leaves where so many rows are asked for: the answer's text, and that of the tables; a refused job has none
 pub record IsAnsweredJob (job : Job) (asked : Rooms) (out out-now lines lines-now : List ℕ) (r : Answered) : Type 0 where
-  pub answer : Wrote (answerText (shownOfJob job (roomsLent asked))) out out-now (r .answer)
-  pub tables : Wrote (tablesText (tablesOf job (roomsLent asked))) lines lines-now (r .tables)
+  pub answer : Wrote (answerText (shownOfJob job (roomsWithin asked))) out out-now (r .answer)
+  pub tables : Wrote (tablesText (tablesOf job (roomsWithin asked))) lines lines-now (r .tables)
 
 -- ---- for contracts of private functions
 -- how many links are filled: one a block, and none where the job is refused

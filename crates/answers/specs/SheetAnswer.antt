@@ -12,7 +12,7 @@ use Rattle.filling.specs.SourceTables.{Tables}
 use Rattle.tables.specs.JobTables.{noTables, tablesOf}
 use Rattle.cells.specs.SheetJob.{jobOfSheet}
 use Rattle.table_text.specs.TablesText.{tablesText}
-use Rattle.answers.specs.SheetRooms.{roomsLent}
+use Rattle.answers.specs.SheetRooms.{roomsWithin}
 use Rattle.answers.specs.JobAnswer.{shownOfJob}
 use Rattle.answers.specs.declared.job.Answered.{Answered}
 
@@ -38,5 +38,5 @@ tablesOfText text rooms = ifRead (verdict text) (tablesOf (jobOfSheet (sheetOf t
 
 -- what the call leaves where so many rows are asked for: the answer's text, and that of the tables
 pub record IsAnswered (text : List ℕ) (asked : Rooms) (out out-now lines lines-now : List ℕ) (r : Answered) : Type 0 where
-  pub answer : Wrote (answerOfText text (roomsLent asked)) out out-now (r .answer)
-  pub tables : Wrote (tablesText (tablesOfText text (roomsLent asked))) lines lines-now (r .tables)
+  pub answer : Wrote (answerOfText text (roomsWithin asked)) out out-now (r .answer)
+  pub tables : Wrote (tablesText (tablesOfText text (roomsWithin asked))) lines lines-now (r .tables)

@@ -14,8 +14,8 @@ sheetRooms =
     }
 
 -- the rows that are lent where so many are asked for: no more than that
-abbrev pub roomsLent : Rooms → Rooms
-roomsLent asked =
+abbrev pub roomsWithin : Rooms → Rooms
+roomsWithin asked =
     record {
       uses = min (asked .uses) (sheetRooms .uses);
       gaps = min (asked .gaps) (sheetRooms .gaps);

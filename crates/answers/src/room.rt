@@ -10,7 +10,7 @@ use table_text::write::GAP_SEGMENT_LINE;
 use table_text::write::LINK_LINE;
 use table_text::write::USE_LINE;
 ghost use mathlib.Core.Path.{_≡_};
-ghost use Rattle.answers.specs.SheetRooms.{sheetRooms, roomsLent};
+ghost use Rattle.answers.specs.SheetRooms.{sheetRooms, roomsWithin};
 
 pub const USE_ROWS: usize = TABLE[U].limit + 2;
 
@@ -43,7 +43,7 @@ pub fn sheet_rooms() -> Rooms
 
 // The rows that are lent where so many are asked for: no more than there are.
 pub(crate) fn rooms_lent(asked: Rooms) -> Rooms
-    ensures { λ r. ⌜ r ≡ roomsLent asked ⌝ }
+    ensures { λ r. ⌜ r ≡ roomsWithin asked ⌝ }
 {
     Rooms {
         uses: shorter(asked.uses, USE_ROWS),

@@ -9,7 +9,7 @@ use native.Mathlib.Nat.{mul-le-mul-right, add-mul, one-mul, add-zero}
 use native.Mathlib.Decide.{ℕ-discrete}
 use lib.ListN.{length, getD, set, take, drop, replicate, length-append}
 use lib.Seq.{take-all, take-take, getD-take, length-take-le, getD-set-same, getD-set-other}
-use Rattle.sheet.specs.Kinds.{kinds, kindAt, fields, limit, width, widest, kindOf, bytes, longest}
+use Rattle.sheet.specs.Kinds.{kinds, kindAt, fields, limit, width, widest, kindOf, bytes, longestText}
 use Rattle.sheet.specs.Sheet.{linesText, Sheet, textFrom, render, IsSheet}
 use Rattle.sheet.specs.Refusal.{verdict, sheetOf}
 use Rattle.sheet.specs.Next.{nextAt}
@@ -75,8 +75,8 @@ module _ (counts : List ℕ) (k : ℕ) (inside : k < length counts) where
           let e : getD more n 0 * width n ≡ getD counts n 0 * width n = ap (λ (j : ℕ). j * width n) (getD-set-other counts k n (getD counts k 0 + 1) 0 q) in
           omega (arith, later (omega arith))
 
-upto-most : (text counts : List ℕ) (lines m at : ℕ) → Upto text counts lines m at → bytes kinds (rowsOf counts) ≤ longest
-unfolding longest
+upto-most : (text counts : List ℕ) (lines m at : ℕ) → Upto text counts lines m at → bytes kinds (rowsOf counts) ≤ longestText
+unfolding longestText
 upto-most text counts lines m at u =
     omega (arith, bytes-most kinds (rowsOf counts) limit (λ k h. omega (arith, u .rows k h, u .within k h)))
 
@@ -99,8 +99,8 @@ module _ (s : Sheet) (is : IsSheet s) where
       )
 
 -- a text that is a sheet within the limits has no more
-pub sheet-short : (text : List ℕ) → verdict text ≡ Sound → length text ≤ longest
-unfolding render bytes longest
+pub sheet-short : (text : List ℕ) → verdict text ≡ Sound → length text ≤ longestText
+unfolding render bytes longestText
 sheet-short text e =
     let t = sound-sheet text e in
     omega (
@@ -111,7 +111,7 @@ sheet-short text e =
     )
 
 -- the front of a text has its verdict: line by line the same is said of both
-module _ (text : List ℕ) (n : ℕ) (long : longest + widest ≤ n) (longer : n < length text) where
+module _ (text : List ℕ) (n : ℕ) (long : longestText + widest ≤ n) (longer : n < length text) where
   front : List ℕ
   front = take n text
 
@@ -122,7 +122,7 @@ module _ (text : List ℕ) (n : ℕ) (long : longest + widest ≤ n) (longer : n
   -- from any place on, where so many bytes more are past the longest sheet
   abbrev Same : ℕ → Type 0
   Same fuel =
-      (counts : List ℕ) (lines m at : ℕ) → Upto text counts lines m at → Upto front counts lines m at → at ≡ bytes kinds (rowsOf counts) → longest < at + fuel
+      (counts : List ℕ) (lines m at : ℕ) → Upto text counts lines m at → Upto front counts lines m at → at ≡ bytes kinds (rowsOf counts) → longestText < at + fuel
       → verdict front ≡ verdict text
 
   go : (fuel : ℕ) → Same fuel
@@ -131,7 +131,7 @@ module _ (text : List ℕ) (n : ℕ) (long : longest + widest ≤ n) (longer : n
   go (suc fuel) counts lines m at u v spent f =
       by (nextAt text at lines m) refl (go fuel)
     where
-      low : at ≤ longest
+      low : at ≤ longestText
       low = omega (arith, upto-most text counts lines m at u)
 
       a : at < length text
@@ -166,10 +166,10 @@ module _ (text : List ℕ) (n : ℕ) (long : longest + widest ≤ n) (longer : n
       by (Line k e) q later = count k e q (split (getD counts k 0) (limit k)) later
 
 -- the front of a text decides it
-pub front-decides : (text : List ℕ) (n : ℕ) → longest + widest ≤ n → verdict (take n text) ≡ verdict text
+pub front-decides : (text : List ℕ) (n : ℕ) → longestText + widest ≤ n → verdict (take n text) ≡ verdict text
 unfolding front bytes width fields kindAt
 front-decides text n h =
     ⊎-elim
-    (λ l. go text n h l (suc longest) (replicate kinds 0) 0 0 0 (upto-none text) (upto-none (take n text)) refl (omega arith))
+    (λ l. go text n h l (suc longestText) (replicate kinds 0) 0 0 0 (upto-none text) (upto-none (take n text)) refl (omega arith))
     (λ l. ap verdict (take-all n text l))
     (split n (length text))

@@ -2,7 +2,7 @@
 -- Assumes nothing.
 use mathlib.Core.Path.{_≡_, refl}
 use Rattle.sheet.specs.Kinds.{kindP, kindB, kindV, kindS, kindU, kindW, kindE, kindF, kinds, kindAt, fields, limit, width, widestTo, widest, position}
-use Rattle.sheet.specs.Kinds.{kindOf, base, cellCount, linesTo, mostLines, bytes, longest}
+use Rattle.sheet.specs.Kinds.{kindOf, base, cellCount, linesTo, mostLines, bytes, longestText}
 
 -- each name is the place of its letter: P B V S U W E F
 pub names-are : (kindOf 80 ≡ kindP) × (kindOf 66 ≡ kindB) × (kindOf 86 ≡ kindV) × (kindOf 83 ≡ kindS)
@@ -11,6 +11,6 @@ unfolding kindOf position
 names-are = (refl, refl, refl, refl, refl, refl, refl, refl)
 
 -- kinds, cells, lines, and the bytes of the longest sheet and of the longest line
-pub sizes-are : (kinds ≡ 8) × (cellCount ≡ 4101) × (mostLines ≡ 1153) × (longest ≡ 47417) × (widest ≡ 68)
-unfolding cellCount base mostLines linesTo longest bytes widest widestTo width fields limit kindAt
+pub sizes-are : (kinds ≡ 8) × (cellCount ≡ 4101) × (mostLines ≡ 1153) × (longestText ≡ 47417) × (widest ≡ 68)
+unfolding cellCount base mostLines linesTo longestText bytes widest widestTo width fields limit kindAt
 sizes-are = (refl, refl, refl, refl, refl)

@@ -149,5 +149,5 @@ bytes zero rows = 0
 bytes (suc n) rows = rows n * width n + bytes n rows
 
 -- the bytes of the longest sheet
-unfoldable pub longest : ℕ
-longest = bytes kinds limit
+unfoldable pub longestText : ℕ
+longestText = bytes kinds limit
