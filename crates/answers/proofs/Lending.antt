@@ -18,40 +18,40 @@ none = ofBits binary32 0
 abbrev pub lentOf : Rooms → WorkColumns
 lentOf r =
     workColumns
-    (take (r .links) (replicate 128 0))
-    (take (r .links) (replicate 128 0))
-    (take (r .uses) (replicate 258 0))
-    (take (r .uses) (replicate 258 none))
-    (take (r .uses) (replicate 258 none))
-    (take (r .uses) (replicate 258 none))
-    (take (r .gaps) (replicate 386 0))
-    (take (r .gaps) (replicate 386 0))
-    (take (r .gaps) (replicate 386 none))
-    (take (r .gaps) (replicate 386 0))
-    (take (r .gaps) (replicate 386 none))
-    (take (r .«gap_segments») (replicate 514 0))
-    (take (r .«gap_segments») (replicate 514 0))
-    (take (r .«gap_segments») (replicate 514 0))
-    (take (r .«gap_segments») (replicate 514 0))
+    (take (r .links) (replicate (sheetRooms .links) 0))
+    (take (r .links) (replicate (sheetRooms .links) 0))
+    (take (r .uses) (replicate (sheetRooms .uses) 0))
+    (take (r .uses) (replicate (sheetRooms .uses) none))
+    (take (r .uses) (replicate (sheetRooms .uses) none))
+    (take (r .uses) (replicate (sheetRooms .uses) none))
+    (take (r .gaps) (replicate (sheetRooms .gaps) 0))
+    (take (r .gaps) (replicate (sheetRooms .gaps) 0))
+    (take (r .gaps) (replicate (sheetRooms .gaps) none))
+    (take (r .gaps) (replicate (sheetRooms .gaps) 0))
+    (take (r .gaps) (replicate (sheetRooms .gaps) none))
+    (take (r .«gap_segments») (replicate (sheetRooms .«gap_segments») 0))
+    (take (r .«gap_segments») (replicate (sheetRooms .«gap_segments») 0))
+    (take (r .«gap_segments») (replicate (sheetRooms .«gap_segments») 0))
+    (take (r .«gap_segments») (replicate (sheetRooms .«gap_segments») 0))
 
 abbrev pub behindOf : Rooms → WorkColumns
 behindOf r =
     workColumns
-    (drop (r .links) (replicate 128 0))
-    (drop (r .links) (replicate 128 0))
-    (drop (r .uses) (replicate 258 0))
-    (drop (r .uses) (replicate 258 none))
-    (drop (r .uses) (replicate 258 none))
-    (drop (r .uses) (replicate 258 none))
-    (drop (r .gaps) (replicate 386 0))
-    (drop (r .gaps) (replicate 386 0))
-    (drop (r .gaps) (replicate 386 none))
-    (drop (r .gaps) (replicate 386 0))
-    (drop (r .gaps) (replicate 386 none))
-    (drop (r .«gap_segments») (replicate 514 0))
-    (drop (r .«gap_segments») (replicate 514 0))
-    (drop (r .«gap_segments») (replicate 514 0))
-    (drop (r .«gap_segments») (replicate 514 0))
+    (drop (r .links) (replicate (sheetRooms .links) 0))
+    (drop (r .links) (replicate (sheetRooms .links) 0))
+    (drop (r .uses) (replicate (sheetRooms .uses) 0))
+    (drop (r .uses) (replicate (sheetRooms .uses) none))
+    (drop (r .uses) (replicate (sheetRooms .uses) none))
+    (drop (r .uses) (replicate (sheetRooms .uses) none))
+    (drop (r .gaps) (replicate (sheetRooms .gaps) 0))
+    (drop (r .gaps) (replicate (sheetRooms .gaps) 0))
+    (drop (r .gaps) (replicate (sheetRooms .gaps) none))
+    (drop (r .gaps) (replicate (sheetRooms .gaps) 0))
+    (drop (r .gaps) (replicate (sheetRooms .gaps) none))
+    (drop (r .«gap_segments») (replicate (sheetRooms .«gap_segments») 0))
+    (drop (r .«gap_segments») (replicate (sheetRooms .«gap_segments») 0))
+    (drop (r .«gap_segments») (replicate (sheetRooms .«gap_segments») 0))
+    (drop (r .«gap_segments») (replicate (sheetRooms .«gap_segments») 0))
 
 -- the first n of an array's items, and an array that is whole again
 module _ {A : Type 0} (N n : ℕ) (a : A) (h : n ≤ N) where
@@ -66,17 +66,17 @@ module _ {A : Type 0} (N n : ℕ) (a : A) (h : n ≤ N) where
 
 -- the rows lent are few
 module _ (asked : Rooms) {r : Rooms} (e : r ≡ roomsWithin asked) where
-  pub links-few : r .links ≤ 128
-  links-few = omega (arith, ap (λ (x : Rooms). x .links) e, min-le-right (asked .links) 128)
+  pub links-few : r .links ≤ sheetRooms .links
+  links-few = omega (arith, ap (λ (x : Rooms). x .links) e, min-le-right (asked .links) (sheetRooms .links))
 
-  pub uses-few : r .uses ≤ 258
-  uses-few = omega (arith, ap (λ (x : Rooms). x .uses) e, min-le-right (asked .uses) 258)
+  pub uses-few : r .uses ≤ sheetRooms .uses
+  uses-few = omega (arith, ap (λ (x : Rooms). x .uses) e, min-le-right (asked .uses) (sheetRooms .uses))
 
-  pub gaps-few : r .gaps ≤ 386
-  gaps-few = omega (arith, ap (λ (x : Rooms). x .gaps) e, min-le-right (asked .gaps) 386)
+  pub gaps-few : r .gaps ≤ sheetRooms .gaps
+  gaps-few = omega (arith, ap (λ (x : Rooms). x .gaps) e, min-le-right (asked .gaps) (sheetRooms .gaps))
 
-  pub segments-few : r .«gap_segments» ≤ 514
-  segments-few = omega (arith, ap (λ (x : Rooms). x .«gap_segments») e, min-le-right (asked .«gap_segments») 514)
+  pub segments-few : r .«gap_segments» ≤ sheetRooms .«gap_segments»
+  segments-few = omega (arith, ap (λ (x : Rooms). x .«gap_segments») e, min-le-right (asked .«gap_segments») (sheetRooms .«gap_segments»))
 
   -- each table has as many
   same : (n : ℕ) → min n n ≡ n
@@ -90,12 +90,12 @@ module _ (asked : Rooms) {r : Rooms} (e : r ≡ roomsWithin asked) where
 
   rooms-own : roomsOf (lentOf r) ≡ r
   rooms-own =
-      let l = sym (lent-long {A = ℕ} 128 (r .links) 0 links-few) in
-      let u = sym (lent-long {A = ℕ} 258 (r .uses) 0 uses-few) in
-      let v = sym (lent-long {A = Float} 258 (r .uses) none uses-few) in
-      let g = sym (lent-long {A = ℕ} 386 (r .gaps) 0 gaps-few) in
-      let w = sym (lent-long {A = Float} 386 (r .gaps) none gaps-few) in
-      let s = sym (lent-long {A = ℕ} 514 (r .«gap_segments») 0 segments-few) in
+      let l = sym (lent-long {A = ℕ} (sheetRooms .links) (r .links) 0 links-few) in
+      let u = sym (lent-long {A = ℕ} (sheetRooms .uses) (r .uses) 0 uses-few) in
+      let v = sym (lent-long {A = Float} (sheetRooms .uses) (r .uses) none uses-few) in
+      let g = sym (lent-long {A = ℕ} (sheetRooms .gaps) (r .gaps) 0 gaps-few) in
+      let w = sym (lent-long {A = Float} (sheetRooms .gaps) (r .gaps) none gaps-few) in
+      let s = sym (lent-long {A = ℕ} (sheetRooms .«gap_segments») (r .«gap_segments») 0 segments-few) in
       let links : roomsOf (lentOf r) .links ≡ r .links = (λ i. min (l i) (l i)) ∙ same (r .links) in
       let uses : roomsOf (lentOf r) .uses ≡ r .uses = (λ i. shortest (u i ∷ v i ∷ v i ∷ v i ∷ [])) ∙ four (r .uses) in
       let gaps : roomsOf (lentOf r) .gaps ≡ r .gaps = (λ i. shortest (g i ∷ g i ∷ w i ∷ g i ∷ w i ∷ [])) ∙ five (r .gaps) in

@@ -122,7 +122,8 @@ module _ (text : List ℕ) (n : ℕ) (long : longestText + widest ≤ n) (longer
   -- from any place on, where so many bytes more are past the longest sheet
   abbrev Same : ℕ → Type 0
   Same fuel =
-      (counts : List ℕ) (lines m at : ℕ) → Upto text counts lines m at → Upto front counts lines m at → at ≡ bytes kinds (rowsOf counts) → longestText < at + fuel
+      (counts : List ℕ) (lines m at : ℕ) → Upto text counts lines m at → Upto front counts lines m at → at ≡ bytes kinds (rowsOf counts) →
+      longestText < at + fuel
       → verdict front ≡ verdict text
 
   go : (fuel : ℕ) → Same fuel

@@ -13,7 +13,8 @@ use Rattle.use_rows.specs.declared.row.SplitUse.{SplitUse}
 use Rattle.overlaps.specs.GapSegments.{Overlap}
 use Rattle.gaps.specs.Gaps.{Gap, gapWeight}
 use Rattle.filling.specs.SourceTables.{Tables, WorkColumns, workColumns, FilledBy}
-use Rattle.table_text.specs.TablesText.{numberIn, bitsIn, linkLine, useLine, gapLine, gapSegmentLine, columnsText, columnsOfTables, rowsOfTables, tablesText}
+use Rattle.table_text.specs.TablesText.{numberIn, bitsIn, linkLine, useLine, gapLine}
+use Rattle.table_text.specs.TablesText.{gapSegmentLine, columnsText, columnsOfTables, rowsOfTables, tablesText}
 
 -- lists that are the same one by one, joined
 joined-same : {A : Type 0} (f g : ℕ → List A) (i n : ℕ) → ((k : ℕ) → k < i + n → f k ≡ g k) → joined f i n ≡ joined g i n

@@ -14,6 +14,7 @@ use Rattle.refusals.proofs.Columns.{columns-taken}
 use Rattle.table_text.specs.TablesText.{columnsText}
 use Rattle.answers.specs.JobAnswer.{rowsOfProposed}
 use Rattle.table_text.proofs.FilledText.{longer}
+use Rattle.answers.specs.SheetRooms.{sheetRooms}
 use Rattle.answers.proofs.Lending.{behindOf, lent-long, back-long, links-few, uses-few, gaps-few, segments-few, lent-rooms}
 use Rattle.answers.proofs.Answering.{tables-said, answer-said}
 use Rattle.answers.proofs.job.answer_job.Statement.{statement}
@@ -26,91 +27,107 @@ array-borrow-prefix-prev : tie.Need-array-borrow-prefix-prev
 array-borrow-prefix-prev c = let q = c .rooms-lent in links-few _ (q .ensures)
 
 slice-aggregate-propose-split : tie.Need-slice-aggregate-propose-split
-slice-aggregate-propose-split c = let q = c .before .rooms-lent in lent-long 128 (q .result .links) 0 (links-few _ (q .ensures))
+slice-aggregate-propose-split c = let q = c .before .rooms-lent in lent-long (sheetRooms .links) (q .result .links) 0 (links-few _ (q .ensures))
 
 array-borrow-prefix-next : tie.Need-array-borrow-prefix-next
 array-borrow-prefix-next c = let q = c .before .rooms-lent in links-few _ (q .ensures)
 
 slice-aggregate-propose-split-2 : tie.Need-slice-aggregate-propose-split-2
-slice-aggregate-propose-split-2 c = let q = c .before .before .rooms-lent in lent-long 128 (q .result .links) 0 (links-few _ (q .ensures))
+slice-aggregate-propose-split-2 c = let q = c .before .before .rooms-lent in lent-long (sheetRooms .links) (q .result .links) 0 (links-few _ (q .ensures))
 
 array-borrow-prefix-inst : tie.Need-array-borrow-prefix-inst
 array-borrow-prefix-inst c = let q = c .before .before .rooms-lent in uses-few _ (q .ensures)
 
 slice-aggregate-propose-split-3 : tie.Need-slice-aggregate-propose-split-3
-slice-aggregate-propose-split-3 c = let q = c .before .before .before .rooms-lent in lent-long 258 (q .result .uses) 0 (uses-few _ (q .ensures))
+slice-aggregate-propose-split-3 c = let q = c .before .before .before .rooms-lent in lent-long (sheetRooms .uses) (q .result .uses) 0 (uses-few _ (q .ensures))
 
 array-borrow-prefix-weight : tie.Need-array-borrow-prefix-weight
 array-borrow-prefix-weight c = let q = c .before .before .before .rooms-lent in uses-few _ (q .ensures)
 
 slice-aggregate-propose-split-4 : tie.Need-slice-aggregate-propose-split-4
-slice-aggregate-propose-split-4 c = let q = c .before .before .before .before .rooms-lent in lent-long 258 (q .result .uses) (ofBits binary32 0) (uses-few _ (q .ensures))
+slice-aggregate-propose-split-4 c = let q = c .before .before .before .before .rooms-lent in lent-long (sheetRooms .uses) (q .result .uses) (ofBits
+    binary32 0) (uses-few _ (q .ensures))
 
 array-borrow-prefix-left : tie.Need-array-borrow-prefix-left
 array-borrow-prefix-left c = let q = c .before .before .before .before .rooms-lent in uses-few _ (q .ensures)
 
 slice-aggregate-propose-split-5 : tie.Need-slice-aggregate-propose-split-5
-slice-aggregate-propose-split-5 c = let q = c .before .before .before .before .before .rooms-lent in lent-long 258 (q .result .uses) (ofBits binary32 0) (uses-few _ (q .ensures))
+slice-aggregate-propose-split-5 c = let q = c .before .before .before .before .before .rooms-lent in
+    lent-long (sheetRooms .uses) (q .result .uses) (ofBits binary32 0) (uses-few _ (q .ensures))
 
 array-borrow-prefix-right : tie.Need-array-borrow-prefix-right
 array-borrow-prefix-right c = let q = c .before .before .before .before .before .rooms-lent in uses-few _ (q .ensures)
 
 slice-aggregate-propose-split-6 : tie.Need-slice-aggregate-propose-split-6
-slice-aggregate-propose-split-6 c = let q = c .before .before .before .before .before .before .rooms-lent in lent-long 258 (q .result .uses) (ofBits binary32 0) (uses-few _ (q .ensures))
+slice-aggregate-propose-split-6 c = let q = c .before .before .before .before .before .before .rooms-lent in
+    lent-long (sheetRooms .uses) (q .result .uses) (ofBits binary32 0) (uses-few _ (q .ensures))
 
 array-borrow-prefix-gap-from : tie.Need-array-borrow-prefix-gap-from
 array-borrow-prefix-gap-from c = let q = c .before .before .before .before .before .before .rooms-lent in gaps-few _ (q .ensures)
 
 slice-aggregate-propose-split-7 : tie.Need-slice-aggregate-propose-split-7
-slice-aggregate-propose-split-7 c = let q = c .before .before .before .before .before .before .before .rooms-lent in lent-long 386 (q .result .gaps) 0 (gaps-few _ (q .ensures))
+slice-aggregate-propose-split-7 c = let q = c .before .before .before .before .before .before .before .rooms-lent in
+    lent-long (sheetRooms .gaps) (q .result .gaps) 0 (gaps-few _ (q .ensures))
 
 array-borrow-prefix-gap-to : tie.Need-array-borrow-prefix-gap-to
 array-borrow-prefix-gap-to c = let q = c .before .before .before .before .before .before .before .rooms-lent in gaps-few _ (q .ensures)
 
 slice-aggregate-propose-split-8 : tie.Need-slice-aggregate-propose-split-8
-slice-aggregate-propose-split-8 c = let q = c .before .before .before .before .before .before .before .before .rooms-lent in lent-long 386 (q .result .gaps) 0 (gaps-few _ (q .ensures))
+slice-aggregate-propose-split-8 c = let q = c .before .before .before .before .before .before .before .before .rooms-lent in
+    lent-long (sheetRooms .gaps) (q .result .gaps) 0 (gaps-few _ (q .ensures))
 
 array-borrow-prefix-gap-weight : tie.Need-array-borrow-prefix-gap-weight
 array-borrow-prefix-gap-weight c = let q = c .before .before .before .before .before .before .before .before .rooms-lent in gaps-few _ (q .ensures)
 
 slice-aggregate-propose-split-9 : tie.Need-slice-aggregate-propose-split-9
-slice-aggregate-propose-split-9 c = let q = c .before .before .before .before .before .before .before .before .before .rooms-lent in lent-long 386 (q .result .gaps) (ofBits binary32 0) (gaps-few _ (q .ensures))
+slice-aggregate-propose-split-9 c = let q = c .before .before .before .before .before .before .before .before .before .rooms-lent in
+    lent-long (sheetRooms .gaps) (q .result .gaps) (ofBits binary32 0) (gaps-few _ (q .ensures))
 
 array-borrow-prefix-live : tie.Need-array-borrow-prefix-live
 array-borrow-prefix-live c = let q = c .before .before .before .before .before .before .before .before .before .rooms-lent in gaps-few _ (q .ensures)
 
 slice-aggregate-propose-split-10 : tie.Need-slice-aggregate-propose-split-10
-slice-aggregate-propose-split-10 c = let q = c .before .before .before .before .before .before .before .before .before .before .rooms-lent in lent-long 386 (q .result .gaps) 0 (gaps-few _ (q .ensures))
+slice-aggregate-propose-split-10 c = let q = c .before .before .before .before .before .before .before .before .before .before .rooms-lent in
+    lent-long (sheetRooms .gaps) (q .result .gaps) 0 (gaps-few _ (q .ensures))
 
 array-borrow-prefix-freq : tie.Need-array-borrow-prefix-freq
 array-borrow-prefix-freq c = let q = c .before .before .before .before .before .before .before .before .before .before .rooms-lent in gaps-few _ (q .ensures)
 
 slice-aggregate-propose-split-11 : tie.Need-slice-aggregate-propose-split-11
-slice-aggregate-propose-split-11 c = let q = c .before .before .before .before .before .before .before .before .before .before .before .rooms-lent in lent-long 386 (q .result .gaps) (ofBits binary32 0) (gaps-few _ (q .ensures))
+slice-aggregate-propose-split-11 c = let q = c .before .before .before .before .before .before .before .before .before .before .before .rooms-lent in
+    lent-long (sheetRooms .gaps) (q .result .gaps) (ofBits binary32 0) (gaps-few _ (q .ensures))
 
 array-borrow-prefix-segment-from : tie.Need-array-borrow-prefix-segment-from
-array-borrow-prefix-segment-from c = let q = c .before .before .before .before .before .before .before .before .before .before .before .rooms-lent in segments-few _ (q .ensures)
+array-borrow-prefix-segment-from c = let q = c .before .before .before .before .before .before .before .before .before .before .before .rooms-lent in
+    segments-few _ (q .ensures)
 
 slice-aggregate-propose-split-12 : tie.Need-slice-aggregate-propose-split-12
-slice-aggregate-propose-split-12 c = let q = c .before .before .before .before .before .before .before .before .before .before .before .before .rooms-lent in lent-long 514 (q .result .«gap_segments») 0 (segments-few _ (q .ensures))
+slice-aggregate-propose-split-12 c = let q = c .before .before .before .before .before .before .before .before .before .before .before .before
+    .rooms-lent in lent-long (sheetRooms .«gap_segments») (q .result .«gap_segments») 0 (segments-few _ (q .ensures))
 
 array-borrow-prefix-segment-to : tie.Need-array-borrow-prefix-segment-to
-array-borrow-prefix-segment-to c = let q = c .before .before .before .before .before .before .before .before .before .before .before .before .rooms-lent in segments-few _ (q .ensures)
+array-borrow-prefix-segment-to c = let q = c .before .before .before .before .before .before .before .before .before .before .before .before
+    .rooms-lent in segments-few _ (q .ensures)
 
 slice-aggregate-propose-split-13 : tie.Need-slice-aggregate-propose-split-13
-slice-aggregate-propose-split-13 c = let q = c .before .before .before .before .before .before .before .before .before .before .before .before .before .rooms-lent in lent-long 514 (q .result .«gap_segments») 0 (segments-few _ (q .ensures))
+slice-aggregate-propose-split-13 c = let q = c .before .before .before .before .before .before .before .before .before .before .before .before
+    .before .rooms-lent in lent-long (sheetRooms .«gap_segments») (q .result .«gap_segments») 0 (segments-few _ (q .ensures))
 
 array-borrow-prefix-segment-value : tie.Need-array-borrow-prefix-segment-value
-array-borrow-prefix-segment-value c = let q = c .before .before .before .before .before .before .before .before .before .before .before .before .before .rooms-lent in segments-few _ (q .ensures)
+array-borrow-prefix-segment-value c = let q = c .before .before .before .before .before .before .before .before .before .before .before .before
+    .before .rooms-lent in segments-few _ (q .ensures)
 
 slice-aggregate-propose-split-14 : tie.Need-slice-aggregate-propose-split-14
-slice-aggregate-propose-split-14 c = let q = c .before .before .before .before .before .before .before .before .before .before .before .before .before .before .rooms-lent in lent-long 514 (q .result .«gap_segments») 0 (segments-few _ (q .ensures))
+slice-aggregate-propose-split-14 c = let q = c .before .before .before .before .before .before .before .before .before .before .before .before
+    .before .before .rooms-lent in lent-long (sheetRooms .«gap_segments») (q .result .«gap_segments») 0 (segments-few _ (q .ensures))
 
 array-borrow-prefix-segment-gap : tie.Need-array-borrow-prefix-segment-gap
-array-borrow-prefix-segment-gap c = let q = c .before .before .before .before .before .before .before .before .before .before .before .before .before .before .rooms-lent in segments-few _ (q .ensures)
+array-borrow-prefix-segment-gap c = let q = c .before .before .before .before .before .before .before .before .before .before .before .before .before
+    .before .rooms-lent in segments-few _ (q .ensures)
 
 slice-aggregate-propose-split-15 : tie.Need-slice-aggregate-propose-split-15
-slice-aggregate-propose-split-15 c = let q = c .before .before .before .before .before .before .before .before .before .before .before .before .before .before .before .rooms-lent in lent-long 514 (q .result .«gap_segments») 0 (segments-few _ (q .ensures))
+slice-aggregate-propose-split-15 c = let q = c .before .before .before .before .before .before .before .before .before .before .before .before
+    .before .before .before .rooms-lent in lent-long (sheetRooms .«gap_segments») (q .result .«gap_segments») 0 (segments-few _ (q .ensures))
 
 propose-split-requires : tie.Need-propose-split-requires
 propose-split-requires c κs = search needs
@@ -142,93 +159,124 @@ lent-at c = c .before .before .before .before .before .before .before .before .b
 
 slice-aggregate-write-tables : tie.Need-slice-aggregate-write-tables
 slice-aggregate-write-tables c =
-    let p = c .before .before .before .before .before .before .before .before .before .before .before .before .before .before .before .before .before .before .before .before .before .before .before .before .before .before in
+    let p = c .before .before .before .before .before .before .before .before .before .before .before .before .before .before .before .before .before
+    .before .before .before .before .before .before .before .before .before in
     let q = lent-at p .rooms-lent in
-    back-long 128 (q .result .links) 0 (links-few _ (q .ensures)) (p .propose-split .last .1 .1 .0) (p .propose-split .kept .1 .1 .0)
+    back-long (sheetRooms .links) (q .result .links) 0 (links-few _ (q .ensures)) (p .propose-split .last .1 .1 .0) (p .propose-split .kept .1 .1 .0)
 
 slice-aggregate-write-tables-2 : tie.Need-slice-aggregate-write-tables-2
 slice-aggregate-write-tables-2 c =
-    let p = c .before .before .before .before .before .before .before .before .before .before .before .before .before .before .before .before .before .before .before .before .before .before .before .before .before .before .before in
+    let p = c .before .before .before .before .before .before .before .before .before .before .before .before .before .before .before .before .before
+    .before .before .before .before .before .before .before .before .before .before in
     let q = lent-at p .rooms-lent in
-    back-long 128 (q .result .links) 0 (links-few _ (q .ensures)) (p .propose-split .last .1 .1 .1 .0) (p .propose-split .kept .1 .1 .1 .0)
+    back-long (sheetRooms .links) (q .result .links) 0 (links-few _ (q .ensures)) (p .propose-split .last .1 .1 .1 .0) (p .propose-split .kept .1 .1 .1 .0)
 
 slice-aggregate-write-tables-3 : tie.Need-slice-aggregate-write-tables-3
 slice-aggregate-write-tables-3 c =
-    let p = c .before .before .before .before .before .before .before .before .before .before .before .before .before .before .before .before .before .before .before .before .before .before .before .before .before .before .before .before in
+    let p = c .before .before .before .before .before .before .before .before .before .before .before .before .before .before .before .before .before
+    .before .before .before .before .before .before .before .before .before .before .before in
     let q = lent-at p .rooms-lent in
-    back-long 258 (q .result .uses) 0 (uses-few _ (q .ensures)) (p .propose-split .last .1 .1 .1 .1 .0) (p .propose-split .kept .1 .1 .1 .1 .0)
+    back-long (sheetRooms .uses) (q .result .uses) 0 (uses-few _ (q .ensures)) (p .propose-split .last .1 .1 .1 .1 .0) (p .propose-split .kept .1 .1 .1 .1 .0)
 
 slice-aggregate-write-tables-4 : tie.Need-slice-aggregate-write-tables-4
 slice-aggregate-write-tables-4 c =
-    let p = c .before .before .before .before .before .before .before .before .before .before .before .before .before .before .before .before .before .before .before .before .before .before .before .before .before .before .before .before .before in
+    let p = c .before .before .before .before .before .before .before .before .before .before .before .before .before .before .before .before .before
+    .before .before .before .before .before .before .before .before .before .before .before .before in
     let q = lent-at p .rooms-lent in
-    back-long 258 (q .result .uses) (ofBits binary32 0) (uses-few _ (q .ensures)) (p .propose-split .last .1 .1 .1 .1 .1 .0) (p .propose-split .kept .1 .1 .1 .1 .1 .0)
+    back-long (sheetRooms .uses) (q .result .uses) (ofBits binary32 0) (uses-few _ (q .ensures)) (p .propose-split .last .1 .1 .1 .1 .1 .0) (p
+    .propose-split .kept .1 .1 .1 .1 .1 .0)
 
 slice-aggregate-write-tables-5 : tie.Need-slice-aggregate-write-tables-5
 slice-aggregate-write-tables-5 c =
-    let p = c .before .before .before .before .before .before .before .before .before .before .before .before .before .before .before .before .before .before .before .before .before .before .before .before .before .before .before .before .before .before in
+    let p = c .before .before .before .before .before .before .before .before .before .before .before .before .before .before .before .before .before
+    .before .before .before .before .before .before .before .before .before .before .before .before .before in
     let q = lent-at p .rooms-lent in
-    back-long 258 (q .result .uses) (ofBits binary32 0) (uses-few _ (q .ensures)) (p .propose-split .last .1 .1 .1 .1 .1 .1 .0) (p .propose-split .kept .1 .1 .1 .1 .1 .1 .0)
+    back-long (sheetRooms .uses) (q .result .uses) (ofBits binary32 0) (uses-few _ (q .ensures)) (p .propose-split .last .1 .1 .1 .1 .1 .1 .0) (p
+    .propose-split .kept .1 .1 .1 .1 .1 .1 .0)
 
 slice-aggregate-write-tables-6 : tie.Need-slice-aggregate-write-tables-6
 slice-aggregate-write-tables-6 c =
-    let p = c .before .before .before .before .before .before .before .before .before .before .before .before .before .before .before .before .before .before .before .before .before .before .before .before .before .before .before .before .before .before .before in
+    let p = c .before .before .before .before .before .before .before .before .before .before .before .before .before .before .before .before .before
+    .before .before .before .before .before .before .before .before .before .before .before .before .before .before in
     let q = lent-at p .rooms-lent in
-    back-long 258 (q .result .uses) (ofBits binary32 0) (uses-few _ (q .ensures)) (p .propose-split .last .1 .1 .1 .1 .1 .1 .1 .0) (p .propose-split .kept .1 .1 .1 .1 .1 .1 .1 .0)
+    back-long (sheetRooms .uses) (q .result .uses) (ofBits binary32 0) (uses-few _ (q .ensures)) (p .propose-split .last .1 .1 .1 .1 .1 .1 .1 .0) (p
+    .propose-split .kept .1 .1 .1 .1 .1 .1 .1 .0)
 
 slice-aggregate-write-tables-7 : tie.Need-slice-aggregate-write-tables-7
 slice-aggregate-write-tables-7 c =
-    let p = c .before .before .before .before .before .before .before .before .before .before .before .before .before .before .before .before .before .before .before .before .before .before .before .before .before .before .before .before .before .before .before .before in
+    let p = c .before .before .before .before .before .before .before .before .before .before .before .before .before .before .before .before .before
+    .before .before .before .before .before .before .before .before .before .before .before .before .before .before .before in
     let q = lent-at p .rooms-lent in
-    back-long 386 (q .result .gaps) 0 (gaps-few _ (q .ensures)) (p .propose-split .last .1 .1 .1 .1 .1 .1 .1 .1 .0) (p .propose-split .kept .1 .1 .1 .1 .1 .1 .1 .1 .0)
+    back-long (sheetRooms .gaps) (q .result .gaps) 0 (gaps-few _ (q .ensures)) (p .propose-split .last .1 .1 .1 .1 .1 .1 .1 .1 .0) (p .propose-split
+    .kept .1 .1 .1 .1 .1 .1 .1 .1 .0)
 
 slice-aggregate-write-tables-8 : tie.Need-slice-aggregate-write-tables-8
 slice-aggregate-write-tables-8 c =
-    let p = c .before .before .before .before .before .before .before .before .before .before .before .before .before .before .before .before .before .before .before .before .before .before .before .before .before .before .before .before .before .before .before .before .before in
+    let p = c .before .before .before .before .before .before .before .before .before .before .before .before .before .before .before .before .before
+    .before .before .before .before .before .before .before .before .before .before .before .before .before .before .before .before in
     let q = lent-at p .rooms-lent in
-    back-long 386 (q .result .gaps) 0 (gaps-few _ (q .ensures)) (p .propose-split .last .1 .1 .1 .1 .1 .1 .1 .1 .1 .0) (p .propose-split .kept .1 .1 .1 .1 .1 .1 .1 .1 .1 .0)
+    back-long (sheetRooms .gaps) (q .result .gaps) 0 (gaps-few _ (q .ensures)) (p .propose-split .last .1 .1 .1 .1 .1 .1 .1 .1 .1 .0) (p
+    .propose-split .kept .1 .1 .1 .1 .1 .1 .1 .1 .1 .0)
 
 slice-aggregate-write-tables-9 : tie.Need-slice-aggregate-write-tables-9
 slice-aggregate-write-tables-9 c =
-    let p = c .before .before .before .before .before .before .before .before .before .before .before .before .before .before .before .before .before .before .before .before .before .before .before .before .before .before .before .before .before .before .before .before .before .before in
+    let p = c .before .before .before .before .before .before .before .before .before .before .before .before .before .before .before .before .before
+    .before .before .before .before .before .before .before .before .before .before .before .before .before .before .before .before .before in
     let q = lent-at p .rooms-lent in
-    back-long 386 (q .result .gaps) (ofBits binary32 0) (gaps-few _ (q .ensures)) (p .propose-split .last .1 .1 .1 .1 .1 .1 .1 .1 .1 .1 .0) (p .propose-split .kept .1 .1 .1 .1 .1 .1 .1 .1 .1 .1 .0)
+    back-long (sheetRooms .gaps) (q .result .gaps) (ofBits binary32 0) (gaps-few _ (q .ensures)) (p .propose-split .last .1 .1 .1 .1 .1 .1 .1 .1 .1
+    .1 .0) (p .propose-split .kept .1 .1 .1 .1 .1 .1 .1 .1 .1 .1 .0)
 
 slice-aggregate-write-tables-10 : tie.Need-slice-aggregate-write-tables-10
 slice-aggregate-write-tables-10 c =
-    let p = c .before .before .before .before .before .before .before .before .before .before .before .before .before .before .before .before .before .before .before .before .before .before .before .before .before .before .before .before .before .before .before .before .before .before .before in
+    let p = c .before .before .before .before .before .before .before .before .before .before .before .before .before .before .before .before .before
+    .before .before .before .before .before .before .before .before .before .before .before .before .before .before .before .before .before .before in
     let q = lent-at p .rooms-lent in
-    back-long 386 (q .result .gaps) 0 (gaps-few _ (q .ensures)) (p .propose-split .last .1 .1 .1 .1 .1 .1 .1 .1 .1 .1 .1 .0) (p .propose-split .kept .1 .1 .1 .1 .1 .1 .1 .1 .1 .1 .1 .0)
+    back-long (sheetRooms .gaps) (q .result .gaps) 0 (gaps-few _ (q .ensures)) (p .propose-split .last .1 .1 .1 .1 .1 .1 .1 .1 .1 .1 .1 .0) (p
+    .propose-split .kept .1 .1 .1 .1 .1 .1 .1 .1 .1 .1 .1 .0)
 
 slice-aggregate-write-tables-11 : tie.Need-slice-aggregate-write-tables-11
 slice-aggregate-write-tables-11 c =
-    let p = c .before .before .before .before .before .before .before .before .before .before .before .before .before .before .before .before .before .before .before .before .before .before .before .before .before .before .before .before .before .before .before .before .before .before .before .before in
+    let p = c .before .before .before .before .before .before .before .before .before .before .before .before .before .before .before .before .before
+    .before .before .before .before .before .before .before .before .before .before .before .before .before .before .before .before .before .before .before in
     let q = lent-at p .rooms-lent in
-    back-long 386 (q .result .gaps) (ofBits binary32 0) (gaps-few _ (q .ensures)) (p .propose-split .last .1 .1 .1 .1 .1 .1 .1 .1 .1 .1 .1 .1 .0) (p .propose-split .kept .1 .1 .1 .1 .1 .1 .1 .1 .1 .1 .1 .1 .0)
+    back-long (sheetRooms .gaps) (q .result .gaps) (ofBits binary32 0) (gaps-few _ (q .ensures)) (p .propose-split .last .1 .1 .1 .1 .1 .1 .1 .1 .1
+    .1 .1 .1 .0) (p .propose-split .kept .1 .1 .1 .1 .1 .1 .1 .1 .1 .1 .1 .1 .0)
 
 slice-aggregate-write-tables-12 : tie.Need-slice-aggregate-write-tables-12
 slice-aggregate-write-tables-12 c =
-    let p = c .before .before .before .before .before .before .before .before .before .before .before .before .before .before .before .before .before .before .before .before .before .before .before .before .before .before .before .before .before .before .before .before .before .before .before .before .before in
+    let p = c .before .before .before .before .before .before .before .before .before .before .before .before .before .before .before .before .before
+    .before .before .before .before .before .before .before .before .before .before .before .before .before .before .before .before .before .before
+    .before .before in
     let q = lent-at p .rooms-lent in
-    back-long 514 (q .result .«gap_segments») 0 (segments-few _ (q .ensures)) (p .propose-split .last .1 .1 .1 .1 .1 .1 .1 .1 .1 .1 .1 .1 .1 .0) (p .propose-split .kept .1 .1 .1 .1 .1 .1 .1 .1 .1 .1 .1 .1 .1 .0)
+    back-long (sheetRooms .«gap_segments») (q .result .«gap_segments») 0 (segments-few _ (q .ensures)) (p .propose-split .last .1 .1 .1 .1 .1 .1 .1
+    .1 .1 .1 .1 .1 .1 .0) (p .propose-split .kept .1 .1 .1 .1 .1 .1 .1 .1 .1 .1 .1 .1 .1 .0)
 
 slice-aggregate-write-tables-13 : tie.Need-slice-aggregate-write-tables-13
 slice-aggregate-write-tables-13 c =
-    let p = c .before .before .before .before .before .before .before .before .before .before .before .before .before .before .before .before .before .before .before .before .before .before .before .before .before .before .before .before .before .before .before .before .before .before .before .before .before .before in
+    let p = c .before .before .before .before .before .before .before .before .before .before .before .before .before .before .before .before .before
+    .before .before .before .before .before .before .before .before .before .before .before .before .before .before .before .before .before .before
+    .before .before .before in
     let q = lent-at p .rooms-lent in
-    back-long 514 (q .result .«gap_segments») 0 (segments-few _ (q .ensures)) (p .propose-split .last .1 .1 .1 .1 .1 .1 .1 .1 .1 .1 .1 .1 .1 .1 .0) (p .propose-split .kept .1 .1 .1 .1 .1 .1 .1 .1 .1 .1 .1 .1 .1 .1 .0)
+    back-long (sheetRooms .«gap_segments») (q .result .«gap_segments») 0 (segments-few _ (q .ensures)) (p .propose-split .last .1 .1 .1 .1 .1 .1 .1
+    .1 .1 .1 .1 .1 .1 .1 .0) (p .propose-split .kept .1 .1 .1 .1 .1 .1 .1 .1 .1 .1 .1 .1 .1 .1 .0)
 
 slice-aggregate-write-tables-14 : tie.Need-slice-aggregate-write-tables-14
 slice-aggregate-write-tables-14 c =
-    let p = c .before .before .before .before .before .before .before .before .before .before .before .before .before .before .before .before .before .before .before .before .before .before .before .before .before .before .before .before .before .before .before .before .before .before .before .before .before .before .before in
+    let p = c .before .before .before .before .before .before .before .before .before .before .before .before .before .before .before .before .before
+    .before .before .before .before .before .before .before .before .before .before .before .before .before .before .before .before .before .before
+    .before .before .before .before in
     let q = lent-at p .rooms-lent in
-    back-long 514 (q .result .«gap_segments») 0 (segments-few _ (q .ensures)) (p .propose-split .last .1 .1 .1 .1 .1 .1 .1 .1 .1 .1 .1 .1 .1 .1 .1 .0) (p .propose-split .kept .1 .1 .1 .1 .1 .1 .1 .1 .1 .1 .1 .1 .1 .1 .1 .0)
+    back-long (sheetRooms .«gap_segments») (q .result .«gap_segments») 0 (segments-few _ (q .ensures)) (p .propose-split .last .1 .1 .1 .1 .1 .1 .1
+    .1 .1 .1 .1 .1 .1 .1 .1 .0) (p .propose-split .kept .1 .1 .1 .1 .1 .1 .1 .1 .1 .1 .1 .1 .1 .1 .1 .0)
 
 slice-aggregate-write-tables-15 : tie.Need-slice-aggregate-write-tables-15
 slice-aggregate-write-tables-15 c =
-    let p = c .before .before .before .before .before .before .before .before .before .before .before .before .before .before .before .before .before .before .before .before .before .before .before .before .before .before .before .before .before .before .before .before .before .before .before .before .before .before .before .before in
+    let p = c .before .before .before .before .before .before .before .before .before .before .before .before .before .before .before .before .before
+    .before .before .before .before .before .before .before .before .before .before .before .before .before .before .before .before .before .before
+    .before .before .before .before .before in
     let q = lent-at p .rooms-lent in
-    back-long 514 (q .result .«gap_segments») 0 (segments-few _ (q .ensures)) (p .propose-split .last .1 .1 .1 .1 .1 .1 .1 .1 .1 .1 .1 .1 .1 .1 .1 .1 .0) (p .propose-split .kept .1 .1 .1 .1 .1 .1 .1 .1 .1 .1 .1 .1 .1 .1 .1 .1 .0)
+    back-long (sheetRooms .«gap_segments») (q .result .«gap_segments») 0 (segments-few _ (q .ensures)) (p .propose-split .last .1 .1 .1 .1 .1 .1 .1
+    .1 .1 .1 .1 .1 .1 .1 .1 .1 .0) (p .propose-split .kept .1 .1 .1 .1 .1 .1 .1 .1 .1 .1 .1 .1 .1 .1 .1 .1 .0)
 
 write-tables-requires : tie.Need-write-tables-requires
 write-tables-requires c κs = search needs
@@ -242,11 +290,13 @@ same-length-2 c = search needs
 returns : tie.Need-returns
 returns c =
     let w = c .before .before in
-    let a = w .before .before .before .before .before .before .before .before .before .before .before .before .before .before .before .before .before .before .before in
+    let a = w .before .before .before .before .before .before .before .before .before .before .before .before .before .before .before .before .before
+    .before .before in
     let s = a .before in
     let u = s .before .before in
     let n = u .before in
-    let p = n .before .before .before .before .before .before .before .before .before .before .before .before .before .before .before .before .before .before .before in
+    let p = n .before .before .before .before .before .before .before .before .before .before .before .before .before .before .before .before .before
+    .before .before in
     let q = lent-at p .rooms-lent in
     let start = lent-at p .before .before .before in
     let args = start .args in

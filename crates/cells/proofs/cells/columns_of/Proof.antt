@@ -43,49 +43,99 @@ column-requires-12 : tie.Need-column-requires-12
 column-requires-12 c κs = (c .before .before .before .before .before .before .before .before .before .before .before .before .pre, is-column _ _ refl refl)
 
 column-requires-13 : tie.Need-column-requires-13
-column-requires-13 c κs = (c .before .before .before .before .before .before .before .before .before .before .before .before .before .pre, is-column _ _ refl refl)
+column-requires-13 c κs = (
+  c .before .before .before .before .before .before .before .before .before .before .before .before .before .pre,
+  is-column
+      _ _ refl refl,
+)
 
 column-requires-14 : tie.Need-column-requires-14
-column-requires-14 c κs = (c .before .before .before .before .before .before .before .before .before .before .before .before .before .before .pre, is-column _ _ refl refl)
+column-requires-14 c κs = (
+  c .before .before .before .before .before .before .before .before .before .before .before .before .before .before .pre,
+  is-column _ _ refl refl,
+)
 
 column-requires-15 : tie.Need-column-requires-15
-column-requires-15 c κs = (c .before .before .before .before .before .before .before .before .before .before .before .before .before .before .before .pre, is-column _ _ refl refl)
+column-requires-15 c κs = (
+  c .before .before .before .before .before .before .before .before .before .before .before .before .before .before .before
+      .pre,
+  is-column _ _ refl refl,
+)
 
 column-requires-16 : tie.Need-column-requires-16
-column-requires-16 c κs = (c .before .before .before .before .before .before .before .before .before .before .before .before .before .before .before .before .pre, is-column _ _ refl refl)
+column-requires-16 c κs = (
+  c .before .before .before .before .before .before .before .before .before .before .before .before .before .before .before
+      .before .pre,
+  is-column _ _ refl refl,
+)
 
 column-requires-17 : tie.Need-column-requires-17
-column-requires-17 c κs = (c .before .before .before .before .before .before .before .before .before .before .before .before .before .before .before .before .before .pre, is-column _ _ refl refl)
+column-requires-17 c κs = (
+  c .before .before .before .before .before .before .before .before .before .before .before .before .before .before .before
+      .before .before .pre,
+  is-column _ _ refl refl,
+)
 
 column-requires-18 : tie.Need-column-requires-18
-column-requires-18 c κs = (c .before .before .before .before .before .before .before .before .before .before .before .before .before .before .before .before .before .before .pre, is-column _ _ refl refl)
+column-requires-18 c κs = (
+  c .before .before .before .before .before .before .before .before .before .before .before .before .before .before .before
+      .before .before .before .pre,
+  is-column _ _ refl refl,
+)
 
 column-requires-19 : tie.Need-column-requires-19
-column-requires-19 c κs = (c .before .before .before .before .before .before .before .before .before .before .before .before .before .before .before .before .before .before .before .pre, is-column _ _ refl refl)
+column-requires-19 c κs = (
+  c .before .before .before .before .before .before .before .before .before .before .before .before .before .before .before
+      .before .before .before .before .pre,
+  is-column _ _ refl refl,
+)
 
 column-requires-20 : tie.Need-column-requires-20
-column-requires-20 c κs = (c .before .before .before .before .before .before .before .before .before .before .before .before .before .before .before .before .before .before .before .before .pre, is-column _ _ refl refl)
+column-requires-20 c κs = (
+  c .before .before .before .before .before .before .before .before .before .before .before .before .before .before .before
+      .before .before .before .before .before .pre,
+  is-column _ _ refl refl,
+)
 
 column-requires-21 : tie.Need-column-requires-21
-column-requires-21 c κs = (c .before .before .before .before .before .before .before .before .before .before .before .before .before .before .before .before .before .before .before .before .before .pre, is-column _ _ refl refl)
+column-requires-21 c κs = (
+  c .before .before .before .before .before .before .before .before .before .before .before .before .before .before .before
+      .before .before .before .before .before .before .pre,
+  is-column _ _ refl refl,
+)
 
 column-requires-22 : tie.Need-column-requires-22
-column-requires-22 c κs = (c .before .before .before .before .before .before .before .before .before .before .before .before .before .before .before .before .before .before .before .before .before .before .pre, is-column _ _ refl refl)
+column-requires-22 c κs = (
+  c .before .before .before .before .before .before .before .before .before .before .before .before .before .before .before
+      .before .before .before .before .before .before .before .pre,
+  is-column _ _ refl refl,
+)
 
 column-requires-23 : tie.Need-column-requires-23
-column-requires-23 c κs = (c .before .before .before .before .before .before .before .before .before .before .before .before .before .before .before .before .before .before .before .before .before .before .before .pre, is-column _ _ refl refl)
+column-requires-23 c κs = (
+  c .before .before .before .before .before .before .before .before .before .before .before .before .before .before .before
+      .before .before .before .before .before .before .before .before .pre,
+  is-column _ _ refl refl,
+)
 
 returns : tie.Need-returns
 returns c =
-    let s = c .before .before .before .before .before .before .before .before .before .before .before .before .before .before .before .before .before .before .before .before .before .before .before .before in
+    let s = c .before .before .before .before .before .before .before .before .before .before .before .before .before .before .before .before .before
+    .before .before .before .before .before .before .before in
     λ i. jobOf (parametersOf (cellsColumn (s .args .cells .now) (s .args .counts)))
     (jobColumns
-    (c .before .before .before .before .before .before .before .before .before .before .before .before .before .before .before .before .before .before .before .before .before .before .column .ensures i)
-    (c .before .before .before .before .before .before .before .before .before .before .before .before .before .before .before .before .before .before .before .before .before .column2 .ensures i)
-    (c .before .before .before .before .before .before .before .before .before .before .before .before .before .before .before .before .before .before .before .before .column3 .ensures i)
-    (c .before .before .before .before .before .before .before .before .before .before .before .before .before .before .before .before .before .before .before .column4 .ensures i)
-    (c .before .before .before .before .before .before .before .before .before .before .before .before .before .before .before .before .before .before .column5 .ensures i)
-    (c .before .before .before .before .before .before .before .before .before .before .before .before .before .before .before .before .before .column6 .ensures i)
+    (c .before .before .before .before .before .before .before .before .before .before .before .before .before .before .before .before .before
+    .before .before .before .before .before .column .ensures i)
+    (c .before .before .before .before .before .before .before .before .before .before .before .before .before .before .before .before .before
+    .before .before .before .before .column2 .ensures i)
+    (c .before .before .before .before .before .before .before .before .before .before .before .before .before .before .before .before .before
+    .before .before .before .column3 .ensures i)
+    (c .before .before .before .before .before .before .before .before .before .before .before .before .before .before .before .before .before
+    .before .before .column4 .ensures i)
+    (c .before .before .before .before .before .before .before .before .before .before .before .before .before .before .before .before .before
+    .before .column5 .ensures i)
+    (c .before .before .before .before .before .before .before .before .before .before .before .before .before .before .before .before .before
+    .column6 .ensures i)
     (c .before .before .before .before .before .before .before .before .before .before .before .before .before .before .before .before .column7 .ensures i)
     (c .before .before .before .before .before .before .before .before .before .before .before .before .before .before .before .column8 .ensures i)
     (c .before .before .before .before .before .before .before .before .before .before .before .before .before .before .column9 .ensures i)

@@ -21,8 +21,12 @@ abbrev μ-loop : tie.MeasureT-loop
 
 loop-holds : tie.Need-loop-holds Inv-loop μ-loop
 loop-holds c =
-    let a = c .before .before .before .before .before .args in
-    (omega arith, refl, rows-start (gapSegmentLine (a .from .now) (a .to .now) (a .value .now) (a .gap .now)) 46 (gap-segment-wide (a .from .now) (a .to .now) (a .value .now) (a .gap .now)) (a .rows) _ (a .at) (a .out .now) (omega arith))
+    let a = c .before .before .before .before .before .args in (
+      omega arith,
+      refl,
+      rows-start (gapSegmentLine (a .from .now) (a .to .now) (a .value .now) (a .gap .now)) 46 (gap-segment-wide (a .from .now) (a
+          .to .now) (a .value .now) (a .gap .now)) (a .rows) _ (a .at) (a .out .now) (omega arith),
+    )
 
 mul-put-gap-segment : tie.Need-mul-put-gap-segment Inv-loop μ-loop
 mul-put-gap-segment c = omega arith
@@ -47,7 +51,8 @@ loop-again c =
     let a = t .before .before .before .before .before .before .before .args in (
       omega arith,
       w .kept .0 ∙ l .inv .1,
-      rows-step (gapSegmentLine (a .from .now) (a .to .now) (a .value .now) (a .gap .now)) 46 (gap-segment-wide (a .from .now) (a .to .now) (a .value .now) (a .gap .now)) (a .rows) (l .i) (a .at + 46 * l .i) (a .at + 46 * (l .i + 1)) (l .out)
+      rows-step (gapSegmentLine (a .from .now) (a .to .now) (a .value .now) (a .gap .now)) 46 (gap-segment-wide (a .from .now) (a .to .now) (a .value
+          .now) (a .gap .now)) (a .rows) (l .i) (a .at + 46 * l .i) (a .at + 46 * (l .i + 1)) (l .out)
           (w .last .0) (t .loop-test .taken) (omega arith) (w .ensures)
           ∙ l .inv .2,
     )
@@ -59,7 +64,8 @@ returns : tie.Need-returns Inv-loop μ-loop
 returns c =
     let l = c .before .loop in
     let a = c .before .before .before .before .before .before .before .args in
-    sym (rows-end (gapSegmentLine (a .from .now) (a .to .now) (a .value .now) (a .gap .now)) 46 (gap-segment-wide (a .from .now) (a .to .now) (a .value .now) (a .gap .now)) (a .rows) (l .i) (a .at + 46 * l .i) (l .out) (c .loop-test .left)) ∙ l .inv .2
+    sym (rows-end (gapSegmentLine (a .from .now) (a .to .now) (a .value .now) (a .gap .now)) 46 (gap-segment-wide (a .from .now) (a .to .now) (a
+    .value .now) (a .gap .now)) (a .rows) (l .i) (a .at + 46 * l .i) (l .out) (c .loop-test .left)) ∙ l .inv .2
 
 pub put-gap-segments-spec : {M : Type 1} → statement M
 put-gap-segments-spec =

@@ -21,8 +21,12 @@ abbrev μ-loop : tie.MeasureT-loop
 
 loop-holds : tie.Need-loop-holds Inv-loop μ-loop
 loop-holds c =
-    let a = c .before .before .before .before .before .before .args in
-    (omega arith, refl, rows-start (gapLine (a .from .now) (a .to .now) (a .weight .now) (a .live .now) (a .freq .now)) 57 (gap-wide (a .from .now) (a .to .now) (a .weight .now) (a .live .now) (a .freq .now)) (a .rows) _ (a .at) (a .out .now) (omega arith))
+    let a = c .before .before .before .before .before .before .args in (
+      omega arith,
+      refl,
+      rows-start (gapLine (a .from .now) (a .to .now) (a .weight .now) (a .live .now) (a .freq .now)) 57 (gap-wide (a .from .now)
+          (a .to .now) (a .weight .now) (a .live .now) (a .freq .now)) (a .rows) _ (a .at) (a .out .now) (omega arith),
+    )
 
 mul-put-gap : tie.Need-mul-put-gap Inv-loop μ-loop
 mul-put-gap c = omega arith
@@ -47,7 +51,8 @@ loop-again c =
     let a = t .before .before .before .before .before .before .before .before .args in (
       omega arith,
       w .kept .0 ∙ l .inv .1,
-      rows-step (gapLine (a .from .now) (a .to .now) (a .weight .now) (a .live .now) (a .freq .now)) 57 (gap-wide (a .from .now) (a .to .now) (a .weight .now) (a .live .now) (a .freq .now)) (a .rows) (l .i) (a .at + 57 * l .i) (a .at + 57 * (l .i + 1)) (l .out)
+      rows-step (gapLine (a .from .now) (a .to .now) (a .weight .now) (a .live .now) (a .freq .now)) 57 (gap-wide (a .from .now) (a .to .now) (a
+          .weight .now) (a .live .now) (a .freq .now)) (a .rows) (l .i) (a .at + 57 * l .i) (a .at + 57 * (l .i + 1)) (l .out)
           (w .last .0) (t .loop-test .taken) (omega arith) (w .ensures)
           ∙ l .inv .2,
     )
@@ -59,7 +64,8 @@ returns : tie.Need-returns Inv-loop μ-loop
 returns c =
     let l = c .before .loop in
     let a = c .before .before .before .before .before .before .before .before .args in
-    sym (rows-end (gapLine (a .from .now) (a .to .now) (a .weight .now) (a .live .now) (a .freq .now)) 57 (gap-wide (a .from .now) (a .to .now) (a .weight .now) (a .live .now) (a .freq .now)) (a .rows) (l .i) (a .at + 57 * l .i) (l .out) (c .loop-test .left)) ∙ l .inv .2
+    sym (rows-end (gapLine (a .from .now) (a .to .now) (a .weight .now) (a .live .now) (a .freq .now)) 57 (gap-wide (a .from .now) (a .to .now) (a
+    .weight .now) (a .live .now) (a .freq .now)) (a .rows) (l .i) (a .at + 57 * l .i) (l .out) (c .loop-test .left)) ∙ l .inv .2
 
 pub put-gaps-spec : {M : Type 1} → statement M
 put-gaps-spec =

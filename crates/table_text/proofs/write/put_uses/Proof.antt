@@ -21,8 +21,12 @@ abbrev μ-loop : tie.MeasureT-loop
 
 loop-holds : tie.Need-loop-holds Inv-loop μ-loop
 loop-holds c =
-    let a = c .before .before .before .before .before .args in
-    (omega arith, refl, rows-start (useLine (a .inst .now) (a .weight .now) (a .left .now) (a .right .now)) 46 (use-wide (a .inst .now) (a .weight .now) (a .left .now) (a .right .now)) (a .rows) _ (a .at) (a .out .now) (omega arith))
+    let a = c .before .before .before .before .before .args in (
+      omega arith,
+      refl,
+      rows-start (useLine (a .inst .now) (a .weight .now) (a .left .now) (a .right .now)) 46 (use-wide (a .inst .now) (a .weight
+          .now) (a .left .now) (a .right .now)) (a .rows) _ (a .at) (a .out .now) (omega arith),
+    )
 
 mul-put-use : tie.Need-mul-put-use Inv-loop μ-loop
 mul-put-use c = omega arith
@@ -47,7 +51,8 @@ loop-again c =
     let a = t .before .before .before .before .before .before .before .args in (
       omega arith,
       w .kept .0 ∙ l .inv .1,
-      rows-step (useLine (a .inst .now) (a .weight .now) (a .left .now) (a .right .now)) 46 (use-wide (a .inst .now) (a .weight .now) (a .left .now) (a .right .now)) (a .rows) (l .i) (a .at + 46 * l .i) (a .at + 46 * (l .i + 1)) (l .out)
+      rows-step (useLine (a .inst .now) (a .weight .now) (a .left .now) (a .right .now)) 46 (use-wide (a .inst .now) (a .weight .now) (a .left .now)
+          (a .right .now)) (a .rows) (l .i) (a .at + 46 * l .i) (a .at + 46 * (l .i + 1)) (l .out)
           (w .last .0) (t .loop-test .taken) (omega arith) (w .ensures)
           ∙ l .inv .2,
     )
@@ -59,7 +64,8 @@ returns : tie.Need-returns Inv-loop μ-loop
 returns c =
     let l = c .before .loop in
     let a = c .before .before .before .before .before .before .before .args in
-    sym (rows-end (useLine (a .inst .now) (a .weight .now) (a .left .now) (a .right .now)) 46 (use-wide (a .inst .now) (a .weight .now) (a .left .now) (a .right .now)) (a .rows) (l .i) (a .at + 46 * l .i) (l .out) (c .loop-test .left)) ∙ l .inv .2
+    sym (rows-end (useLine (a .inst .now) (a .weight .now) (a .left .now) (a .right .now)) 46 (use-wide (a .inst .now) (a .weight .now) (a .left
+    .now) (a .right .now)) (a .rows) (l .i) (a .at + 46 * l .i) (l .out) (c .loop-test .left)) ∙ l .inv .2
 
 pub put-uses-spec : {M : Type 1} → statement M
 put-uses-spec =

@@ -26,8 +26,11 @@ tables-fit-requires c κs = search needs
 
 returns : tie.Need-returns
 returns c =
-    let a = c .before .before .before .before .before .before .before .before .before .before .before .before .before .before .before .before .before .before .args in
-    text-short (workColumns (a .prev .now) (a .next .now) (a .inst .now) (a .weight .now) (a .left .now) (a .right .now) (a .gap-from .now) (a .gap-to .now) (a .gap-weight .now) (a .live .now) (a .freq .now) (a .segment-from .now) (a .segment-to .now) (a .segment-value .now) (a .segment-gap .now)) (a .rows) (a .out .now) (room-short _ _ (c .before .tables-fit .ensures) (c .if1 .taken))
+    let a = c .before .before .before .before .before .before .before .before .before .before .before .before .before .before .before .before .before
+    .before .args in
+    text-short (workColumns (a .prev .now) (a .next .now) (a .inst .now) (a .weight .now) (a .left .now) (a .right .now) (a .gap-from .now) (a
+    .gap-to .now) (a .gap-weight .now) (a .live .now) (a .freq .now) (a .segment-from .now) (a .segment-to .now) (a .segment-value .now) (a
+    .segment-gap .now)) (a .rows) (a .out .now) (room-short _ _ (c .before .tables-fit .ensures) (c .if1 .taken))
 
 mul-uses-at : tie.Need-mul-uses-at
 mul-uses-at c = omega (arith, small (c .before))
@@ -83,7 +86,9 @@ returns-2 c =
     let room = l .before .before .before .before .before .before in
     let a = start room .args in
     let r = a .rows in
-    text-put (workColumns (a .prev .now) (a .next .now) (a .inst .now) (a .weight .now) (a .left .now) (a .right .now) (a .gap-from .now) (a .gap-to .now) (a .gap-weight .now) (a .live .now) (a .freq .now) (a .segment-from .now) (a .segment-to .now) (a .segment-value .now) (a .segment-gap .now)) r (a .out .now)
+    text-put (workColumns (a .prev .now) (a .next .now) (a .inst .now) (a .weight .now) (a .left .now) (a .right .now) (a .gap-from .now) (a .gap-to
+    .now) (a .gap-weight .now) (a .live .now) (a .freq .now) (a .segment-from .now) (a .segment-to .now) (a .segment-value .now) (a .segment-gap
+    .now)) r (a .out .now)
     (l .put-links .last .0) (u .put-uses .last .0) (g .put-gaps .last .0) (o .put-gap-segments .last .0)
     (24 * r .links) (24 * r .links + 46 * r .uses) (24 * r .links + 46 * r .uses + 57 * r .gaps)
     (24 * r .links + 46 * r .uses + 57 * r .gaps + 46 * r .«gap_segments»)
