@@ -58,6 +58,9 @@ module _ {A : Type 0} (N n : ℕ) (a : A) (h : n ≤ N) where
   pub lent-long : n ≡ length (take n (replicate N a))
   lent-long = sym (length-take-le n (replicate N a) (omega (arith, length-replicate N a, h)))
 
+  pub lent-most : length (take n (replicate N a)) ≤ N
+  lent-most = omega (arith, sym lent-long, h)
+
   pub back-long : (last : List A) → length last ≡ length (take n (replicate N a)) → N ≡ length (last ++ drop n (replicate N a))
   back-long last e =
       let d : length (drop n (replicate N a)) ≡ N - n = length-drop n (replicate N a) ∙ ap (λ (m : ℕ). m - n) (length-replicate N a) in

@@ -11,7 +11,11 @@ use Rattle.sheet.specs.Sheet.{Sheet, Within}
 use Rattle.sheet.specs.Refusal.{verdict, sheetOf}
 use Rattle.sheet.specs.Cells.{column}
 use Rattle.sheet.specs.declared.check.Verdict.the-variants as Verdict·is
+use Rattle.sheet.specs.Answer.{answerText}
+use Rattle.sheet.specs.declared.write.Answer as Shown
+use Rattle.sheet.specs.declared.write.Answer.the-variants as Shown·is
 use Rattle.sheet.proofs.SoundLaws.{sound-sheet}
+use Rattle.sheet.proofs.WriteLaws.{figures-length, line-length-one, line-length-two}
 use Rattle.columns.specs.Table.{table, shortest}
 use Rattle.links.specs.declared.blocks.Checked.{Checked}
 use Rattle.links.specs.declared.blocks.Checked.the-variants as Checked·is
@@ -30,6 +34,13 @@ pub record Enough (r : Rooms) : Type 0 where
   pub gaps : sheetRooms .gaps ≤ r .gaps
   pub segments : sheetRooms .«gap_segments» ≤ r .«gap_segments»
   pub links : sheetRooms .links ≤ r .links
+
+-- no answer has more than 81 bytes
+pub answer-short : (a : Shown.Answer) → length (answerText a) ≤ 81
+unfolding answerText
+answer-short (Shown·is.Proposal f) = le-of-eq (figures-length f)
+answer-short (Shown·is.NoneOf n) = omega (arith, line-length-one 78 n)
+answer-short (Shown·is.Refused n p) = omega (arith, line-length-two 82 n p)
 
 -- a line that has passed at the end of the table changes nothing
 last-passed : (ls : List Line) (l : Line) → Passed l → firstBroken (ls ++ (l ∷ [])) ≡ firstBroken ls

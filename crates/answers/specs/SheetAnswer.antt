@@ -1,6 +1,7 @@
 -- What a sheet's text is answered
-use Prim.Native.Nat.{ℕ}
+use Prim.Native.Nat.{ℕ, _≤_}
 use mathlib.Core.List.{List}
+use lib.ListN.{length}
 use Rattle.sheet.specs.Refusal.{verdict, sheetOf}
 use Rattle.sheet.specs.Answer.{answerText, Wrote}
 use Rattle.sheet.specs.declared.check.Verdict.{Verdict}
@@ -11,8 +12,8 @@ use Rattle.filling.specs.declared.lent.Rooms.{Rooms}
 use Rattle.filling.specs.SourceTables.{Tables}
 use Rattle.tables.specs.JobTables.{noTables, tablesOf}
 use Rattle.cells.specs.SheetJob.{jobOfSheet}
-use Rattle.table_text.specs.TablesText.{tablesText}
-use Rattle.answers.specs.SheetRooms.{roomsWithin}
+use Rattle.table_text.specs.TablesText.{tablesText, bytesOfRows}
+use Rattle.answers.specs.SheetRooms.{sheetRooms, roomsWithin}
 use Rattle.answers.specs.JobAnswer.{shownOfJob}
 use Rattle.answers.specs.declared.job.Answered.{Answered}
 
@@ -40,3 +41,5 @@ tablesOfText text rooms = ifRead (verdict text) (tablesOf (jobOfSheet (sheetOf t
 pub record IsAnswered (text : List ℕ) (asked : Rooms) (out out-now lines lines-now : List ℕ) (r : Answered) : Type 0 where
   pub answer : Wrote (answerOfText text (roomsWithin asked)) out out-now (r .answer)
   pub tables : Wrote (tablesText (tablesOfText text (roomsWithin asked))) lines lines-now (r .tables)
+  -- room for all rows is enough
+  pub enough : length (tablesText (tablesOfText text (roomsWithin asked))) ≤ bytesOfRows sheetRooms

@@ -20,10 +20,10 @@ pub const GAP_SEGMENT_ROWS: usize = TABLE[U].limit + TABLE[B].limit + TABLE[S].l
 
 pub const LINK_ROWS: usize = TABLE[B].limit;
 
-// The longest answer's bytes.
+// No answer has more bytes (proofs/Rooms).
 pub const ANSWER_BYTES: usize = 81;
 
-// The bytes of the tables' text where every row is used.
+// The bytes of the tables' text where every row is used: no job's is longer (`enough` of specs/JobAnswer).
 pub const TABLE_BYTES: usize = LINK_LINE * LINK_ROWS
     + USE_LINE * USE_ROWS
     + GAP_LINE * GAP_ROWS

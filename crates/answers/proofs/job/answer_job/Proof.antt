@@ -15,8 +15,8 @@ use Rattle.table_text.specs.TablesText.{columnsText}
 use Rattle.answers.specs.JobAnswer.{rowsOfProposed}
 use Rattle.table_text.proofs.FilledText.{longer}
 use Rattle.answers.specs.SheetRooms.{sheetRooms}
-use Rattle.answers.proofs.Lending.{behindOf, lent-long, back-long, links-few, uses-few, gaps-few, segments-few, lent-rooms}
-use Rattle.answers.proofs.Answering.{tables-said, answer-said}
+use Rattle.answers.proofs.Lending.{behindOf, lent-long, lent-most, back-long, links-few, uses-few, gaps-few, segments-few, lent-rooms}
+use Rattle.answers.proofs.Answering.{tables-said, answer-said, text-enough}
 use Rattle.answers.proofs.job.answer_job.Statement.{statement}
 use Rattle.answers.proofs.job.answer_job.Tie as tie
 
@@ -319,6 +319,7 @@ returns c =
     (p .propose-split .last .1 .1 .1 .1 .1 .1 .1 .1 .1 .1 .1 .1 .1 .1 .1 .1 .0) in
     let proposed = p .propose-split .ensures in
     let rooms = lent-rooms (args .asked) e in
+    let kept = p .propose-split .kept in
     let more = behindOf (q .result) in
     let blocks = n .count .ensures ∙ ap (λ (x : JobColumns). length (jobOf (args .parameters) x .blocks)) (columns-taken (args .t1)) in
     record {
@@ -330,6 +331,9 @@ returns c =
           (ap (columnsText (longer cols more)) (u .rows-used .ensures)
           ∙ tables-said (args .asked) proposed rooms more (n .count .result) blocks)
           (w .write-tables .ensures);
+      enough = text-enough (args .asked) proposed rooms (kept .1 .1 .0) (kept .1 .1 .1 .1 .0) (kept .1 .1 .1 .1 .1 .1 .1 .1 .0) (kept .1 .1 .1 .1 .1 .1 .1 .1 .1 .1 .1 .1 .1 .0)
+          (lent-most 128 (q .result .links) 0 (links-few _ e)) (lent-most 258 (q .result .uses) 0 (uses-few _ e))
+          (lent-most 386 (q .result .gaps) 0 (gaps-few _ e)) (lent-most 514 (q .result .«gap_segments») 0 (segments-few _ e));
     }
 
 pub answer-job-spec : {M : Type 1} → statement M
