@@ -331,9 +331,11 @@ returns c =
           (ap (columnsText (longer cols more)) (u .rows-used .ensures)
           ∙ tables-said (args .asked) proposed rooms more (n .count .result) blocks)
           (w .write-tables .ensures);
-      enough = text-enough (args .asked) proposed rooms (kept .1 .1 .0) (kept .1 .1 .1 .1 .0) (kept .1 .1 .1 .1 .1 .1 .1 .1 .0) (kept .1 .1 .1 .1 .1 .1 .1 .1 .1 .1 .1 .1 .1 .0)
-          (lent-most 128 (q .result .links) 0 (links-few _ e)) (lent-most 258 (q .result .uses) 0 (uses-few _ e))
-          (lent-most 386 (q .result .gaps) 0 (gaps-few _ e)) (lent-most 514 (q .result .«gap_segments») 0 (segments-few _ e));
+      enough = text-enough (args .asked) proposed rooms (kept .1 .1 .0) (kept .1 .1 .1 .1 .0) (kept .1 .1 .1 .1 .1 .1 .1 .1 .0) (kept .1 .1 .1 .1 .1
+          .1 .1 .1 .1 .1 .1 .1 .1 .0)
+          (lent-most (sheetRooms .links) (q .result .links) 0 (links-few _ e)) (lent-most (sheetRooms .uses) (q .result .uses) 0 (uses-few _ e))
+          (lent-most (sheetRooms .gaps) (q .result .gaps) 0 (gaps-few _ e)) (lent-most (sheetRooms .«gap_segments») (q .result .«gap_segments») 0
+          (segments-few _ e));
     }
 
 pub answer-job-spec : {M : Type 1} → statement M
