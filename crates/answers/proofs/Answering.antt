@@ -12,7 +12,6 @@ use Rattle.sheet.specs.Refusal.{linesOf, fault, judged, verdictBelow, verdict, 
 use Rattle.sheet.specs.Answer.{answerText, Wrote}
 use Rattle.sheet.specs.declared.check.Verdict.{Verdict}
 use Rattle.sheet.specs.declared.check.Verdict.the-variants as Verdict·is
-use Rattle.sheet.specs.declared.write.Answer as Shown
 use Rattle.sheet.specs.declared.write.Answer.the-variants as Shown·is
 use Rattle.sheet.specs.declared.write.Written.{Written}
 use Rattle.sheet.specs.declared.write.Written.the-variants as Written·is
@@ -43,7 +42,7 @@ use Rattle.outcome.specs.declared.grow.Proposed.{Proposed}
 use Rattle.outcome.specs.Outcome.{ofRegion}
 use Rattle.proposer.specs.Answer.{ofBest, ofChecked, answerOf, IsProposed}
 use Rattle.tables.specs.JobTables.{ifAccepted, noTables, tablesOf}
-use Rattle.filling.specs.SourceTables.{Tables, freqsOf, tablesOfBest, WorkColumns, roomsOf}
+use Rattle.filling.specs.SourceTables.{freqsOf, tablesOfBest, WorkColumns, roomsOf}
 use Rattle.figures.specs.Figures.{shownOf}
 use Rattle.cells.specs.SheetJob.{jobOfSheet}
 use Rattle.table_text.specs.TablesText.{columnsText, columnsOfTables, rowsOfTables, tablesText, bytesOfRows}

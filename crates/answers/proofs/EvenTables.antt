@@ -22,8 +22,8 @@ use Rattle.table_text.proofs.FilledText.{Even}
 module _ (source : Source) where
   links-even : length (tablesOfBest source BestUse·is.Nothing .nexts) ≡ length (tablesOfBest source BestUse·is.Nothing .prevs)
   links-even =
-      table-length (lowerLink Next (freqsOf source)) (length (freqsOf source)) ∙ sym (table-length (lowerLink Previous (freqsOf source)) (length
-      (freqsOf source)))
+      table-length (lowerLink Next (freqsOf source)) (length (freqsOf source))
+      ∙ sym (table-length (lowerLink Previous (freqsOf source)) (length (freqsOf source)))
 
   best-even : (c : Checked) (b : BestUse) → Even (ifAccepted c (tablesOfBest source b) noTables)
   best-even (Checked·is.Refused r) b = record { links = refl; lives = refl }

@@ -1,6 +1,6 @@
 -- The arrays that the work tables are lent from: their first rows, and what stands behind those
 use Prim.Native.Nat.{ℕ, _+_, _-_, _≤_, min}
-use mathlib.Core.Path.{_≡_, refl, sym, ap, _∙_}
+use mathlib.Core.Path.{_≡_, sym, ap, _∙_}
 use mathlib.Core.List.{List, [], _∷_, _++_}
 use native.Mathlib.Nat.{le-refl, min-eq-left, min-le-right}
 use native.Mathlib.Omega.{arith}

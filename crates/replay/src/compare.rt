@@ -8,8 +8,6 @@ use filling::lent::Rooms;
 use libc::STDOUT_FILENO;
 use sheet::Written;
 use sheet::same;
-ghost use Prim.Native.Nat.{_≤_};
-ghost use lib.ListN.{length};
 
 // Names a record.
 pub(crate) fn tell(record: usize) {

@@ -2,7 +2,7 @@
 use Prim.Native.Nat.{ℕ, zero, suc, _+_, _*_, _-_, _≤_, _<_}
 use mathlib.Core.Path.{_≡_, refl, sym, ap, _∙_}
 use mathlib.Core.Bool.{Bool, true, false, not}
-use mathlib.Core.List.{List, [], _∷_, _++_, append-assoc, append-nil}
+use mathlib.Core.List.{List, [], _++_, append-assoc, append-nil}
 use native.Mathlib.Nat.{mul-suc, mul-zero}
 use native.Mathlib.Omega.{arith}
 use lib.ListN.{length, take, drop, length-append, length-drop, drop-of-length-le}
@@ -13,13 +13,12 @@ use lib.Ieee.{Float}
 use lib.Seq.{sets, sets-eq, take-all, drop-drop}
 use Rattle.columns.specs.Below.{joined}
 use Rattle.columns.proofs.Joining.{joined-next, joined-none, fromOn-all}
-use Rattle.sheet.specs.Sheet.{lineText}
 use Rattle.sheet.specs.Answer.{Wrote}
 use Rattle.sheet.specs.Kinds.{pick}
 use Rattle.sheet.specs.declared.write.Written.{Written}
 use Rattle.sheet.specs.declared.write.Written.the-variants.{Bytes, NoRoom}
 use Rattle.sheet.proofs.Lists.{sets-append}
-use Rattle.sheet.proofs.WriteLaws.{Put, put-none, put-more, put-as, wrote-none, wrote-all, line-length}
+use Rattle.sheet.proofs.WriteLaws.{put-none, put-more, put-as, wrote-none, wrote-all, line-length}
 use Rattle.filling.specs.SourceTables.{WorkColumns}
 use Rattle.filling.specs.declared.lent.Rooms.{Rooms}
 use Rattle.table_text.specs.TablesText.{linkLine, useLine, gapLine, gapSegmentLine, columnsText, bytesOfRows}

@@ -1,5 +1,5 @@
 -- `job::answer_job` meets its contract: the tables are lent from the arrays, and their text is read there again
-use mathlib.Core.Path.{refl, sym, ap, _∙_, subst}
+use mathlib.Core.Path.{ap, _∙_, subst}
 use Prim.Native.Nat.{ℕ}
 use mathlib.Core.List.{List}
 use lib.ListN.{length}
@@ -7,12 +7,10 @@ use borrow.Author.Needs.{needs}
 use lib.Ieee.{binary32, ofBits}
 use Rattle.sheet.specs.Answer.{answerText, Wrote}
 use Rattle.sheet.specs.declared.write.Answer as Shown
-use Rattle.filling.specs.SourceTables.{WorkColumns, workColumns}
-use Rattle.filling.specs.declared.lent.Rooms.{Rooms}
+use Rattle.filling.specs.SourceTables.{workColumns}
 use Rattle.refusals.specs.Job.{JobColumns, jobOf}
 use Rattle.refusals.proofs.Columns.{columns-taken}
 use Rattle.table_text.specs.TablesText.{columnsText}
-use Rattle.answers.specs.JobAnswer.{rowsOfProposed}
 use Rattle.table_text.proofs.FilledText.{longer}
 use Rattle.answers.specs.SheetRooms.{sheetRooms}
 use Rattle.answers.proofs.Lending.{behindOf, lent-long, lent-most, back-long, links-few, uses-few, gaps-few, segments-few, lent-rooms}
@@ -45,43 +43,48 @@ array-borrow-prefix-weight : tie.Need-array-borrow-prefix-weight
 array-borrow-prefix-weight c = let q = c .before .before .before .rooms-lent in uses-few _ (q .ensures)
 
 slice-aggregate-propose-split-4 : tie.Need-slice-aggregate-propose-split-4
-slice-aggregate-propose-split-4 c = let q = c .before .before .before .before .rooms-lent in lent-long (sheetRooms .uses) (q .result .uses) (ofBits
-    binary32 0) (uses-few _ (q .ensures))
+slice-aggregate-propose-split-4 c = let q = c .before .before .before .before .rooms-lent in lent-long (sheetRooms .uses) (q .result .uses) (ofBits binary32 0)
+    (uses-few _ (q .ensures))
 
 array-borrow-prefix-left : tie.Need-array-borrow-prefix-left
 array-borrow-prefix-left c = let q = c .before .before .before .before .rooms-lent in uses-few _ (q .ensures)
 
 slice-aggregate-propose-split-5 : tie.Need-slice-aggregate-propose-split-5
 slice-aggregate-propose-split-5 c = let q = c .before .before .before .before .before .rooms-lent in
-    lent-long (sheetRooms .uses) (q .result .uses) (ofBits binary32 0) (uses-few _ (q .ensures))
+    lent-long (sheetRooms .uses) (q .result .uses) (ofBits binary32
+    0) (uses-few _ (q .ensures))
 
 array-borrow-prefix-right : tie.Need-array-borrow-prefix-right
 array-borrow-prefix-right c = let q = c .before .before .before .before .before .rooms-lent in uses-few _ (q .ensures)
 
 slice-aggregate-propose-split-6 : tie.Need-slice-aggregate-propose-split-6
 slice-aggregate-propose-split-6 c = let q = c .before .before .before .before .before .before .rooms-lent in
-    lent-long (sheetRooms .uses) (q .result .uses) (ofBits binary32 0) (uses-few _ (q .ensures))
+    lent-long (sheetRooms .uses) (q .result .uses) (ofBits
+    binary32 0) (uses-few _ (q .ensures))
 
 array-borrow-prefix-gap-from : tie.Need-array-borrow-prefix-gap-from
 array-borrow-prefix-gap-from c = let q = c .before .before .before .before .before .before .rooms-lent in gaps-few _ (q .ensures)
 
 slice-aggregate-propose-split-7 : tie.Need-slice-aggregate-propose-split-7
 slice-aggregate-propose-split-7 c = let q = c .before .before .before .before .before .before .before .rooms-lent in
-    lent-long (sheetRooms .gaps) (q .result .gaps) 0 (gaps-few _ (q .ensures))
+    lent-long (sheetRooms .gaps) (q .result .gaps) 0
+    (gaps-few _ (q .ensures))
 
 array-borrow-prefix-gap-to : tie.Need-array-borrow-prefix-gap-to
 array-borrow-prefix-gap-to c = let q = c .before .before .before .before .before .before .before .rooms-lent in gaps-few _ (q .ensures)
 
 slice-aggregate-propose-split-8 : tie.Need-slice-aggregate-propose-split-8
 slice-aggregate-propose-split-8 c = let q = c .before .before .before .before .before .before .before .before .rooms-lent in
-    lent-long (sheetRooms .gaps) (q .result .gaps) 0 (gaps-few _ (q .ensures))
+    lent-long (sheetRooms .gaps) (q .result
+    .gaps) 0 (gaps-few _ (q .ensures))
 
 array-borrow-prefix-gap-weight : tie.Need-array-borrow-prefix-gap-weight
 array-borrow-prefix-gap-weight c = let q = c .before .before .before .before .before .before .before .before .rooms-lent in gaps-few _ (q .ensures)
 
 slice-aggregate-propose-split-9 : tie.Need-slice-aggregate-propose-split-9
 slice-aggregate-propose-split-9 c = let q = c .before .before .before .before .before .before .before .before .before .rooms-lent in
-    lent-long (sheetRooms .gaps) (q .result .gaps) (ofBits binary32 0) (gaps-few _ (q .ensures))
+    lent-long (sheetRooms .gaps) (q
+    .result .gaps) (ofBits binary32 0) (gaps-few _ (q .ensures))
 
 array-borrow-prefix-live : tie.Need-array-borrow-prefix-live
 array-borrow-prefix-live c = let q = c .before .before .before .before .before .before .before .before .before .rooms-lent in gaps-few _ (q .ensures)
@@ -91,7 +94,8 @@ slice-aggregate-propose-split-10 c = let q = c .before .before .before .before .
     lent-long (sheetRooms .gaps) (q .result .gaps) 0 (gaps-few _ (q .ensures))
 
 array-borrow-prefix-freq : tie.Need-array-borrow-prefix-freq
-array-borrow-prefix-freq c = let q = c .before .before .before .before .before .before .before .before .before .before .rooms-lent in gaps-few _ (q .ensures)
+array-borrow-prefix-freq c = let q = c .before .before .before .before .before .before .before .before .before .before .rooms-lent in gaps-few _ (q
+    .ensures)
 
 slice-aggregate-propose-split-11 : tie.Need-slice-aggregate-propose-split-11
 slice-aggregate-propose-split-11 c = let q = c .before .before .before .before .before .before .before .before .before .before .before .rooms-lent in
@@ -110,24 +114,24 @@ array-borrow-prefix-segment-to c = let q = c .before .before .before .before .be
     .rooms-lent in segments-few _ (q .ensures)
 
 slice-aggregate-propose-split-13 : tie.Need-slice-aggregate-propose-split-13
-slice-aggregate-propose-split-13 c = let q = c .before .before .before .before .before .before .before .before .before .before .before .before
-    .before .rooms-lent in lent-long (sheetRooms .«gap_segments») (q .result .«gap_segments») 0 (segments-few _ (q .ensures))
+slice-aggregate-propose-split-13 c = let q = c .before .before .before .before .before .before .before .before .before .before .before .before .before
+    .rooms-lent in lent-long (sheetRooms .«gap_segments») (q .result .«gap_segments») 0 (segments-few _ (q .ensures))
 
 array-borrow-prefix-segment-value : tie.Need-array-borrow-prefix-segment-value
 array-borrow-prefix-segment-value c = let q = c .before .before .before .before .before .before .before .before .before .before .before .before
     .before .rooms-lent in segments-few _ (q .ensures)
 
 slice-aggregate-propose-split-14 : tie.Need-slice-aggregate-propose-split-14
-slice-aggregate-propose-split-14 c = let q = c .before .before .before .before .before .before .before .before .before .before .before .before
-    .before .before .rooms-lent in lent-long (sheetRooms .«gap_segments») (q .result .«gap_segments») 0 (segments-few _ (q .ensures))
+slice-aggregate-propose-split-14 c = let q = c .before .before .before .before .before .before .before .before .before .before .before .before .before
+    .before .rooms-lent in lent-long (sheetRooms .«gap_segments») (q .result .«gap_segments») 0 (segments-few _ (q .ensures))
 
 array-borrow-prefix-segment-gap : tie.Need-array-borrow-prefix-segment-gap
 array-borrow-prefix-segment-gap c = let q = c .before .before .before .before .before .before .before .before .before .before .before .before .before
     .before .rooms-lent in segments-few _ (q .ensures)
 
 slice-aggregate-propose-split-15 : tie.Need-slice-aggregate-propose-split-15
-slice-aggregate-propose-split-15 c = let q = c .before .before .before .before .before .before .before .before .before .before .before .before
-    .before .before .before .rooms-lent in lent-long (sheetRooms .«gap_segments») (q .result .«gap_segments») 0 (segments-few _ (q .ensures))
+slice-aggregate-propose-split-15 c = let q = c .before .before .before .before .before .before .before .before .before .before .before .before .before
+    .before .before .rooms-lent in lent-long (sheetRooms .«gap_segments») (q .result .«gap_segments») 0 (segments-few _ (q .ensures))
 
 propose-split-requires : tie.Need-propose-split-requires
 propose-split-requires c κs = search needs
@@ -184,15 +188,16 @@ slice-aggregate-write-tables-4 c =
     .before .before .before .before .before .before .before .before .before .before .before .before in
     let q = lent-at p .rooms-lent in
     back-long (sheetRooms .uses) (q .result .uses) (ofBits binary32 0) (uses-few _ (q .ensures)) (p .propose-split .last .1 .1 .1 .1 .1 .0) (p
-    .propose-split .kept .1 .1 .1 .1 .1 .0)
+    .propose-split .kept
+    .1 .1 .1 .1 .1 .0)
 
 slice-aggregate-write-tables-5 : tie.Need-slice-aggregate-write-tables-5
 slice-aggregate-write-tables-5 c =
     let p = c .before .before .before .before .before .before .before .before .before .before .before .before .before .before .before .before .before
     .before .before .before .before .before .before .before .before .before .before .before .before .before in
     let q = lent-at p .rooms-lent in
-    back-long (sheetRooms .uses) (q .result .uses) (ofBits binary32 0) (uses-few _ (q .ensures)) (p .propose-split .last .1 .1 .1 .1 .1 .1 .0) (p
-    .propose-split .kept .1 .1 .1 .1 .1 .1 .0)
+    back-long (sheetRooms .uses) (q .result .uses) (ofBits binary32 0) (uses-few _ (q .ensures)) (p .propose-split .last .1 .1 .1 .1 .1 .1 .0) (p .propose-split
+    .kept .1 .1 .1 .1 .1 .1 .0)
 
 slice-aggregate-write-tables-6 : tie.Need-slice-aggregate-write-tables-6
 slice-aggregate-write-tables-6 c =
@@ -200,7 +205,8 @@ slice-aggregate-write-tables-6 c =
     .before .before .before .before .before .before .before .before .before .before .before .before .before .before in
     let q = lent-at p .rooms-lent in
     back-long (sheetRooms .uses) (q .result .uses) (ofBits binary32 0) (uses-few _ (q .ensures)) (p .propose-split .last .1 .1 .1 .1 .1 .1 .1 .0) (p
-    .propose-split .kept .1 .1 .1 .1 .1 .1 .1 .0)
+    .propose-split
+    .kept .1 .1 .1 .1 .1 .1 .1 .0)
 
 slice-aggregate-write-tables-7 : tie.Need-slice-aggregate-write-tables-7
 slice-aggregate-write-tables-7 c =
@@ -208,7 +214,8 @@ slice-aggregate-write-tables-7 c =
     .before .before .before .before .before .before .before .before .before .before .before .before .before .before .before in
     let q = lent-at p .rooms-lent in
     back-long (sheetRooms .gaps) (q .result .gaps) 0 (gaps-few _ (q .ensures)) (p .propose-split .last .1 .1 .1 .1 .1 .1 .1 .1 .0) (p .propose-split
-    .kept .1 .1 .1 .1 .1 .1 .1 .1 .0)
+    .kept .1 .1 .1
+    .1 .1 .1 .1 .1 .0)
 
 slice-aggregate-write-tables-8 : tie.Need-slice-aggregate-write-tables-8
 slice-aggregate-write-tables-8 c =
@@ -216,15 +223,16 @@ slice-aggregate-write-tables-8 c =
     .before .before .before .before .before .before .before .before .before .before .before .before .before .before .before .before in
     let q = lent-at p .rooms-lent in
     back-long (sheetRooms .gaps) (q .result .gaps) 0 (gaps-few _ (q .ensures)) (p .propose-split .last .1 .1 .1 .1 .1 .1 .1 .1 .1 .0) (p
-    .propose-split .kept .1 .1 .1 .1 .1 .1 .1 .1 .1 .0)
+    .propose-split .kept .1 .1
+    .1 .1 .1 .1 .1 .1 .1 .0)
 
 slice-aggregate-write-tables-9 : tie.Need-slice-aggregate-write-tables-9
 slice-aggregate-write-tables-9 c =
     let p = c .before .before .before .before .before .before .before .before .before .before .before .before .before .before .before .before .before
     .before .before .before .before .before .before .before .before .before .before .before .before .before .before .before .before .before in
     let q = lent-at p .rooms-lent in
-    back-long (sheetRooms .gaps) (q .result .gaps) (ofBits binary32 0) (gaps-few _ (q .ensures)) (p .propose-split .last .1 .1 .1 .1 .1 .1 .1 .1 .1
-    .1 .0) (p .propose-split .kept .1 .1 .1 .1 .1 .1 .1 .1 .1 .1 .0)
+    back-long (sheetRooms .gaps) (q .result .gaps) (ofBits binary32 0) (gaps-few _ (q .ensures)) (p .propose-split .last .1 .1 .1 .1 .1 .1 .1 .1 .1 .1 .0) (p
+    .propose-split .kept .1 .1 .1 .1 .1 .1 .1 .1 .1 .1 .0)
 
 slice-aggregate-write-tables-10 : tie.Need-slice-aggregate-write-tables-10
 slice-aggregate-write-tables-10 c =
@@ -232,15 +240,18 @@ slice-aggregate-write-tables-10 c =
     .before .before .before .before .before .before .before .before .before .before .before .before .before .before .before .before .before .before in
     let q = lent-at p .rooms-lent in
     back-long (sheetRooms .gaps) (q .result .gaps) 0 (gaps-few _ (q .ensures)) (p .propose-split .last .1 .1 .1 .1 .1 .1 .1 .1 .1 .1 .1 .0) (p
-    .propose-split .kept .1 .1 .1 .1 .1 .1 .1 .1 .1 .1 .1 .0)
+    .propose-split .kept
+    .1 .1 .1 .1 .1 .1 .1 .1 .1 .1 .1 .0)
 
 slice-aggregate-write-tables-11 : tie.Need-slice-aggregate-write-tables-11
 slice-aggregate-write-tables-11 c =
     let p = c .before .before .before .before .before .before .before .before .before .before .before .before .before .before .before .before .before
-    .before .before .before .before .before .before .before .before .before .before .before .before .before .before .before .before .before .before .before in
+    .before .before .before .before .before .before .before .before .before .before .before .before .before .before .before .before .before .before
+    .before in
     let q = lent-at p .rooms-lent in
     back-long (sheetRooms .gaps) (q .result .gaps) (ofBits binary32 0) (gaps-few _ (q .ensures)) (p .propose-split .last .1 .1 .1 .1 .1 .1 .1 .1 .1
-    .1 .1 .1 .0) (p .propose-split .kept .1 .1 .1 .1 .1 .1 .1 .1 .1 .1 .1 .1 .0)
+    .1 .1 .1 .0) (p
+    .propose-split .kept .1 .1 .1 .1 .1 .1 .1 .1 .1 .1 .1 .1 .0)
 
 slice-aggregate-write-tables-12 : tie.Need-slice-aggregate-write-tables-12
 slice-aggregate-write-tables-12 c =
@@ -249,7 +260,8 @@ slice-aggregate-write-tables-12 c =
     .before .before in
     let q = lent-at p .rooms-lent in
     back-long (sheetRooms .«gap_segments») (q .result .«gap_segments») 0 (segments-few _ (q .ensures)) (p .propose-split .last .1 .1 .1 .1 .1 .1 .1
-    .1 .1 .1 .1 .1 .1 .0) (p .propose-split .kept .1 .1 .1 .1 .1 .1 .1 .1 .1 .1 .1 .1 .1 .0)
+    .1 .1 .1 .1 .1 .1 .0) (p
+    .propose-split .kept .1 .1 .1 .1 .1 .1 .1 .1 .1 .1 .1 .1 .1 .0)
 
 slice-aggregate-write-tables-13 : tie.Need-slice-aggregate-write-tables-13
 slice-aggregate-write-tables-13 c =
@@ -258,7 +270,8 @@ slice-aggregate-write-tables-13 c =
     .before .before .before in
     let q = lent-at p .rooms-lent in
     back-long (sheetRooms .«gap_segments») (q .result .«gap_segments») 0 (segments-few _ (q .ensures)) (p .propose-split .last .1 .1 .1 .1 .1 .1 .1
-    .1 .1 .1 .1 .1 .1 .1 .0) (p .propose-split .kept .1 .1 .1 .1 .1 .1 .1 .1 .1 .1 .1 .1 .1 .1 .0)
+    .1 .1 .1 .1 .1 .1 .1 .0) (p
+    .propose-split .kept .1 .1 .1 .1 .1 .1 .1 .1 .1 .1 .1 .1 .1 .1 .0)
 
 slice-aggregate-write-tables-14 : tie.Need-slice-aggregate-write-tables-14
 slice-aggregate-write-tables-14 c =
@@ -267,7 +280,8 @@ slice-aggregate-write-tables-14 c =
     .before .before .before .before in
     let q = lent-at p .rooms-lent in
     back-long (sheetRooms .«gap_segments») (q .result .«gap_segments») 0 (segments-few _ (q .ensures)) (p .propose-split .last .1 .1 .1 .1 .1 .1 .1
-    .1 .1 .1 .1 .1 .1 .1 .1 .0) (p .propose-split .kept .1 .1 .1 .1 .1 .1 .1 .1 .1 .1 .1 .1 .1 .1 .1 .0)
+    .1 .1 .1 .1 .1 .1 .1 .1 .0)
+    (p .propose-split .kept .1 .1 .1 .1 .1 .1 .1 .1 .1 .1 .1 .1 .1 .1 .1 .0)
 
 slice-aggregate-write-tables-15 : tie.Need-slice-aggregate-write-tables-15
 slice-aggregate-write-tables-15 c =
@@ -276,7 +290,8 @@ slice-aggregate-write-tables-15 c =
     .before .before .before .before .before in
     let q = lent-at p .rooms-lent in
     back-long (sheetRooms .«gap_segments») (q .result .«gap_segments») 0 (segments-few _ (q .ensures)) (p .propose-split .last .1 .1 .1 .1 .1 .1 .1
-    .1 .1 .1 .1 .1 .1 .1 .1 .1 .0) (p .propose-split .kept .1 .1 .1 .1 .1 .1 .1 .1 .1 .1 .1 .1 .1 .1 .1 .1 .0)
+    .1 .1 .1 .1 .1 .1 .1 .1 .1
+    .0) (p .propose-split .kept .1 .1 .1 .1 .1 .1 .1 .1 .1 .1 .1 .1 .1 .1 .1 .1 .0)
 
 write-tables-requires : tie.Need-write-tables-requires
 write-tables-requires c κs = search needs

@@ -45,8 +45,8 @@ column-requires-12 c κs = (c .before .before .before .before .before .before .b
 column-requires-13 : tie.Need-column-requires-13
 column-requires-13 c κs = (
   c .before .before .before .before .before .before .before .before .before .before .before .before .before .pre,
-  is-column
-      _ _ refl refl,
+  is-column _
+      _ refl refl,
 )
 
 column-requires-14 : tie.Need-column-requires-14
@@ -124,16 +124,16 @@ returns c =
     .before .before .before .before .before .before .before in
     λ i. jobOf (parametersOf (cellsColumn (s .args .cells .now) (s .args .counts)))
     (jobColumns
-    (c .before .before .before .before .before .before .before .before .before .before .before .before .before .before .before .before .before
-    .before .before .before .before .before .column .ensures i)
-    (c .before .before .before .before .before .before .before .before .before .before .before .before .before .before .before .before .before
-    .before .before .before .before .column2 .ensures i)
-    (c .before .before .before .before .before .before .before .before .before .before .before .before .before .before .before .before .before
-    .before .before .before .column3 .ensures i)
-    (c .before .before .before .before .before .before .before .before .before .before .before .before .before .before .before .before .before
-    .before .before .column4 .ensures i)
-    (c .before .before .before .before .before .before .before .before .before .before .before .before .before .before .before .before .before
-    .before .column5 .ensures i)
+    (c .before .before .before .before .before .before .before .before .before .before .before .before .before .before .before .before .before .before
+    .before .before .before .before .column .ensures i)
+    (c .before .before .before .before .before .before .before .before .before .before .before .before .before .before .before .before .before .before
+    .before .before .before .column2 .ensures i)
+    (c .before .before .before .before .before .before .before .before .before .before .before .before .before .before .before .before .before .before
+    .before .before .column3 .ensures i)
+    (c .before .before .before .before .before .before .before .before .before .before .before .before .before .before .before .before .before .before
+    .before .column4 .ensures i)
+    (c .before .before .before .before .before .before .before .before .before .before .before .before .before .before .before .before .before .before
+    .column5 .ensures i)
     (c .before .before .before .before .before .before .before .before .before .before .before .before .before .before .before .before .before
     .column6 .ensures i)
     (c .before .before .before .before .before .before .before .before .before .before .before .before .before .before .before .before .column7 .ensures i)

@@ -24,8 +24,8 @@ loop-holds c =
     let a = c .before .before .before .before .before .before .args in (
       omega arith,
       refl,
-      rows-start (gapLine (a .from .now) (a .to .now) (a .weight .now) (a .live .now) (a .freq .now)) 57 (gap-wide (a .from .now)
-          (a .to .now) (a .weight .now) (a .live .now) (a .freq .now)) (a .rows) _ (a .at) (a .out .now) (omega arith),
+      rows-start (gapLine (a .from .now) (a .to .now) (a .weight .now) (a .live .now) (a .freq .now)) 57 (gap-wide (a .from .now) (a
+          .to .now) (a .weight .now) (a .live .now) (a .freq .now)) (a .rows) _ (a .at) (a .out .now) (omega arith),
     )
 
 mul-put-gap : tie.Need-mul-put-gap Inv-loop μ-loop

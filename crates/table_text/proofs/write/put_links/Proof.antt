@@ -51,8 +51,8 @@ loop-again c =
     let a = t .before .before .before .before .before .args in (
       omega arith,
       w .kept .0 ∙ l .inv .1,
-      rows-step (linkLine (a .prev .now) (a .next .now)) 24 (link-wide (a .prev .now) (a .next .now)) (a .rows) (l .i) (a .at + 24 * l .i) (a .at +
-          24 * (l .i + 1)) (l .out)
+      rows-step (linkLine (a .prev .now) (a .next .now)) 24 (link-wide (a .prev .now) (a .next .now)) (a .rows) (l .i) (a .at + 24 * l .i) (a .at + 24
+          * (l .i + 1)) (l .out)
           (w .last .0) (t .loop-test .taken) (omega arith) (w .ensures)
           ∙ l .inv .2,
     )

@@ -64,8 +64,8 @@ returns : tie.Need-returns Inv-loop μ-loop
 returns c =
     let l = c .before .loop in
     let a = c .before .before .before .before .before .before .before .args in
-    sym (rows-end (useLine (a .inst .now) (a .weight .now) (a .left .now) (a .right .now)) 46 (use-wide (a .inst .now) (a .weight .now) (a .left
-    .now) (a .right .now)) (a .rows) (l .i) (a .at + 46 * l .i) (l .out) (c .loop-test .left)) ∙ l .inv .2
+    sym (rows-end (useLine (a .inst .now) (a .weight .now) (a .left .now) (a .right .now)) 46 (use-wide (a .inst .now) (a .weight .now) (a .left .now)
+    (a .right .now)) (a .rows) (l .i) (a .at + 46 * l .i) (l .out) (c .loop-test .left)) ∙ l .inv .2
 
 pub put-uses-spec : {M : Type 1} → statement M
 put-uses-spec =

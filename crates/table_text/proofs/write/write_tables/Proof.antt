@@ -28,9 +28,9 @@ returns : tie.Need-returns
 returns c =
     let a = c .before .before .before .before .before .before .before .before .before .before .before .before .before .before .before .before .before
     .before .args in
-    text-short (workColumns (a .prev .now) (a .next .now) (a .inst .now) (a .weight .now) (a .left .now) (a .right .now) (a .gap-from .now) (a
-    .gap-to .now) (a .gap-weight .now) (a .live .now) (a .freq .now) (a .segment-from .now) (a .segment-to .now) (a .segment-value .now) (a
-    .segment-gap .now)) (a .rows) (a .out .now) (room-short _ _ (c .before .tables-fit .ensures) (c .if1 .taken))
+    text-short (workColumns (a .prev .now) (a .next .now) (a .inst .now) (a .weight .now) (a .left .now) (a .right .now) (a .gap-from .now) (a .gap-to
+    .now) (a .gap-weight .now) (a .live .now) (a .freq .now) (a .segment-from .now) (a .segment-to .now) (a .segment-value .now) (a .segment-gap
+    .now)) (a .rows) (a .out .now) (room-short _ _ (c .before .tables-fit .ensures) (c .if1 .taken))
 
 mul-uses-at : tie.Need-mul-uses-at
 mul-uses-at c = omega (arith, small (c .before))
