@@ -8,6 +8,7 @@ import os, re, sys
 ORDER = "PBVSUWEF"
 FIELDS = dict(P=5, B=3, V=1, S=6, U=3, W=1, E=6, F=3)
 LIMIT = dict(P=1, B=128, V=128, S=128, U=256, W=128, E=256, F=128)
+ONCE = "P"                                          # a second one is out of order
 NUMBER = re.compile(rb"(?=[ 0-9]{11}$) *(0|[1-9][0-9]*)$")
 
 
@@ -55,7 +56,7 @@ def expect(text, spare=99):
             return refusal(14, number)
         letter, row = got
         place = ORDER.index(letter)
-        if (letter == "P") != (number == 1) or place < last:
+        if (number == 1 and letter != "P") or place < last or (place == last and letter in ONCE):
             return refusal(14, number)
         if len(rows[letter]) == LIMIT[letter]:
             return refusal(15, number)
@@ -96,7 +97,7 @@ def cases():
     yield A + W + E + F
     yield P
     yield P + F
-    for k, one in zip(ORDER, (P, B, V, S, U, W, E, F)):
+    for k, one in zip(ORDER, (P, B, V, S, U, W, E, F), strict=True):
         yield one                                   # without P, but for P itself
         yield P + one                               # a second P is 14 at line 2
         yield (P if k != "P" else b"") + one[:-1]    # no line feed at the end

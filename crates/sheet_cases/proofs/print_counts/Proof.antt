@@ -2,15 +2,16 @@
 -- Assumes nothing.
 use native.Mathlib.Omega.{arith}
 use Prim.Native.Nat.{_-_, _≤_}
+use Rattle.sheet.specs.Kinds.{kinds}
 use Rattle.sheet_cases.proofs.print_counts.Statement.{statement}
 use Rattle.sheet_cases.proofs.print_counts.Tie as tie
 
 abbrev Inv-loop : tie.InvT-loop
 Inv-loop counts k₀ k =
-    k ≤ 8
+    k ≤ kinds
 
 abbrev μ-loop : tie.MeasureT-loop
-μ-loop counts k₀ k = 8 - k
+μ-loop counts k₀ k = kinds - k
 
 print-byte-requires : tie.Need-print-byte-requires Inv-loop μ-loop
 print-byte-requires c κs = omega arith
