@@ -93,11 +93,6 @@ module _ (job : Job) (n : ℕ) (counted : n ≡ length (job .blocks)) where
   pub links-filled : (rooms : Rooms) → linksUsed (answerOf job rooms) n ≡ length (tablesOf job rooms .prevs)
   links-filled rooms = links-checked (refusalOf job rooms) (bestOf (sourceOfJob job))
 
--- a column that keeps its length has room for what it is filled with
-rows-inside : {A : Type 0} (rows lent : List A) {now : List A} → now ≡ filled rows lent → length now ≡ length lent → length rows ≤ length lent
-rows-inside rows lent f e =
-    omega (arith, ap length f, length-append rows (drop (length rows) lent), length-drop (length rows) lent, e)
-
 -- a job that was proposed, with tables of the rows lent
 module _ {job : Job} (asked : Rooms) {lent now : WorkColumns} {p : Proposed} (proposed : IsProposed job lent now p)
     (rooms : roomsOf lent ≡ roomsWithin asked) where
@@ -119,36 +114,6 @@ module _ {job : Job} (asked : Rooms) {lent now : WorkColumns} {p : Proposed} (pr
   pub answer-said : shownOf (job .k) (p .answer) ≡ shownOfJob job (roomsWithin asked)
   answer-said = ap (shownOf (job .k)) (proposed .answer) ∙ ap (λ (r : Rooms). shownOf (job .k) (answerOf job r)) rooms
 
-  -- and is no longer than that of all rows: what is filled has kept its length
-  pub text-enough : length (now .prevs) ≡ length (lent .prevs) → length (now .insts) ≡ length (lent .insts) → length (now .froms) ≡ length (lent .froms)
-      → length (now .segment-froms) ≡ length (lent .segment-froms) → length (lent .prevs) ≤ sheetRooms .links → length (lent .insts) ≤ sheetRooms .uses
-      → length (lent .froms) ≤ sheetRooms .gaps → length (lent .segment-froms) ≤ sheetRooms .«gap_segments»
-      → length (tablesText (tablesOf job (roomsWithin asked))) ≤ bytesOfRows sheetRooms
-  text-enough a b c d w x y z =
-      let t = tablesOf job (roomsOf lent) in
-      let f = proposed .tables in
-      let links = rows-inside (t .prevs) (lent .prevs) (f .prev) a in
-      let uses = rows-inside (columnsOfTables t .insts) (lent .insts) (f .inst) b in
-      let gaps = rows-inside (columnsOfTables t .froms) (lent .froms) (f .from) c in
-      let segments = rows-inside (columnsOfTables t .segment-froms) (lent .segment-froms) (f .segment-from) d in
-      let own : length (tablesText t) ≤ bytesOfRows sheetRooms =
-      omega (
-        arith,
-        text-bytes (columnsOfTables t) (rowsOfTables t),
-        links,
-        uses,
-        gaps,
-        segments,
-        length-map (t .uses) (λ (u : SplitUse). u .inst .0),
-        length-map (t .gaps) (λ (g : Gap). g .from),
-        length-map (t .segments) (λ (s : Overlap). s .from),
-        w,
-        x,
-        y,
-        z,
-      ) in
-      subst (λ (r : Rooms). length (tablesText (tablesOf job r)) ≤ bytesOfRows sheetRooms) rooms own
-
 -- no text at all
 pub nothing-wrote : (out : List ℕ) → Wrote [] out out (Written·is.Bytes 0)
 nothing-wrote out = let e = le-ltb (length out) 0 (omega arith) in record { answer = rw e; bytes = rw e }
@@ -168,8 +133,6 @@ refused-answered text asked number line e {out} {out-now} tables {w} wrote =
       answer = subst (λ (v : Verdict). Wrote (answerText (ofVerdict v (shownOfJob job (roomsWithin asked)))) out out-now w) (sym e) wrote;
       tables = subst (λ (v : Verdict). Wrote (tablesText (ifRead v (tablesOf job (roomsWithin asked)))) tables tables (Written·is.Bytes 0)) (sym e)
           (subst (λ (x : List ℕ). Wrote x tables tables (Written·is.Bytes 0)) (sym no-text) (nothing-wrote tables));
-      enough = subst (λ (v : Verdict). length (tablesText (ifRead v (tablesOf job (roomsWithin asked)))) ≤ bytesOfRows sheetRooms) (sym e)
-          (omega (arith, ap length no-text));
     }
 
 -- a sheet, by the answer to its job
@@ -183,5 +146,4 @@ sheet-answered text asked e {job} same {out} {out-now} {tables} {tables-now} {a}
     record {
       answer = subst (λ (v : Verdict). Wrote (answerText (ofVerdict v (shownOfJob j (roomsWithin asked)))) out out-now (a .answer)) (sym e) (own .answer);
       tables = subst (λ (v : Verdict). Wrote (tablesText (ifRead v (tablesOf j (roomsWithin asked)))) tables tables-now (a .tables)) (sym e) (own .tables);
-      enough = subst (λ (v : Verdict). length (tablesText (ifRead v (tablesOf j (roomsWithin asked)))) ≤ bytesOfRows sheetRooms) (sym e) (own .enough);
     }

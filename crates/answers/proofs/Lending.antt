@@ -15,51 +15,27 @@ use Rattle.answers.specs.SheetRooms.{sheetRooms, roomsWithin}
 abbrev none : Float
 none = ofBits binary32 0
 
+-- a part of each array, by the rows that are lent
+abbrev partOf : (ℕ → List ℕ → List ℕ) → (ℕ → List Float → List Float) → Rooms → WorkColumns
+partOf part part-of-weights r =
+    let links : List ℕ = part (r .links) (replicate (sheetRooms .links) 0) in
+    let uses : List ℕ = part (r .uses) (replicate (sheetRooms .uses) 0) in
+    let use-weights : List Float = part-of-weights (r .uses) (replicate (sheetRooms .uses) none) in
+    let gaps : List ℕ = part (r .gaps) (replicate (sheetRooms .gaps) 0) in
+    let gap-weights : List Float = part-of-weights (r .gaps) (replicate (sheetRooms .gaps) none) in
+    let segments : List ℕ = part (r .«gap_segments») (replicate (sheetRooms .«gap_segments») 0) in
+    workColumns links links uses use-weights use-weights use-weights gaps gaps gap-weights gaps gap-weights segments segments segments segments
+
 abbrev pub lentOf : Rooms → WorkColumns
-lentOf r =
-    workColumns
-    (take (r .links) (replicate (sheetRooms .links) 0))
-    (take (r .links) (replicate (sheetRooms .links) 0))
-    (take (r .uses) (replicate (sheetRooms .uses) 0))
-    (take (r .uses) (replicate (sheetRooms .uses) none))
-    (take (r .uses) (replicate (sheetRooms .uses) none))
-    (take (r .uses) (replicate (sheetRooms .uses) none))
-    (take (r .gaps) (replicate (sheetRooms .gaps) 0))
-    (take (r .gaps) (replicate (sheetRooms .gaps) 0))
-    (take (r .gaps) (replicate (sheetRooms .gaps) none))
-    (take (r .gaps) (replicate (sheetRooms .gaps) 0))
-    (take (r .gaps) (replicate (sheetRooms .gaps) none))
-    (take (r .«gap_segments») (replicate (sheetRooms .«gap_segments») 0))
-    (take (r .«gap_segments») (replicate (sheetRooms .«gap_segments») 0))
-    (take (r .«gap_segments») (replicate (sheetRooms .«gap_segments») 0))
-    (take (r .«gap_segments») (replicate (sheetRooms .«gap_segments») 0))
+lentOf r = partOf take take r
 
 abbrev pub behindOf : Rooms → WorkColumns
-behindOf r =
-    workColumns
-    (drop (r .links) (replicate (sheetRooms .links) 0))
-    (drop (r .links) (replicate (sheetRooms .links) 0))
-    (drop (r .uses) (replicate (sheetRooms .uses) 0))
-    (drop (r .uses) (replicate (sheetRooms .uses) none))
-    (drop (r .uses) (replicate (sheetRooms .uses) none))
-    (drop (r .uses) (replicate (sheetRooms .uses) none))
-    (drop (r .gaps) (replicate (sheetRooms .gaps) 0))
-    (drop (r .gaps) (replicate (sheetRooms .gaps) 0))
-    (drop (r .gaps) (replicate (sheetRooms .gaps) none))
-    (drop (r .gaps) (replicate (sheetRooms .gaps) 0))
-    (drop (r .gaps) (replicate (sheetRooms .gaps) none))
-    (drop (r .«gap_segments») (replicate (sheetRooms .«gap_segments») 0))
-    (drop (r .«gap_segments») (replicate (sheetRooms .«gap_segments») 0))
-    (drop (r .«gap_segments») (replicate (sheetRooms .«gap_segments») 0))
-    (drop (r .«gap_segments») (replicate (sheetRooms .«gap_segments») 0))
+behindOf r = partOf drop drop r
 
 -- the first n of an array's items, and an array that is whole again
 module _ {A : Type 0} (N n : ℕ) (a : A) (h : n ≤ N) where
   pub lent-long : n ≡ length (take n (replicate N a))
   lent-long = sym (length-take-le n (replicate N a) (omega (arith, length-replicate N a, h)))
-
-  pub lent-most : length (take n (replicate N a)) ≤ N
-  lent-most = omega (arith, sym lent-long, h)
 
   pub back-long : (last : List A) → length last ≡ length (take n (replicate N a)) → N ≡ length (last ++ drop n (replicate N a))
   back-long last e =

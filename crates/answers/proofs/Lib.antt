@@ -1,5 +1,6 @@
 -- What a job and a sheet are answered, how much of a text decides it, how much room is enough, and the cases
 pub mod EvenTables
+pub mod FitTables
 pub mod Lending
 pub mod ReadJob
 pub mod Answering

@@ -12,8 +12,8 @@ use Rattle.outcome.specs.declared.grow.Proposed.{Proposed}
 use Rattle.proposer.specs.Answer.{answerOf}
 use Rattle.tables.specs.JobTables.{tablesOf}
 use Rattle.figures.specs.Figures.{shownOf}
-use Rattle.table_text.specs.TablesText.{tablesText, bytesOfRows}
-use Rattle.answers.specs.SheetRooms.{sheetRooms, roomsWithin}
+use Rattle.table_text.specs.TablesText.{tablesText}
+use Rattle.answers.specs.SheetRooms.{roomsWithin}
 use Rattle.answers.specs.declared.job.Answered.{Answered}
 
 -- the answer to a job in figures, where the work tables have so many rows
@@ -24,8 +24,6 @@ shownOfJob job rooms = shownOf (job .k) (answerOf job rooms)
 pub record IsAnsweredJob (job : Job) (asked : Rooms) (out out-now lines lines-now : List ℕ) (r : Answered) : Type 0 where
   pub answer : Wrote (answerText (shownOfJob job (roomsWithin asked))) out out-now (r .answer)
   pub tables : Wrote (tablesText (tablesOf job (roomsWithin asked))) lines lines-now (r .tables)
-  -- room for all rows is enough
-  pub enough : length (tablesText (tablesOf job (roomsWithin asked))) ≤ bytesOfRows sheetRooms
 
 -- ---- for contracts of private functions
 -- how many links are filled: one a block, and none where the job is refused

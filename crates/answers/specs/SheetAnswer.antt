@@ -12,8 +12,8 @@ use Rattle.filling.specs.declared.lent.Rooms.{Rooms}
 use Rattle.filling.specs.SourceTables.{Tables}
 use Rattle.tables.specs.JobTables.{noTables, tablesOf}
 use Rattle.cells.specs.SheetJob.{jobOfSheet}
-use Rattle.table_text.specs.TablesText.{tablesText, bytesOfRows}
-use Rattle.answers.specs.SheetRooms.{sheetRooms, roomsWithin}
+use Rattle.table_text.specs.TablesText.{tablesText}
+use Rattle.answers.specs.SheetRooms.{roomsWithin}
 use Rattle.answers.specs.JobAnswer.{shownOfJob}
 use Rattle.answers.specs.declared.job.Answered.{Answered}
 
@@ -41,5 +41,3 @@ tablesOfText text rooms = ifRead (verdict text) (tablesOf (jobOfSheet (sheetOf t
 pub record IsAnswered (text : List ℕ) (asked : Rooms) (out out-now lines lines-now : List ℕ) (r : Answered) : Type 0 where
   pub answer : Wrote (answerOfText text (roomsWithin asked)) out out-now (r .answer)
   pub tables : Wrote (tablesText (tablesOfText text (roomsWithin asked))) lines lines-now (r .tables)
-  -- room for all rows is enough
-  pub enough : length (tablesText (tablesOfText text (roomsWithin asked))) ≤ bytesOfRows sheetRooms

@@ -23,7 +23,7 @@ pub const LINK_ROWS: usize = TABLE[B].limit;
 // No answer has more bytes (proofs/Rooms).
 pub const ANSWER_BYTES: usize = 81;
 
-// The bytes of the tables' text where every row is used: no job's is longer (`enough` of specs/JobAnswer).
+// The bytes of the tables' text where every row is used: no job's is longer (proofs/FitTables).
 pub const TABLE_BYTES: usize = LINK_LINE * LINK_ROWS
     + USE_LINE * USE_ROWS
     + GAP_LINE * GAP_ROWS

@@ -13,8 +13,8 @@ use Rattle.refusals.proofs.Columns.{columns-taken}
 use Rattle.table_text.specs.TablesText.{columnsText}
 use Rattle.table_text.proofs.FilledText.{longer}
 use Rattle.answers.specs.SheetRooms.{sheetRooms}
-use Rattle.answers.proofs.Lending.{behindOf, lent-long, lent-most, back-long, links-few, uses-few, gaps-few, segments-few, lent-rooms}
-use Rattle.answers.proofs.Answering.{tables-said, answer-said, text-enough}
+use Rattle.answers.proofs.Lending.{behindOf, lent-long, back-long, links-few, uses-few, gaps-few, segments-few, lent-rooms}
+use Rattle.answers.proofs.Answering.{tables-said, answer-said}
 use Rattle.answers.proofs.job.answer_job.Statement.{statement}
 use Rattle.answers.proofs.job.answer_job.Tie as tie
 
@@ -346,11 +346,6 @@ returns c =
           (ap (columnsText (longer cols more)) (u .rows-used .ensures)
           ∙ tables-said (args .asked) proposed rooms more (n .count .result) blocks)
           (w .write-tables .ensures);
-      enough = text-enough (args .asked) proposed rooms (kept .1 .1 .0) (kept .1 .1 .1 .1 .0) (kept .1 .1 .1 .1 .1 .1 .1 .1 .0) (kept .1 .1 .1 .1 .1
-          .1 .1 .1 .1 .1 .1 .1 .1 .0)
-          (lent-most (sheetRooms .links) (q .result .links) 0 (links-few _ e)) (lent-most (sheetRooms .uses) (q .result .uses) 0 (uses-few _ e))
-          (lent-most (sheetRooms .gaps) (q .result .gaps) 0 (gaps-few _ e)) (lent-most (sheetRooms .«gap_segments») (q .result .«gap_segments») 0
-          (segments-few _ e));
     }
 
 pub answer-job-spec : {M : Type 1} → statement M
