@@ -7,7 +7,7 @@ use lib.Ieee.{Float, binary32, toBits, ofBits, sub, mul, div, round, lt, ofInt}
 use Rattle.numbers.specs.Weight.{unitsOf, weightLimit, valueOf}
 use Rattle.numbers.specs.Cost.{reloadCost, moveCost, spillCost}
 use Rattle.numbers.specs.Normal.{normalised, fraction, exceeds}
-use Rattle.numbers.specs.Figure.{figure}
+use Rattle.numbers.specs.Figure.{figureOf, figure}
 
 value : ℕ → Float
 unfolding valueOf ofBits
@@ -38,10 +38,12 @@ normalised-cases : map (λ (b : ℕ). toBits binary32 (normalised (value b) 2 1)
 unfolding toBits normalised value div lt ofInt
 normalised-cases = refl
 
--- 0.5, 0.009, the smallest weight, 999999.0, 1000000.0 and infinity
-figure-cases : map (λ (b : ℕ). figure (value b)) (1056964608 ∷ 1007908028 ∷ 1 ∷ 1232348144 ∷ 1232348160 ∷ 2139095040 ∷ [])
-    ≡ 500 ∷ 8 ∷ 0 ∷ 999999000 ∷ 999999999 ∷ 999999999 ∷ []
-unfolding figure value unitsOf
+-- 0.5; 1/16 and 3/16, which tie; 0.009, 0.0009 and 0.0004; zero and the smallest weight above it; 999999.9375, 1000000.0; the largest finite one
+-- and infinity
+figure-cases : map (λ (b : ℕ). figure (value b))
+    (1056964608 ∷ 1031798784 ∷ 1044381696 ∷ 1007908028 ∷ 980151802 ∷ 970045207 ∷ 0 ∷ 1 ∷ 1232348159 ∷ 1232348160 ∷ 2139095039 ∷ 2139095040 ∷ [])
+    ≡ 500 ∷ 62 ∷ 188 ∷ 9 ∷ 1 ∷ 1 ∷ 0 ∷ 1 ∷ 999999938 ∷ 999999999 ∷ 999999999 ∷ 999999999 ∷ []
+unfolding figure figureOf value unitsOf
 figure-cases = refl
 
 -- each kind's cost: in a register, in memory, a saved move, a class cost of 3.0, nothing

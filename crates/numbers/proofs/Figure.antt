@@ -1,74 +1,149 @@
--- The H figure from a weight's bits: the ceiling from exponent 150 on, and below that the digits times 1000, shifted
-use mathlib.Core.Path.{_≡_, refl, sym, ap, _∙_}
-use Prim.Native.Nat.{ℕ, zero, suc, _+_, _-_, _*_, _/_, _%_, _^_, _≤_, _<_, min}
-use native.Mathlib.Nat.{le-refl, le-trans, le-of-eq, lt-of-lt-of-le, lt-of-le-of-lt, not-suc-le-zero, le-of-suc-le-suc, mul-le-mul, mul-right-comm}
-use native.Mathlib.Nat.{div-lt-iff-lt-mul, le-div-iff-mul-le, one-mul, mul-div-mul-right, mod-eq-of-lt}
+-- The H figure: what it tells of a weight, that no other number does, that it rises with the weight
+use mathlib.Core.Path.{_≡_, refl, sym, ap, _∙_, subst}
+use mathlib.Core.Logic.{_⊎_, inl, inr, _↔_}
+use Prim.Native.Nat.{ℕ, zero, suc, _-_, _*_, _%_, _^_, _≤_, _<_, min, max}
+use native.Mathlib.Nat.{le-refl, le-trans, le-antisymm, lt-irrefl, lt-of-lt-of-le, not-suc-le-zero, mul-le-mul, mul-le-mul-right, suc-mul, zero-mul}
 use native.Mathlib.Omega.{arith}
-use mathlib.Core.Bool.{true, false}
-use lib.Dec.{T, lit≤, lit<}
-use lib.Ieee.{Float, nan, inf, fin, binary32, fits, ofBits, toBits}
-use lib.Pow.{pow-add, pow-pos, pow-mono}
-use Rattle.numbers.specs.Weight.{number, finite, unitsOf, weightLimit, valueOf}
-use Rattle.numbers.specs.Figure.{figure, ceiling}
-use Rattle.numbers.proofs.Bits.{fieldUnits, bits-units, value-is, value-beyond, value-back, weight-bits, fits-unsigned, bits-unsigned}
+use lib.Dec.{lit≤, lit<}
+use lib.Ieee.{Float}
+use lib.Ieee.Nearest.{closest, closest-mono}
+use Rattle.columns.proofs.Firsts.{split}
+use Rattle.numbers.specs.Weight.{unitsOf}
+use Rattle.numbers.specs.Figure.{ceiling, figureOf, figure, apart, Small, Tells}
+use Rattle.numbers.proofs.Nearest.{Near, closest-near, near-once}
 
--- a figure from the exponent and the digits of the bits
-abbrev pub fieldFigure : ℕ → ℕ → ℕ
-fieldFigure x t = min (fieldUnits x t * 1000 / 2 ^ 149) ceiling
+-- what is shown where h is the nearest whole number to the thousandths: 1 in the place of 0, h itself, or the ceiling
+data Shown (w h : ℕ) : ℕ → Type 0 where
+  raised : h ≡ 0 → 0 < w → Shown w h 1
+  plain : (h ≡ 0 → w ≡ 0) → h ≤ ceiling → Shown w h h
+  capped : ceiling < h → Shown w h ceiling
 
-pub figure-bits : (b : ℕ) → b ≤ weightLimit → fieldFigure (b / 2 ^ 23) (b % 2 ^ 23) ≡ figure (valueOf weightLimit b)
-unfolding figure
-figure-bits b h = sym (ap (λ (u : ℕ). min (u * 1000 / 2 ^ 149) ceiling) (ap unitsOf (value-is weightLimit b h) ∙ bits-units b h))
+shown : (w h : ℕ) → Shown w h (min (max (min (1000 * w) 1) h) ceiling)
+shown w h = go w h (split ceiling h)
+  where
+    go : (w h : ℕ) → (ceiling < h) ⊎ (h ≤ ceiling) → Shown w h (min (max (min (1000 * w) 1) h) ceiling)
+    go w h (inl l) = subst (Shown w h) (omega (arith, l)) (capped l)
+    go zero h (inr g) = subst (Shown zero h) (omega (arith, g)) (plain (λ _. refl) (omega (arith, g)))
+    go (suc w) zero (inr g) = subst (Shown (suc w) zero) (omega arith) (raised refl (omega arith))
+    go (suc w) (suc h) (inr g) = subst (Shown (suc w) (suc h)) (omega (arith, g)) (plain (λ e. absurd (omega (arith, e))) (omega (arith, g)))
 
--- what is no weight counts as zero
-pub figure-beyond : (b : ℕ) → weightLimit < b → 0 ≡ figure (valueOf weightLimit b)
-unfolding figure unitsOf
-figure-beyond b h = sym (ap figure (value-beyond weightLimit b h))
+-- with what is one of the measure in the place of 2 to the power 149, which `omega` does not read
+module _ (w one h : ℕ) (n : Near (1000 * w) one h) where
+  half : 2 * apart (h * one) (1000 * w) ≤ one
+  half = n .0
 
--- ---- shifted by 64 places or more, nothing is left
-cut : (q : ℕ) → q < 1 → 0 ≡ min q ceiling
-cut q h = omega arith
+  shown-near : (H : ℕ) → Shown w h H → ((0 < w) × (2000 * w < one) → ⊥) → H < ceiling → 2 * apart (H * one) (1000 * w) ≤ one
+  shown-near H (raised e p) s l = go (split (2000 * w) one)
+    where
+      go : (2000 * w < one) ⊎ (one ≤ 2000 * w) → 2 * apart (1 * one) (1000 * w) ≤ one
+      go (inl k) = absurd (s (p, k))
+      go (inr k) = let z : h * one ≡ 0 = ap (λ (x : ℕ). x * one) e ∙ zero-mul one in omega (arith, half, z, k)
+  shown-near H (plain z l) s k = half
+  shown-near H (capped l) s k = absurd (omega (arith, k))
 
-fits-word : (m : ℕ) → m < 16777216 → m * 1000 < 2 ^ 64
-fits-word m h = omega arith
+  shown-even : (H : ℕ) → Shown w h H → (2000 * w ≡ one → ⊥) → H < ceiling → 2 * apart (H * one) (1000 * w) ≡ one → H % 2 ≡ 0
+  shown-even H (raised e p) s l t =
+      let z : h * one ≡ 0 = ap (λ (x : ℕ). x * one) e ∙ zero-mul one in absurd (s (omega (arith, half, z, t)))
+  shown-even H (plain z l) s k t = n .1 t
+  shown-even H (capped l) s k t = absurd (omega (arith, k))
 
-pub shift-far : (m s : ℕ) → m < 16777216 → 64 ≤ s → 0 ≡ min (m * 1000 / 2 ^ s) ceiling
-shift-far m s h k =
-    cut (m * 1000 / 2 ^ s) (div-lt-iff-lt-mul (pow-pos s) .1 (lt-of-lt-of-le (fits-word m h) (le-trans (pow-mono k) (le-of-eq (sym (one-mul (2 ^ s)))))))
+  -- a whole number above zero is not the nearest one to what is below a half
+  shown-small : (H : ℕ) → Shown w h H → (0 < w) × (2000 * w < one) → H ≡ 1
+  shown-small H (raised e p) s = refl
+  shown-small H (plain z l) s = absurd (go h half z)
+    where
+      go : (h : ℕ) → 2 * apart (h * one) (1000 * w) ≤ one → (h ≡ 0 → w ≡ 0) → ⊥
+      go zero k z = let e = z refl in let p = s .0 in omega (arith, e, p)
+      go (suc h) k z = let m = suc-mul h one in let q = s .1 in omega (arith, k, m, q)
+  shown-small H (capped l) s = absurd (let m = mul-le-mul-right one l in let q = s .1 in omega (arith, half, m, q))
 
--- ---- an exponent of 150 or more: the weight is 2 to the power 23 or more
-full : (q : ℕ) → ceiling ≤ q → ceiling ≡ min q ceiling
-full q h = omega arith
+  shown-zero : (H : ℕ) → 0 < one → Shown w h H → (H ≡ 0) ↔ (w ≡ 0)
+  shown-zero H o (raised e p) = ((λ k. absurd (omega (arith, k))), (λ k. absurd (omega (arith, k, p))))
+  shown-zero H o (plain z l) = (z, λ k. go h half k)
+    where
+      go : (h : ℕ) → 2 * apart (h * one) (1000 * w) ≤ one → w ≡ 0 → h ≡ 0
+      go zero m k = refl
+      go (suc h) m k = let x = suc-mul h one in absurd (omega (arith, m, x, k, o))
+  shown-zero H o (capped l) = ((λ k. absurd (omega (arith, k))), (λ k. absurd (let m = mul-le-mul-right one l in omega (arith, half, m, k, o))))
 
-at-least : (t : ℕ) → 2 ^ 23 ≤ 2 ^ 23 + t
-at-least t = omega arith
+  -- the ceiling is odd, so what is a half below it is shown by the even number there
+  shown-full : (H : ℕ) → 0 < one → Shown w h H → (H ≡ ceiling) ↔ ((2 * ceiling - 1) * one < 2000 * w)
+  shown-full H o (raised e p) =
+      let z : h * one ≡ 0 = ap (λ (x : ℕ). x * one) e ∙ zero-mul one in
+      ((λ k. absurd (omega (arith, k))), (λ k. absurd (omega (arith, half, z, k, o))))
+  shown-full H o (capped l) = ((λ _. let m = mul-le-mul-right one l in omega (arith, half, m, o)), (λ _. refl))
+  shown-full H o (plain z l) = (
+    (λ e. up e (split (1999999997 * one) (2000 * w))),
+    (λ k. down k (split h ceiling)),
+  )
+    where
+      up : h ≡ ceiling → (1999999997 * one < 2000 * w) ⊎ (2000 * w ≤ 1999999997 * one) → 1999999997 * one < 2000 * w
+      up e (inl k) = k
+      up e (inr k) =
+          let m : h * one ≡ 999999999 * one = ap (λ (x : ℕ). x * one) e in
+          let t : 2 * apart (h * one) (1000 * w) ≡ one = omega (arith, half, m, k) in
+          let v = n .1 t in absurd (omega (arith, v, e))
 
-pub figure-full : (x t : ℕ) → 150 ≤ x → ceiling ≡ fieldFigure x t
-figure-full zero t h = absurd (not-suc-le-zero h)
-figure-full (suc y) t h =
-    full ((2 ^ 23 + t) * 2 ^ y * 1000 / 2 ^ 149)
-    (le-div-iff-mul-le (pow-pos 149) .1 (le-trans (lit≤ tt) (mul-le-mul (mul-le-mul (at-least t) (pow-mono (le-of-suc-le-suc h))) (le-refl 1000))))
+      down : 1999999997 * one < 2000 * w → (h < ceiling) ⊎ (ceiling ≤ h) → h ≡ ceiling
+      down k (inl m) = let x = mul-le-mul-right one m in let y = suc-mul h one in absurd (omega (arith, half, x, y, k))
+      down k (inr m) = omega (arith, l, m)
 
--- ---- an exponent below that and not 0: the digits shifted by what the exponent leaves of 150
-left-over : (y : ℕ) → suc y < 150 → 150 - suc y + y ≡ 149
-left-over y h = omega arith
+-- no whole number of units is half a thousandth: 125 divides 2000 and not 2 to the power 149
+no-half : (w : ℕ) → 2000 * w ≡ 2 ^ 149 → ⊥
+no-half w e =
+    let z : 2000 * w % 125 ≡ 0 = omega arith in
+    let k : _≡_ {A = ℕ} 0 62 = sym z ∙ ap (λ (x : ℕ). x % 125) e in
+    omega (arith, k)
 
-pub figure-shifted : (x t : ℕ) → 0 < x → x < 150 → min ((2 ^ 23 + t) * 1000 / 2 ^ (150 - x)) ceiling ≡ fieldFigure x t
-figure-shifted zero t p h = absurd (not-suc-le-zero p)
-figure-shifted (suc y) t p h =
-    ap (λ (q : ℕ). min q ceiling)
-    (sym (ap (λ (z : ℕ). z / 2 ^ 149) (mul-right-comm (2 ^ 23 + t) (2 ^ y) 1000)
-    ∙ ap (λ (z : ℕ). (2 ^ 23 + t) * 1000 * 2 ^ y / z) (ap (λ (z : ℕ). 2 ^ z) (sym (left-over y h)) ∙ pow-add 2 (150 - suc y) y)
-    ∙ mul-div-mul-right ((2 ^ 23 + t) * 1000) (2 ^ (150 - suc y)) (pow-pos y)))
+pub figure-tells : (w : Float) → Tells (unitsOf w) (figure w)
+unfolding figure figureOf
+figure-tells w =
+    let u = unitsOf w in
+    let h = closest (1000 * u) (2 ^ 149) in
+    let n = closest-near (1000 * u) (2 ^ 149) (lit< tt) in
+    let s = shown u h in
+    record {
+      near = shown-near u (2 ^ 149) h n (figure w) s;
+      even = shown-even u (2 ^ 149) h n (figure w) s (no-half u);
+      small = shown-small u (2 ^ 149) h n (figure w) s;
+      most = most s;
+      full = shown-full u (2 ^ 149) h n (figure w) (lit< tt) s;
+      zero = shown-zero u (2 ^ 149) h n (figure w) (lit< tt) s;
+    }
+  where
+    most : {w h H : ℕ} → Shown w h H → H ≤ ceiling
+    most (raised e p) = lit≤ tt
+    most (plain z l) = l
+    most (capped l) = le-refl ceiling
 
--- ---- the figure of a value, from its bits without their sign
-pub figure-unsigned : (w : Float) → T (fits binary32 w) → figure (valueOf weightLimit (toBits binary32 w % 2 ^ 31)) ≡ figure w
-unfolding toBits figure unitsOf valueOf ofBits
-figure-unsigned nan f = refl
-figure-unsigned (inf true) f = refl
-figure-unsigned (inf false) f = refl
-figure-unsigned (fin true m e) f =
-    ap (λ (b : ℕ). figure (valueOf weightLimit b)) (bits-unsigned m e f) ∙ ap figure (value-back (finite (number (fits-unsigned m e f))))
-figure-unsigned (fin false m e) f =
-    let p = finite (number f) in
-    ap (λ (b : ℕ). figure (valueOf weightLimit b)) (mod-eq-of-lt (lt-of-le-of-lt (weight-bits p) (lit< tt))) ∙ ap figure (value-back p)
+-- so what the figure tells is told by no other number
+pub tells-once : (w G H : ℕ) → Tells w G → Tells w H → G ≡ H
+tells-once w G H g h = by (split 0 w) (split (2000 * w) (2 ^ 149))
+  where
+    below : (Small w → ⊥) → (G < ceiling) ⊎ (ceiling ≤ G) → (H < ceiling) ⊎ (ceiling ≤ H) → (G < H) ⊎ (H ≤ G) → (H < G) ⊎ (G ≤ H) → G ≡ H
+    below s (inl p) (inl q) (inl l) k = absurd (near-once (1000 * w) (2 ^ 149) G H (lit< tt) (g .near s p, g .even p) (h .near s q, h .even q) l)
+    below s (inl p) (inl q) (inr l) (inl k) = absurd (near-once (1000 * w) (2 ^ 149) H G (lit< tt) (h .near s q, h .even q) (g .near s p, g .even p) k)
+    below s (inl p) (inl q) (inr l) (inr k) = le-antisymm k l
+    below s (inr p) q l k = let e = le-antisymm (g .most) p in e ∙ sym (h .full .1 (g .full .0 e))
+    below s (inl p) (inr q) l k = let e = le-antisymm (h .most) q in g .full .1 (h .full .0 e) ∙ sym e
+
+    others : (Small w → ⊥) → G ≡ H
+    others s = below s (split G ceiling) (split H ceiling) (split G H) (split H G)
+
+    by : (0 < w) ⊎ (w ≤ 0) → (2000 * w < 2 ^ 149) ⊎ (2 ^ 149 ≤ 2000 * w) → G ≡ H
+    by (inl p) (inl q) = g .small (p, q) ∙ sym (h .small (p, q))
+    by (inr p) q = others (λ s. not-suc-le-zero (le-trans (s .0) p))
+    by (inl p) (inr q) = others (λ s. lt-irrefl (2000 * w) (lt-of-lt-of-le (s .1) q))
+
+-- it rises with the weight
+pub figure-rises : (v w : Float) → unitsOf v ≤ unitsOf w → figure v ≤ figure w
+unfolding figure figureOf
+figure-rises v w h = go (1000 * unitsOf v) (1000 * unitsOf w) (mul-le-mul (le-refl 1000) h)
+  where
+    caps : (a b c d : ℕ) → a ≤ b → c ≤ d → min (max (min a 1) c) ceiling ≤ min (max (min b 1) d) ceiling
+    caps a b c d k l = omega arith
+
+    go : (a b : ℕ) → a ≤ b → min (max (min a 1) (closest a (2 ^ 149))) ceiling ≤ min (max (min b 1) (closest b (2 ^ 149))) ceiling
+    go a b k =
+        caps a b (closest a (2 ^ 149)) (closest b (2 ^ 149)) k
+        (closest-mono a (2 ^ 149) b (2 ^ 149) (lit< tt) (lit< tt) (mul-le-mul-right (2 ^ 149) k))

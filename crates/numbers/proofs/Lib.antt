@@ -7,5 +7,7 @@ pub mod Heaviest
 pub mod Normalised
 pub mod UseCosts
 pub mod Chain
+pub mod Nearest
 pub mod Figure
+pub mod FigureBits
 pub mod Cases

@@ -1,11 +1,11 @@
 // The normalised weight, the weight test and the H figure.
 ghost use mathlib.Core.Path.{_≡_};
-ghost use Prim.Native.Nat.{_+_, _*_, _/_, _^_, _<_, min};
+ghost use Prim.Native.Nat.{_+_, _^_, _<_, compare};
 ghost use lib.IntN.{pos};
-ghost use lib.Ieee.{binary32, ofInt};
+ghost use lib.Ieee.{binary32, ofInt, nearest};
 ghost use Rattle.numbers.specs.Weight.{weightLimit, valueOf};
 ghost use Rattle.numbers.specs.Normal.{normalised, exceeds};
-ghost use Rattle.numbers.specs.Figure.{figure};
+ghost use Rattle.numbers.specs.Figure.{figureOf, figure};
 use crate::weights;
 
 // The weight test's factor. It leaves room for the rounding of weights that are added again in another order.
@@ -16,6 +16,12 @@ const SIGN: u32 = 2147483648;
 
 // The largest finite f32.
 const LARGEST: f32 = 340282346638528859811704183484516925440.0;
+
+// The least H figure of a weight above zero.
+const LEAST: u32 = 1;
+
+// The H figure's ceiling.
+const CEILING: u32 = 999999999;
 
 // The whole number a + b as a float, rounded once. A cast is exact up to 2 to the power 24; above that the number goes in two
 // parts that are floats exactly, so that their sum is the one rounding.
@@ -46,19 +52,42 @@ pub fn strictly_exceeds(weight: f32, heaviest: f32) -> bool
     weight * FLOAT_PRECISION_ADJUST > heaviest
 }
 
-// floor(digits * 1000 / 2 ^ places), at most 999999999.
-fn shifted_figure(digits: u32, places: u32) -> u32
-    requires { ⌜ digits < 16777216 ⌝ }
-    ensures { λ r. ⌜ r ≡ min (digits * 1000 / 2 ^ places) 999999999 ⌝ }
+// A whole number, or the next one: by how twice the rest compares with what is one, and at a tie the even one.
+fn nearest_even(whole: u64, twice_rest: u64, one: u64) -> u64
+    requires { ⌜ whole < 2 ^ 63 ⌝ }
+    ensures { λ r. ⌜ r ≡ nearest whole (compare «twice_rest» one) ⌝ }
 {
-    if places >= 64 {
+    if twice_rest == one {
+        return whole + whole % 2;
+    }
+    if twice_rest > one {
+        return whole + 1;
+    }
+    whole
+}
+
+// n / 2 ^ places as H shows it: to the nearest, ties to even; at least 1 where it is above zero; at most the ceiling.
+fn figure_of(n: u64, places: u32) -> u32
+    requires { ⌜ n < 2 ^ 34 ⌝ }
+    ensures { λ r. ⌜ r ≡ figureOf n (2 ^ places) ⌝ }
+{
+    if n == 0 {
         return 0;
     }
-    let q = ((digits as u64) * 1000) >> places;
-    if q > 999999999 {
-        return 999999999;
+    // Less than a half.
+    if places >= 36 {
+        return LEAST;
     }
-    q as u32
+    let one = 1u64 << places;
+    let whole = n / one;
+    let figure = nearest_even(whole, n % one * 2, one);
+    if figure == 0 {
+        return LEAST;
+    }
+    if figure > CEILING as u64 {
+        return CEILING;
+    }
+    figure as u32
 }
 
 // The H figure of a weight, from its bits; of bits that are no weight's, 0.
@@ -70,17 +99,18 @@ fn figure_of_bits(bits: u32) -> u32
     }
     let exponent = bits / 8388608;
     let fraction = bits % 8388608;
-    // 2 to the power 150 - exponent is the place value of the last digit: from 150 on the weight is 2 to the power 23 or more.
+    // 2 to the power exponent - 150 is the place value of the last digit: from 150 on the weight is 2 to the power 23 or more.
     if exponent >= 150 {
-        return 999999999;
+        return CEILING;
     }
     if exponent == 0 {
-        return shifted_figure(fraction, 149);
+        return figure_of(1000 * (fraction as u64), 149);
     }
-    shifted_figure(8388608 + fraction, 150 - exponent)
+    figure_of(1000 * ((8388608 + fraction) as u64), 150 - exponent)
 }
 
-// The H figure of a weight: the weight times 1000, cut off, at most 999999999. The sign's bit is left out, which no weight has.
+// The H figure of a weight: the weight times 1000, to the nearest, ties to even; 1 for what is above zero and would be 0; at most the
+// ceiling. The sign's bit is left out, which no weight has.
 pub fn h_figure(weight: f32) -> u32
     ensures { λ r. ⌜ r ≡ figure weight ⌝ }
 {

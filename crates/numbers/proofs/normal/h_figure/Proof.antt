@@ -4,7 +4,7 @@ use Prim.Native.Nat.{ℕ, _%_, _^_}
 use denote.Floats.{passes}
 use Rattle.numbers.specs.Weight.{weightLimit, valueOf}
 use Rattle.numbers.specs.Figure.{figure}
-use Rattle.numbers.proofs.Figure.{figure-unsigned}
+use Rattle.numbers.proofs.FigureBits.{figure-unsigned}
 use borrow.Author.Needs.{needs}
 use Rattle.numbers.proofs.normal.h_figure.Statement.{statement}
 use Rattle.numbers.proofs.normal.h_figure.Tie as tie
