@@ -13,27 +13,29 @@ fn proposal(use_weight: f32, live_insts: u32) -> SplitProposal {
     SplitProposal { left: None, right: None, use_weight, live_insts, interference_weight: 0.0, split_cost: 0.0 }
 }
 
-/// The H figure of a weight: times 1000, cut off. An f64 has room for the product.
+/// The H figure of a weight: times 1000 to the nearest, ties to even; above zero at least 1. An f64 has room for the product.
 fn figure(weight: f32) -> u32 {
-    (f64::from(weight) * 1000.0).floor().min(999_999_999.0) as u32
+    let least = if weight > 0.0 { 1.0 } else { 0.0 };
+    (f64::from(weight) * 1000.0).round_ties_even().clamp(least, 999_999_999.0) as u32
 }
 
 #[test]
 fn recorded_figures() {
     let mut scratch = Scratch::new();
-    let (mut proposals, mut above_zero) = (0, 0);
+    let (mut proposals, mut rounded_up) = (0, 0);
     for (at, record) in records("answers.txt").iter().enumerate() {
         let sheet = record.sheet();
         let job = sheet.job();
         let Ok(Answer::Proposal(p)) = scratch.propose_split(&job) else {
             continue;
         };
-        let h = figure(p.normalised_weight(&job.parameters));
+        let weight = p.normalised_weight(&job.parameters);
+        let h = figure(weight);
         assert_eq!(record.answer.lines().nth(1), Some(&*format!("H{h:>11}")), "record {at}");
         proposals += 1;
-        above_zero += u32::from(h > 0);
+        rounded_up += u32::from(f64::from(h) > f64::from(weight) * 1000.0);
     }
-    assert!(proposals > 100 && above_zero > 50, "{proposals} proposals, {above_zero} figures above zero");
+    assert!(proposals > 100 && rounded_up > 50, "{proposals} proposals, {rounded_up} figures above the weight");
 }
 
 /// Weights of all sizes over numbers of all sizes, bit for bit as one division of floats, the divisor rounded once.

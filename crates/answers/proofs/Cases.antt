@@ -11,9 +11,11 @@ use Rattle.sheet.specs.Sheet.{fieldsText, lineText, line, linesText, textFrom, 
 use Rattle.sheet.specs.Refusal.{linesOf, areFields, isLine, kindOfLine, latest, ofKind, fault, verdictBelow, verdict, numbers, rowOf, sheetOf}
 use Rattle.sheet.specs.Refusal.{openKind, noneNeeded, isInOrder, isComplete}
 use Rattle.sheet.specs.Cells.{column}
+use Rattle.sheet.specs.declared.write.End.{End}
+use Rattle.sheet.specs.declared.write.End.the-variants.{At, Absent}
+use Rattle.sheet.specs.declared.write.Answer as Printed
+use Rattle.sheet.specs.declared.write.Answer.the-variants as Printed·is
 use Rattle.sheet.specs.Answer.{endText, endsText, weightsText, figuresText, answerText}
-use Rattle.numbers.specs.declared.MaybeInst.{MaybeInst}
-use Rattle.numbers.specs.declared.MaybeInst.the-variants.{At, Absent}
 use Rattle.numbers.specs.Weight.{unitsOf, valueOf}
 use Rattle.numbers.specs.Normal.{normalised, fraction, exceeds}
 use Rattle.numbers.specs.Cost.{spillCost, scaled}
@@ -33,12 +35,11 @@ use Rattle.gaps.specs.Gaps.{cutGaps, cuts, gapsBetween, gapsOf}
 use Rattle.growth.specs.Growth.{numbersFrom, weightsIn, weightTest, passes, sideOpen, leftFirst, sideTried, came, tryOn, try, growth, grown}
 use Rattle.growth.specs.Proposal.{splitCost, endOf, proposalWith, regionOf}
 use Rattle.refusals.specs.Refusals.{firstBroken, badParameters, someLong, badSizes}
-use Rattle.numbers.specs.Figure.{figure}
+use Rattle.numbers.specs.Figure.{figureOf, figure}
 use Rattle.refusals.specs.Job.{Job}
 use Rattle.tables.specs.JobTables.{tablesOf}
 use Rattle.proposer.proofs.CaseJobs.{blockRow, segmentRow, useRow, reservedRow, jobLikeA, blocksOfA, segmentOfA, reserving, scaledBy, over, enough}
-use Rattle.outcome.specs.Outcome.{Numbered, refused, none, proposal, numbered}
-use Rattle.proposer.specs.Answer.{answerOf}
+use Rattle.answers.specs.JobAnswer.{shownOfJob}
 use Rattle.answers.specs.SheetAnswer.{answerOfText}
 use Rattle.answers.specs.SheetRooms.{sheetRooms}
 
@@ -85,14 +86,14 @@ printedOfA =
     49 ∷ 56 ∷ 50 ∷ 52 ∷ 32 ∷ 32 ∷ 32 ∷ 32 ∷ 32 ∷ 32 ∷ 32 ∷ 32 ∷ 32 ∷ 32 ∷ 52 ∷ 32 ∷ 32 ∷ 32 ∷ 32 ∷ 32 ∷ 32 ∷ 32 ∷ 32 ∷ 32 ∷ 32 ∷ 48 ∷ 32 ∷ 32 ∷ 32 ∷ 32 ∷
     32 ∷ 32 ∷ 32 ∷ 32 ∷ 32 ∷ 32 ∷ 48 ∷ 10 ∷ 72 ∷ 32 ∷ 32 ∷ 32 ∷ 32 ∷ 32 ∷ 32 ∷ 32 ∷ 32 ∷ 53 ∷ 48 ∷ 48 ∷ 10 ∷ []
 
--- what is shown of a case: the bytes printed, an answer in its numbers, or the previous links and the next ones
+-- what is shown of a case: the bytes printed, an answer in the figures that are printed, or the previous links and the next ones
 pub data Shown : Type 0 where
   Text : List ℕ → Shown
-  Numbers : Numbered → Shown
+  Figures : Printed.Answer → Shown
   Links : List ℕ → List ℕ → Shown
 
 abbrev answered : Job → Shown
-answered job = Numbers (numbered (answerOf job (enough job)))
+answered job = Figures (shownOfJob job (enough job))
 
 abbrev linked : Job → Shown
 linked job = Links (tablesOf job (enough job) .prevs) (tablesOf job (enough job) .nexts)
@@ -105,21 +106,32 @@ pub record Case : Type 0 where
 abbrev case : Shown → Shown → Case
 case given said = record { given = given; said = said }
 
--- document 01's Q, N and R, and its sign for an absent end
-abbrev Q : MaybeInst → MaybeInst → ℕ → ℕ → ℕ → ℕ → Shown
-Q left right weight insts met cost = Numbers (proposal left right weight insts met cost)
+-- document 01's Q with its H, N and R, and its sign for an absent end
+abbrev Q : End → End → ℕ → ℕ → ℕ → ℕ → ℕ → Shown
+Q left right weight insts met cost H =
+    Figures
+    (Printed·is.Proposal
+    (record {
+      left = left;
+      right = right;
+      «use_weight» = weight;
+      «live_insts» = insts;
+      «interference_weight» = met;
+      «split_cost» = cost;
+      thousandths = H;
+    }))
 
 abbrev N : ℕ → Shown
-N kind = Numbers (none kind)
+N kind = Figures (Printed·is.NoneOf kind)
 
 abbrev R : ℕ → ℕ → Shown
-R number place = Numbers (refused number place)
+R number place = Figures (Printed·is.Refused number place)
 
-abbrev no : MaybeInst
+abbrev no : End
 no = Absent
 
-abbrev inst : ℕ → MaybeInst
-inst n = At (record { 0 = n })
+abbrev inst : ℕ → End
+inst n = At n
 
 -- A, from its sheet's bytes to its answer's, which are those that document 01 prints
 abbrev caseA : List Case
@@ -134,28 +146,28 @@ abbrev others : List Case
 others =
     -- B: weight 1048576000 on 8 to 12
     case (answered (reserving (1048576000 ∷ []) (reservedRow 0 8 12 0 0 noFixed ∷ [])))
-    (Q no no 1073741824 4 1048576000 0)
+    (Q no no 1073741824 4 1048576000 0 500)
     -- C: 1056628736 there, equality
     ∷ case (answered (reserving (1056628736 ∷ []) (reservedRow 0 8 12 0 0 noFixed ∷ [])))
-    (Q no (inst 1) 1065353216 1 0 1065353216)
+    (Q no (inst 1) 1065353216 1 0 1065353216 1000)
     -- D: 1056628735 there
     ∷ case (answered (reserving (1056628735 ∷ []) (reservedRow 0 8 12 0 0 noFixed ∷ [])))
-    (Q no no 1073741824 4 1056628735 0)
+    (Q no no 1073741824 4 1056628735 0 500)
     -- E: kind 1 on 8 to 12
     ∷ case (answered (reserving [] (reservedRow 0 8 12 1 0 0 ∷ [])))
-    (Q no (inst 1) 1065353216 1 0 1065353216)
+    (Q no (inst 1) 1065353216 1 0 1065353216 1000)
     -- F: kind 2 there, value 0
-    ∷ case (answered (reserving [] (reservedRow 0 8 12 2 0 0 ∷ []))) (Q no no 1073741824 4 0 0)
+    ∷ case (answered (reserving [] (reservedRow 0 8 12 2 0 0 ∷ []))) (Q no no 1073741824 4 0 0 500)
     -- G: kind 1 on 2 to 4
     ∷ case (answered (reserving [] (reservedRow 0 2 4 1 0 0 ∷ []))) (N 2)
     -- G: kind 1 on 0 to 2
-    ∷ case (answered (reserving [] (reservedRow 0 0 2 1 0 0 ∷ []))) (Q no no 1073741824 4 0 0)
+    ∷ case (answered (reserving [] (reservedRow 0 0 2 1 0 0 ∷ []))) (Q no no 1073741824 4 0 0 500)
     -- I: frequency 0
     ∷ case (answered (scaledBy 0 0)) (N 1)
     -- J: frequency bits 1, k = 1
     ∷ case (answered (scaledBy 1 1)) (N 2)
     -- J: frequency bits 1, k = 0
-    ∷ case (answered (scaledBy 0 1)) (Q no (inst 1) 1 1 0 1)
+    ∷ case (answered (scaledBy 0 1)) (Q no (inst 1) 1 1 0 1 1)
     -- K: frequencies 4, 2, 2, 1
     ∷ case (linked (over (blockRow 1082130432 0 1 ∷ blockRow 1073741824 1 2 ∷ blockRow 1073741824 2 3 ∷ blockRow 1065353216 3 4 ∷ []) segmentOfA))
     (Links (absent ∷ absent ∷ absent ∷ absent ∷ []) (1 ∷ 3 ∷ 3 ∷ absent ∷ []))
@@ -163,11 +175,11 @@ others =
     ∷ case (answered (jobLikeA 0 (blocksOfA 1065353216) (segmentRow 0 2 0 0 2 0) (useRow 0 5 1065353216 ∷ useRow 0 4 1065353216 ∷ []) [] []))
     (N 1)
     -- M: five instructions, end 16
-    ∷ case (answered (over (blockRow 1065353216 0 5 ∷ []) (segmentRow 2 16 0 0 2 0))) (Q no no 1073741824 4 0 0)
+    ∷ case (answered (over (blockRow 1065353216 0 5 ∷ []) (segmentRow 2 16 0 0 2 0))) (Q no no 1073741824 4 0 0 500)
     -- M: five instructions, end 17
     ∷ case (answered (over (blockRow 1065353216 0 5 ∷ []) (segmentRow 2 17 0 0 2 0))) (R 8 0)
     -- M: k 65,536
-    ∷ case (answered (scaledBy 65536 1065353216)) (Q no no 1073741824 4 0 0)
+    ∷ case (answered (scaledBy 65536 1065353216)) (Q no no 1073741824 4 0 0 1)
     -- M: k 65,537
     ∷ case (answered (scaledBy 65537 1065353216)) (R 1 0)
     ∷ []
@@ -182,7 +194,7 @@ unfolding textOfA printedOfA kindAt letter fields limit once needed width positi
     isField fieldsText lineText line
     linesText textFrom render linesOf areFields isLine kindOfLine latest ofKind openKind noneNeeded isInOrder isComplete fault verdictBelow verdict
     numbers rowOf sheetOf column endText
-    endsText weightsText figuresText answerText figure unitsOf toBits firstBroken badParameters someLong badSizes isBad badBounds badList badDef badUse badEnd
+    endsText weightsText figuresText answerText figureOf figure unitsOf toBits firstBroken badParameters someLong badSizes isBad badBounds badList badDef badUse badEnd
     badSpan badKind badFixedUse countBelow anyBelow bestUse useTable rowsFrom carries splitUse addedToRow partOf costOf frequencyAt firstInst lastInst valueOf
     ofBits spillCost scaled firstBelow blockOf add sub mul round eq lt table gapsOf gapsBetween cuts cutGaps plus joined follow lowerLink isLower sumBelow
     overlapWith overlapsOf anyOf meets countsAsFixed spillWeight ofRegister fixedAgainst weighsAgainst fixedMet weightsWhere weightsMet fixedMetAny
@@ -195,7 +207,8 @@ unfolding textOfA printedOfA sheetOfA answerOfA bytes bytesOf
 as-printed = (refl, refl)
 
 others-hold : map (λ (c : Case). c .given) others ≡ map (λ (c : Case). c .said) others
-unfolding toBits firstBroken badParameters someLong badSizes isBad badBounds badList badDef badUse badEnd badSpan badKind badFixedUse countBelow anyBelow
+unfolding figureOf figure unitsOf toBits firstBroken badParameters someLong badSizes isBad badBounds badList badDef badUse badEnd badSpan badKind
+    badFixedUse countBelow anyBelow
     bestUse useTable rowsFrom carries splitUse addedToRow partOf costOf frequencyAt firstInst lastInst valueOf ofBits spillCost scaled firstBelow blockOf add
     sub mul round eq lt table gapsOf gapsBetween cuts cutGaps plus joined follow lowerLink isLower sumBelow overlapWith overlapsOf anyOf meets countsAsFixed
     spillWeight ofRegister fixedAgainst weighsAgainst fixedMet weightsWhere weightsMet fixedMetAny weightsMetAll picked numbersFrom weightTest passes sideOpen

@@ -6,4 +6,5 @@ pub mod ReadJob
 pub mod Answering
 pub mod Front
 pub mod Rooms
+pub mod HFigure
 pub mod Cases

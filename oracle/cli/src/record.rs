@@ -6,7 +6,10 @@ use std::process::ExitCode;
 
 use gen_jobs::{Options, Rng, Size};
 use model::{CheckSlip, Outcome, PointSlip, ROOMY, Reading, Rooms, Slip};
-use sheet::{Answer, Block, Job, Limits, Tables, fields, read_sheet, write_answer, write_sheet, write_tables};
+use sheet::{
+    Answer, Block, FigureSlip, Job, Limits, Tables, fields, h_figure, h_figure_with, read_sheet, write_answer,
+    write_sheet, write_tables,
+};
 
 use crate::cases::recorded;
 use crate::print;
@@ -108,9 +111,20 @@ fn noticed(job: &Job) -> Vec<(Slip, bool)> {
     Slip::ALL.iter().filter_map(notices).collect()
 }
 
+/// The slips in the H figure that a job's answer notices.
+pub fn figures_noticed(job: &Job, answer: &Answer) -> Vec<FigureSlip> {
+    let Answer::Proposed(p, normalised) = answer else {
+        return vec![];
+    };
+    let notices = |slip: &FigureSlip| h_figure_with(p, job.k, *normalised, *slip) != h_figure(*normalised);
+    FigureSlip::ALL.into_iter().filter(notices).collect()
+}
+
 /// What a job has: its features and the slips that it notices.
 fn had(job: &Job) -> Vec<String> {
-    let mut has: Vec<String> = gen_jobs::features(job, &Reading::of(job).read()).into_iter().collect();
+    let read = Reading::of(job).read();
+    let mut has: Vec<String> = gen_jobs::features(job, &read).into_iter().collect();
+    has.extend(figures_noticed(job, &read.answer).iter().map(|slip| format!("figure {slip:?}")));
     for (slip, in_answer) in noticed(job) {
         has.push(format!("slip {slip:?}"));
         if in_answer {

@@ -4,11 +4,11 @@ use std::fs;
 use std::process::ExitCode;
 
 use model::{CheckSlip, PointSlip, ROOMY, Reading, Rooms, Slip};
-use sheet::{Answer, Block, Job, Limits, ReadSlip};
+use sheet::{Answer, Block, FigureSlip, Job, Limits, ReadSlip};
 use sheet::{number_at, read_sheet, read_sheet_with, write_answer, write_tables};
 
 use crate::cases::recorded;
-use crate::record::lengthened;
+use crate::record::{figures_noticed, lengthened};
 
 /// A recorded sheet with its answer and tables as text.
 struct Record {
@@ -209,6 +209,20 @@ pub fn slips() -> ExitCode {
         }
         unnoticed += (all == 0) as u32;
         println!("{all:>5} {by_answer:>5}  {}", slip.what());
+    }
+
+    println!("slips in the H figure, of {} sheets in answers.txt:", answers.len());
+    let figures: Vec<Vec<FigureSlip>> = answers
+        .iter()
+        .map(|record| {
+            let job = record.job().unwrap();
+            figures_noticed(&job, &Reading::of(&job).read().answer)
+        })
+        .collect();
+    for slip in FigureSlip::ALL {
+        let noticed = figures.iter().filter(|of_sheet| of_sheet.contains(&slip)).count();
+        unnoticed += (noticed == 0) as u32;
+        println!("{noticed:>5}        {slip:?}");
     }
 
     let mut checked = read_records("refusals.txt");

@@ -62,37 +62,3 @@ pub struct GapSegment {
     pub value: u32,
     pub gap: u32,
 }
-
-/// The H figure: the weight times 1000, exactly, cut off, at most 999999999.
-pub fn h_figure(bits: u32) -> u32 {
-    const MOST: u128 = 999_999_999;
-    let exponent = (bits >> 23).max(1);
-    let significand = bits & 0x7f_ffff | if bits >> 23 == 0 { 0 } else { 0x80_0000 };
-    // The weight is significand times 2 to the power exponent - 150.
-    let thousands = significand as u128 * 1000;
-    let figure = match exponent {
-        ..=86 => 0,
-        87..=150 => thousands >> (150 - exponent),
-        151..=200 => thousands << (exponent - 150),
-        _ => MOST,
-    };
-    figure.min(MOST) as u32
-}
-
-#[cfg(test)]
-mod tests {
-    use super::h_figure;
-
-    /// A weight times 1000 is exact in 53 bits.
-    #[test]
-    fn h_figure_cuts_off() {
-        let exact = |bits: u32| (f32::from_bits(bits) as f64 * 1000.0).floor().min(999_999_999.0) as u32;
-        let mut bits = 0u32;
-        while bits < 0x7f80_0000 {
-            assert_eq!(h_figure(bits), exact(bits), "{bits}");
-            bits += 997;
-        }
-        assert_eq!(h_figure(0.009f32.to_bits()), 8);
-        assert_eq!(h_figure(f32::MAX.to_bits()), 999_999_999);
-    }
-}

@@ -1,10 +1,12 @@
 //! Jobs, answers and tables of document 01, and their text.
 
 mod answer;
+mod figure;
 mod read;
 mod write;
 
-pub use answer::{Answer, Gap, GapSegment, Link, Proposal, Tables, UseRow, h_figure};
+pub use answer::{Answer, Gap, GapSegment, Link, Proposal, Tables, UseRow};
+pub use figure::{FigureSlip, h_figure, h_figure_with};
 pub use read::{Limits, ReadSlip, number_at, read_sheet, read_sheet_with};
 pub use write::{fields, write_answer, write_sheet, write_tables};
 
