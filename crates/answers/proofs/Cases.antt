@@ -193,9 +193,8 @@ sheet-read : answerOfText textOfA sheetRooms ≡ printedOfA
 unfolding textOfA printedOfA kindAt letter fields limit once needed width position kindOf digitOrBlank digits field valueBehind value sameText
     isField fieldsText lineText line
     linesText textFrom render linesOf areFields isLine kindOfLine latest ofKind openKind noneNeeded isInOrder isComplete fault verdictBelow verdict
-    numbers rowOf sheetOf column endText
-    endsText weightsText figuresText answerText figureOf figure unitsOf toBits firstBroken badParameters someLong badSizes isBad badBounds badList badDef badUse badEnd
-    badSpan badKind badFixedUse countBelow anyBelow bestUse useTable rowsFrom carries splitUse addedToRow partOf costOf frequencyAt firstInst lastInst valueOf
+    numbers rowOf sheetOf column endText endsText weightsText figuresText answerText figureOf figure unitsOf toBits firstBroken badParameters
+    someLong badSizes isBad badBounds badList badDef badUse badEnd badSpan badKind badFixedUse countBelow anyBelow bestUse useTable rowsFrom carries splitUse addedToRow partOf costOf frequencyAt firstInst lastInst valueOf
     ofBits spillCost scaled firstBelow blockOf add sub mul round eq lt table gapsOf gapsBetween cuts cutGaps plus joined follow lowerLink isLower sumBelow
     overlapWith overlapsOf anyOf meets countsAsFixed spillWeight ofRegister fixedAgainst weighsAgainst fixedMet weightsWhere weightsMet fixedMetAny
     weightsMetAll picked numbersFrom weightTest passes sideOpen leftFirst sideTried came tryOn try growth grown splitCost endOf proposalWith regionOf

@@ -52,7 +52,7 @@ figure-told job rooms f e = go (shows (job .k) (answerOf job rooms) f e)
         let w = normalised (p .«use_weight») (p .«live_insts») (job .k) in
         let shown : thousandths (toBits binary32 (p .«use_weight»)) (p .«live_insts») (job .k) ≡ f .thousandths = same (h .2) in
         let back : thousandths (toBits binary32 (p .«use_weight»)) (p .«live_insts») (job .k) ≡ figure w =
-            ap (λ (v : Float). figure (normalised v (p .«live_insts») (job .k))) (weight-back (d .of-gaps .weights .0)) in
+        ap (λ (v : Float). figure (normalised v (p .«live_insts») (job .k))) (weight-back (d .of-gaps .weights .0)) in
         let t : Tells (unitsOf w) (f .thousandths) = subst (Tells (unitsOf w)) (sym back ∙ shown) (figure-tells w) in
         record {
           proposal = p;

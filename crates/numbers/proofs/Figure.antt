@@ -9,7 +9,7 @@ use lib.Ieee.{Float}
 use lib.Ieee.Nearest.{closest, closest-mono}
 use Rattle.columns.proofs.Firsts.{split}
 use Rattle.numbers.specs.Weight.{unitsOf}
-use Rattle.numbers.specs.Figure.{ceiling, figureOf, figure, apart, Small, Tells}
+use Rattle.numbers.specs.Figure.{ceiling, figureOf, figure, apart, Slight, Tells}
 use Rattle.numbers.proofs.Nearest.{Near, closest-near, near-once}
 
 -- what is shown where h is the nearest whole number to the thousandths: 1 in the place of 0, h itself, or the ceiling
@@ -48,14 +48,14 @@ module _ (w one h : ℕ) (n : Near (1000 * w) one h) where
   shown-even H (capped l) s k t = absurd (omega (arith, k))
 
   -- a whole number above zero is not the nearest one to what is below a half
-  shown-small : (H : ℕ) → Shown w h H → (0 < w) × (2000 * w < one) → H ≡ 1
-  shown-small H (raised e p) s = refl
-  shown-small H (plain z l) s = absurd (go h half z)
+  shown-slight : (H : ℕ) → Shown w h H → (0 < w) × (2000 * w < one) → H ≡ 1
+  shown-slight H (raised e p) s = refl
+  shown-slight H (plain z l) s = absurd (go h half z)
     where
       go : (h : ℕ) → 2 * apart (h * one) (1000 * w) ≤ one → (h ≡ 0 → w ≡ 0) → ⊥
       go zero k z = let e = z refl in let p = s .0 in omega (arith, e, p)
       go (suc h) k z = let m = suc-mul h one in let q = s .1 in omega (arith, k, m, q)
-  shown-small H (capped l) s = absurd (let m = mul-le-mul-right one l in let q = s .1 in omega (arith, half, m, q))
+  shown-slight H (capped l) s = absurd (let m = mul-le-mul-right one l in let q = s .1 in omega (arith, half, m, q))
 
   shown-zero : (H : ℕ) → 0 < one → Shown w h H → (H ≡ 0) ↔ (w ≡ 0)
   shown-zero H o (raised e p) = ((λ k. absurd (omega (arith, k))), (λ k. absurd (omega (arith, k, p))))
@@ -105,7 +105,7 @@ figure-tells w =
     record {
       near = shown-near u (2 ^ 149) h n (figure w) s;
       even = shown-even u (2 ^ 149) h n (figure w) s (no-half u);
-      small = shown-small u (2 ^ 149) h n (figure w) s;
+      slight = shown-slight u (2 ^ 149) h n (figure w) s;
       most = most s;
       full = shown-full u (2 ^ 149) h n (figure w) (lit< tt) s;
       zero = shown-zero u (2 ^ 149) h n (figure w) (lit< tt) s;
@@ -120,18 +120,18 @@ figure-tells w =
 pub tells-once : (w G H : ℕ) → Tells w G → Tells w H → G ≡ H
 tells-once w G H g h = by (split 0 w) (split (2000 * w) (2 ^ 149))
   where
-    below : (Small w → ⊥) → (G < ceiling) ⊎ (ceiling ≤ G) → (H < ceiling) ⊎ (ceiling ≤ H) → (G < H) ⊎ (H ≤ G) → (H < G) ⊎ (G ≤ H) → G ≡ H
+    below : (Slight w → ⊥) → (G < ceiling) ⊎ (ceiling ≤ G) → (H < ceiling) ⊎ (ceiling ≤ H) → (G < H) ⊎ (H ≤ G) → (H < G) ⊎ (G ≤ H) → G ≡ H
     below s (inl p) (inl q) (inl l) k = absurd (near-once (1000 * w) (2 ^ 149) G H (lit< tt) (g .near s p, g .even p) (h .near s q, h .even q) l)
     below s (inl p) (inl q) (inr l) (inl k) = absurd (near-once (1000 * w) (2 ^ 149) H G (lit< tt) (h .near s q, h .even q) (g .near s p, g .even p) k)
     below s (inl p) (inl q) (inr l) (inr k) = le-antisymm k l
     below s (inr p) q l k = let e = le-antisymm (g .most) p in e ∙ sym (h .full .1 (g .full .0 e))
     below s (inl p) (inr q) l k = let e = le-antisymm (h .most) q in g .full .1 (h .full .0 e) ∙ sym e
 
-    others : (Small w → ⊥) → G ≡ H
+    others : (Slight w → ⊥) → G ≡ H
     others s = below s (split G ceiling) (split H ceiling) (split G H) (split H G)
 
     by : (0 < w) ⊎ (w ≤ 0) → (2000 * w < 2 ^ 149) ⊎ (2 ^ 149 ≤ 2000 * w) → G ≡ H
-    by (inl p) (inl q) = g .small (p, q) ∙ sym (h .small (p, q))
+    by (inl p) (inl q) = g .slight (p, q) ∙ sym (h .slight (p, q))
     by (inr p) q = others (λ s. not-suc-le-zero (le-trans (s .0) p))
     by (inl p) (inr q) = others (λ s. lt-irrefl (2000 * w) (lt-of-lt-of-le (s .1) q))
 

@@ -23,19 +23,19 @@ figure weight = figureOf (1000 * unitsOf weight) (2 ^ 149)
 abbrev pub apart : ℕ → ℕ → ℕ
 apart a b = (a - b) + (b - a)
 
--- above zero and below half a thousandth, in units of 2 to the power -149
-abbrev pub Small : ℕ → Type 0
-Small w = (0 < w) × (2000 * w < 2 ^ 149)
+-- a slight weight: above zero and below half a thousandth, in units of 2 to the power -149
+abbrev pub Slight : ℕ → Type 0
+Slight w = (0 < w) × (2000 * w < 2 ^ 149)
 
--- What an H figure tells of a weight of w units of 2 to the power -149. H × 2 ^ 149 and 1000 × w are then the figure and the weight's
--- thousandths in the same measure, and 2 ^ 149 is one of them
+-- What an H figure tells of a weight of w units of 2 to the power -149. With a thousandth of 2 ^ 149 parts, the figure is H × 2 ^ 149 parts, and
+-- the weight 1000 × w of them
 pub record Tells (w H : ℕ) : Type 0 where
-  -- it is at most a half from the true value, but of a small weight and at the ceiling
-  pub near : (Small w → ⊥) → H < ceiling → 2 * apart (H * 2 ^ 149) (1000 * w) ≤ 2 ^ 149
+  -- it is at most a half from the true value, but of a slight weight and at the ceiling
+  pub near : (Slight w → ⊥) → H < ceiling → 2 * apart (H * 2 ^ 149) (1000 * w) ≤ 2 ^ 149
   -- at a half it is even
   pub even : H < ceiling → 2 * apart (H * 2 ^ 149) (1000 * w) ≡ 2 ^ 149 → H % 2 ≡ 0
-  -- of a small weight it is 1
-  pub small : Small w → H ≡ 1
+  -- of a slight weight it is 1
+  pub slight : Slight w → H ≡ 1
   -- the ceiling stands for what rounds to it or above
   pub most : H ≤ ceiling
   pub full : (H ≡ ceiling) ↔ ((2 * ceiling - 1) * 2 ^ 149 < 2000 * w)
