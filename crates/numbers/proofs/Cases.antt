@@ -7,7 +7,7 @@ use lib.Ieee.{Float, binary32, toBits, ofBits, sub, mul, div, round, lt, ofInt}
 use Rattle.numbers.specs.Weight.{unitsOf, weightLimit, valueOf}
 use Rattle.numbers.specs.Cost.{reloadCost, moveCost, spillCost}
 use Rattle.numbers.specs.Normal.{normalised, fraction, exceeds}
-use Rattle.numbers.specs.Figure.{figureOf, figure}
+use Rattle.numbers.specs.Figure.{figureOf, figure, apart}
 
 value : ℕ → Float
 unfolding valueOf ofBits
@@ -45,6 +45,11 @@ figure-cases : map (λ (b : ℕ). figure (value b))
     ≡ 500 ∷ 62 ∷ 188 ∷ 9 ∷ 1 ∷ 1 ∷ 0 ∷ 1 ∷ 999999938 ∷ 999999999 ∷ 999999999 ∷ 999999999 ∷ []
 unfolding figure figureOf value unitsOf
 figure-cases = refl
+
+-- 1/16 and 3/16 are half a thousandth from their figures
+tie-cases : map (λ (b : ℕ). 2 * apart (figure (value b) * 2 ^ 149) (1000 * unitsOf (value b))) (1031798784 ∷ 1044381696 ∷ []) ≡ 2 ^ 149 ∷ 2 ^ 149 ∷ []
+unfolding figure figureOf value unitsOf
+tie-cases = refl
 
 -- each kind's cost: in a register, in memory, a saved move, a class cost of 3.0, nothing
 cost : ℕ → ℕ → ℕ
