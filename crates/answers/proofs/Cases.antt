@@ -190,15 +190,14 @@ cases = caseA ++ others
 
 -- every case holds; the text is computed by itself, as it takes most steps
 sheet-read : answerOfText textOfA sheetRooms ≡ printedOfA
-unfolding textOfA printedOfA kindAt letter fields limit once needed width position kindOf digitOrBlank digits field valueBehind value sameText
-    isField fieldsText lineText line
-    linesText textFrom render linesOf areFields isLine kindOfLine latest ofKind openKind noneNeeded isInOrder isComplete fault verdictBelow verdict
-    numbers rowOf sheetOf column endText endsText weightsText figuresText answerText figureOf figure unitsOf toBits firstBroken badParameters
-    someLong badSizes isBad badBounds badList badDef badUse badEnd badSpan badKind badFixedUse countBelow anyBelow bestUse useTable rowsFrom carries splitUse addedToRow partOf costOf frequencyAt firstInst lastInst valueOf
-    ofBits spillCost scaled firstBelow blockOf add sub mul round eq lt table gapsOf gapsBetween cuts cutGaps plus joined follow lowerLink isLower sumBelow
-    overlapWith overlapsOf anyOf meets countsAsFixed spillWeight ofRegister fixedAgainst weighsAgainst fixedMet weightsWhere weightsMet fixedMetAny
-    weightsMetAll picked numbersFrom weightTest passes sideOpen leftFirst sideTried came tryOn try growth grown splitCost endOf proposalWith regionOf
-    normalised fraction exceeds div ofInt weightsIn
+unfolding textOfA printedOfA kindAt letter fields limit once needed width position kindOf digitOrBlank digits field valueBehind value sameText isField
+    fieldsText lineText line linesText textFrom render linesOf areFields isLine kindOfLine latest ofKind openKind noneNeeded isInOrder isComplete fault
+    verdictBelow verdict numbers rowOf sheetOf column endText endsText weightsText figuresText answerText figureOf figure unitsOf toBits firstBroken
+    badParameters someLong badSizes isBad badBounds badList badDef badUse badEnd badSpan badKind badFixedUse countBelow anyBelow bestUse useTable rowsFrom
+    carries splitUse addedToRow partOf costOf frequencyAt firstInst lastInst valueOf ofBits spillCost scaled firstBelow blockOf add sub mul round eq lt
+    table gapsOf gapsBetween cuts cutGaps plus joined follow lowerLink isLower sumBelow overlapWith overlapsOf anyOf meets countsAsFixed spillWeight
+    ofRegister fixedAgainst weighsAgainst fixedMet weightsWhere weightsMet fixedMetAny weightsMetAll picked numbersFrom weightTest passes sideOpen
+    leftFirst sideTried came tryOn try growth grown splitCost endOf proposalWith regionOf normalised fraction exceeds div ofInt weightsIn
 sheet-read = refl
 
 as-printed : (textOfA ≡ bytesOf sheetOfA) × (printedOfA ≡ bytesOf answerOfA)
@@ -207,11 +206,11 @@ as-printed = (refl, refl)
 
 others-hold : map (λ (c : Case). c .given) others ≡ map (λ (c : Case). c .said) others
 unfolding figureOf figure unitsOf toBits firstBroken badParameters someLong badSizes isBad badBounds badList badDef badUse badEnd badSpan badKind
-    badFixedUse countBelow anyBelow
-    bestUse useTable rowsFrom carries splitUse addedToRow partOf costOf frequencyAt firstInst lastInst valueOf ofBits spillCost scaled firstBelow blockOf add
-    sub mul round eq lt table gapsOf gapsBetween cuts cutGaps plus joined follow lowerLink isLower sumBelow overlapWith overlapsOf anyOf meets countsAsFixed
-    spillWeight ofRegister fixedAgainst weighsAgainst fixedMet weightsWhere weightsMet fixedMetAny weightsMetAll picked numbersFrom weightTest passes sideOpen
-    leftFirst sideTried came tryOn try growth grown splitCost endOf proposalWith regionOf normalised fraction exceeds div ofInt weightsIn
+    badFixedUse countBelow anyBelow bestUse useTable rowsFrom carries splitUse addedToRow partOf costOf frequencyAt firstInst lastInst valueOf ofBits
+    spillCost scaled firstBelow blockOf add sub mul round eq lt table gapsOf gapsBetween cuts cutGaps plus joined follow lowerLink isLower sumBelow
+    overlapWith overlapsOf anyOf meets countsAsFixed spillWeight ofRegister fixedAgainst weighsAgainst fixedMet weightsWhere weightsMet fixedMetAny
+    weightsMetAll picked numbersFrom weightTest passes sideOpen leftFirst sideTried came tryOn try growth grown splitCost endOf proposalWith regionOf
+    normalised fraction exceeds div ofInt weightsIn
 others-hold = refl
 
 pub cases-hold : map (λ (c : Case). c .given) cases ≡ map (λ (c : Case). c .said) cases

@@ -1,10 +1,9 @@
 -- The H figure of a job's answer tells the proposal's normalised weight, which is above zero
 use mathlib.Core.Path.{_≡_, refl, sym, ap, _∙_, subst}
 use Prim.Native.Nat.{ℕ, zero, suc, _<_}
-use native.Mathlib.Nat.{lt-irrefl}
 use native.Mathlib.Omega.{arith}
 use lib.Dec.{lit≤}
-use lib.Ieee.{Float, binary32, toBits}
+use lib.Ieee.{Float}
 use Rattle.numbers.specs.Weight.{unitsOf}
 use Rattle.numbers.specs.Normal.{normalised}
 use Rattle.numbers.specs.Figure.{figure, Tells}
@@ -21,7 +20,7 @@ use Rattle.outcome.specs.declared.grow.Answer.{Answer}
 use Rattle.outcome.specs.declared.grow.Answer.the-variants as Answer·is
 use Rattle.proposer.specs.Answer.{answerOf}
 use Rattle.proposer.proofs.Answered.{answer-demand3}
-use Rattle.figures.specs.Figures.{thousandths, shownOf}
+use Rattle.figures.specs.Figures.{shownOf}
 use Rattle.answers.specs.JobAnswer.{shownOfJob}
 use Rattle.answers.specs.HFigure.{TellsFigure}
 
@@ -50,10 +49,8 @@ figure-told job rooms f e = go (shows (job .k) (answerOf job rooms) f e)
         let p = h .0 in
         let d = answer-demand3 job rooms p (h .1) in
         let w = normalised (p .«use_weight») (p .«live_insts») (job .k) in
-        let shown : thousandths (toBits binary32 (p .«use_weight»)) (p .«live_insts») (job .k) ≡ f .thousandths = same (h .2) in
-        let back : thousandths (toBits binary32 (p .«use_weight»)) (p .«live_insts») (job .k) ≡ figure w =
-        ap (λ (v : Float). figure (normalised v (p .«live_insts») (job .k))) (weight-back (d .of-gaps .weights .0)) in
-        let t : Tells (unitsOf w) (f .thousandths) = subst (Tells (unitsOf w)) (sym back ∙ shown) (figure-tells w) in
+        let back = ap (λ (v : Float). figure (normalised v (p .«live_insts») (job .k))) (weight-back (d .of-gaps .weights .0)) in
+        let t = subst (Tells (unitsOf w)) (sym back ∙ same (h .2)) (figure-tells w) in
         record {
           proposal = p;
           answered = h .1;

@@ -38,11 +38,11 @@ normalised-cases : map (λ (b : ℕ). toBits binary32 (normalised (value b) 2 1)
 unfolding toBits normalised value div lt ofInt
 normalised-cases = refl
 
--- 0.5; 1/16 and 3/16, which tie; 0.009, 0.0009 and 0.0004; zero and the smallest weight above it; 999999.9375, 1000000.0; the largest finite one
--- and infinity
+-- 0.5; 1/16 and 3/16, which tie; 0.009, 0.0009 and 0.0004; zero and the smallest weight above it; 999999.9375 and 1000000.0; the largest finite one,
+-- infinity, and bits above infinity's
 figure-cases : map (λ (b : ℕ). figure (value b))
-    (1056964608 ∷ 1031798784 ∷ 1044381696 ∷ 1007908028 ∷ 980151802 ∷ 970045207 ∷ 0 ∷ 1 ∷ 1232348159 ∷ 1232348160 ∷ 2139095039 ∷ 2139095040 ∷ [])
-    ≡ 500 ∷ 62 ∷ 188 ∷ 9 ∷ 1 ∷ 1 ∷ 0 ∷ 1 ∷ 999999938 ∷ 999999999 ∷ 999999999 ∷ 999999999 ∷ []
+    (1056964608 ∷ 1031798784 ∷ 1044381696 ∷ 1007908028 ∷ 980151802 ∷ 970045207 ∷ 0 ∷ 1 ∷ 1232348159 ∷ 1232348160 ∷ 2139095039 ∷ 2139095040 ∷ 2139095041 ∷ [])
+    ≡ 500 ∷ 62 ∷ 188 ∷ 9 ∷ 1 ∷ 1 ∷ 0 ∷ 1 ∷ 999999938 ∷ 999999999 ∷ 999999999 ∷ 999999999 ∷ 0 ∷ []
 unfolding figure figureOf value unitsOf
 figure-cases = refl
 

@@ -32,18 +32,21 @@ module _ (w one h : ℕ) (n : Near (1000 * w) one h) where
   half : 2 * apart (h * one) (1000 * w) ≤ one
   half = n .0
 
+  nothing : h ≡ 0 → h * one ≡ 0
+  nothing e = ap (λ (x : ℕ). x * one) e ∙ zero-mul one
+
   shown-near : (H : ℕ) → Shown w h H → ((0 < w) × (2000 * w < one) → ⊥) → H < ceiling → 2 * apart (H * one) (1000 * w) ≤ one
   shown-near H (raised e p) s l = go (split (2000 * w) one)
     where
       go : (2000 * w < one) ⊎ (one ≤ 2000 * w) → 2 * apart (1 * one) (1000 * w) ≤ one
       go (inl k) = absurd (s (p, k))
-      go (inr k) = let z : h * one ≡ 0 = ap (λ (x : ℕ). x * one) e ∙ zero-mul one in omega (arith, half, z, k)
+      go (inr k) = let z = nothing e in omega (arith, half, z, k)
   shown-near H (plain z l) s k = half
   shown-near H (capped l) s k = absurd (omega (arith, k))
 
   shown-even : (H : ℕ) → Shown w h H → (2000 * w ≡ one → ⊥) → H < ceiling → 2 * apart (H * one) (1000 * w) ≡ one → H % 2 ≡ 0
   shown-even H (raised e p) s l t =
-      let z : h * one ≡ 0 = ap (λ (x : ℕ). x * one) e ∙ zero-mul one in absurd (s (omega (arith, half, z, t)))
+      let z = nothing e in absurd (s (omega (arith, half, z, t)))
   shown-even H (plain z l) s k t = n .1 t
   shown-even H (capped l) s k t = absurd (omega (arith, k))
 
@@ -69,7 +72,7 @@ module _ (w one h : ℕ) (n : Near (1000 * w) one h) where
   -- the ceiling is odd, so what is a half below it is shown by the even number there
   shown-full : (H : ℕ) → 0 < one → Shown w h H → (H ≡ ceiling) ↔ ((2 * ceiling - 1) * one < 2000 * w)
   shown-full H o (raised e p) =
-      let z : h * one ≡ 0 = ap (λ (x : ℕ). x * one) e ∙ zero-mul one in
+      let z = nothing e in
       ((λ k. absurd (omega (arith, k))), (λ k. absurd (omega (arith, half, z, k, o))))
   shown-full H o (capped l) = ((λ _. let m = mul-le-mul-right one l in omega (arith, half, m, o)), (λ _. refl))
   shown-full H o (plain z l) = (

@@ -27,30 +27,21 @@ compares (suc a) (suc b) = subst (Compares (suc a) (suc b)) (sym (compare·suc-s
     next Ordering·eq h = ap suc h
     next Ordering·gt h = omega (arith, h)
 
--- the whole number, the next one, or at a tie the even one
-pub nearest-tie : (w a b : ℕ) → a ≡ b → w + w % 2 ≡ nearest w (compare a b)
-nearest-tie w a b e = go (compare a b) (compares a b)
-  where
-    go : (o : Ordering) → Compares a b o → w + w % 2 ≡ nearest w o
-    go Ordering·lt h = absurd (omega (arith, h, e))
-    go Ordering·eq h = refl
-    go Ordering·gt h = absurd (omega (arith, h, e))
+-- two numbers compare in one way
+compares-once : (a b : ℕ) (o p : Ordering) → Compares a b o → Compares a b p → o ≡ p
+compares-once a b Ordering·lt Ordering·lt h k = refl
+compares-once a b Ordering·eq Ordering·eq h k = refl
+compares-once a b Ordering·gt Ordering·gt h k = refl
+compares-once a b Ordering·lt Ordering·eq h k = absurd (omega (arith, h, k))
+compares-once a b Ordering·lt Ordering·gt h k = absurd (omega (arith, h, k))
+compares-once a b Ordering·eq Ordering·lt h k = absurd (omega (arith, h, k))
+compares-once a b Ordering·eq Ordering·gt h k = absurd (omega (arith, h, k))
+compares-once a b Ordering·gt Ordering·lt h k = absurd (omega (arith, h, k))
+compares-once a b Ordering·gt Ordering·eq h k = absurd (omega (arith, h, k))
 
-pub nearest-up : (w a b : ℕ) → b < a → w + 1 ≡ nearest w (compare a b)
-nearest-up w a b l = go (compare a b) (compares a b)
-  where
-    go : (o : Ordering) → Compares a b o → w + 1 ≡ nearest w o
-    go Ordering·lt h = absurd (omega (arith, h, l))
-    go Ordering·eq h = absurd (omega (arith, h, l))
-    go Ordering·gt h = omega arith
-
-pub nearest-down : (w a b : ℕ) → a < b → w ≡ nearest w (compare a b)
-nearest-down w a b l = go (compare a b) (compares a b)
-  where
-    go : (o : Ordering) → Compares a b o → w ≡ nearest w o
-    go Ordering·lt h = refl
-    go Ordering·eq h = absurd (omega (arith, h, l))
-    go Ordering·gt h = absurd (omega (arith, h, l))
+-- so how they compare says which whole number is the nearest
+pub nearest-by : (w a b : ℕ) (o : Ordering) → Compares a b o → nearest w o ≡ nearest w (compare a b)
+nearest-by w a b o h = ap (nearest w) (compares-once a b o (compare a b) h (compares a b))
 
 -- ---- a fraction's nearest whole number is at most a half from it, and even where it is a half
 abbrev pub Near : ℕ → ℕ → ℕ → Type 0

@@ -14,7 +14,7 @@ ceiling = 999999999
 unfoldable pub figureOf : ℕ → ℕ → ℕ
 figureOf a b = min (max (min a 1) (closest a b)) ceiling
 
--- H: a weight times 1000, exactly, as H shows it
+-- H: the weight times 1000 so shown, from its units of 2 to the power -149
 unfoldable pub figure : Float → ℕ
 unfolding figureOf
 figure weight = figureOf (1000 * unitsOf weight) (2 ^ 149)
