@@ -1,7 +1,7 @@
 -- Tests as facts, and facts as tests
-use mathlib.Core.Path.{_≡_, refl}
+use mathlib.Core.Path.{_≡_, refl, sym}
 use mathlib.Core.Logic.{_⊎_, inl, inr, _↔_}
-use mathlib.Core.Bool.{Bool, true, false, not, _&&_, _||_, cond}
+use mathlib.Core.Bool.{Bool, true, false, not, _&&_, _||_, cond, true≢false}
 use Prim.Native.Nat.{ℕ, _<_}
 use native.Mathlib.Nat.{lt-trans}
 use lib.Dec.{T, ltb, ltb→lt, lt→ltb, lit<}
@@ -55,3 +55,20 @@ halved false false x y z h = refl
 
 pub two-four : (n : ℕ) → T (ltb n 2) → T (ltb n 4)
 two-four n t = lt→ltb n 4 (lt-trans (ltb→lt n 2 t) (lit< tt))
+
+-- "and" of two tests
+pub and-left : (a b : Bool) → a ≡ false → (a && b) ≡ false
+and-left true b e = absurd (true≢false e)
+and-left false b e = refl
+
+pub and-right : (a b : Bool) → b ≡ false → (a && b) ≡ false
+and-right true b e = e
+and-right false b e = refl
+
+pub and-both : (a b : Bool) → a ≡ true → b ≡ true → (a && b) ≡ true
+and-both true b p q = q
+and-both false b p q = p
+
+pub and-parts : (a b : Bool) → (a && b) ≡ true → (a ≡ true) × (b ≡ true)
+and-parts true b p = (refl, p)
+and-parts false b p = absurd (true≢false (sym p))

@@ -33,8 +33,8 @@ use Rattle.columns.specs.Table.{Each}
 use Rattle.gaps.specs.Laws.{Run, Least}
 use Rattle.gaps.proofs.Cuts.{and-parts, all-enough}
 use Rattle.gaps.proofs.Spaces.{cut-gaps-length}
-use Rattle.gaps.proofs.Homes.{Home, home-of, home-only, homes-rise, At, at-home, at-edge, at-beyond, home-block, target-block, at-start, start-beyond}
-use Rattle.gaps.proofs.Homes.{edge-beyond, home-reaches, blocks-rise}
+use Rattle.links.proofs.Homes.{Home, home-of, home-only, homes-rise, blocks-rise}
+use Rattle.gaps.proofs.Edges.{At, at-home, at-edge, at-beyond, home-block, target-block, at-start, start-beyond, edge-beyond, home-reaches}
 use Rattle.gaps.proofs.Runs.{run-in-order, run-one}
 
 -- ---- the blocks of the cuts, from block b on, up to block `last`: each is the link of the one before, and the last one's link is absent or leads too far

@@ -11,7 +11,7 @@ use lib.ListN.{length, getD}
 use borrow.Author.Tests.{lt-ltb, le-ltb, ltb-true, eqb-true, eqb-false}
 use Rattle.numbers.specs.declared.MaybeBlock.{MaybeBlock}
 use Rattle.numbers.specs.declared.MaybeBlock.the-variants.{At, Absent}
-use Rattle.columns.proofs.Tests.{cond-true, cond-false, cond-both}
+use Rattle.columns.proofs.Tests.{cond-true, cond-false, cond-both, and-left, and-right, and-both, and-parts}
 use Rattle.links.specs.Links.{absent, linkAnswer, beside, LiesBeyond}
 use Rattle.links.specs.Split.{reaches}
 use Rattle.links.specs.declared.lower.Side.{Side}
@@ -26,22 +26,6 @@ nextCut side links last b =
     cond (ltb c (length links) && reaches side last c) (At (record { 0 = c })) Absent
 
 -- ---- the answer to one link
-and-left : (a b : Bool) → a ≡ false → (a && b) ≡ false
-and-left true b e = absurd (true≢false e)
-and-left false b e = refl
-
-pub and-right : (a b : Bool) → b ≡ false → (a && b) ≡ false
-and-right true b e = e
-and-right false b e = refl
-
-pub and-both : (a b : Bool) → a ≡ true → b ≡ true → (a && b) ≡ true
-and-both true b p q = q
-and-both false b p q = absurd (true≢false (sym p))
-
-pub and-parts : (a b : Bool) → (a && b) ≡ true → (a ≡ true) × (b ≡ true)
-and-parts true b p = (refl, p)
-and-parts false b p = absurd (true≢false (sym p))
-
 -- an answered link, and the next cut
 not-at : {c : ℕ} → Absent ≡ At (record { 0 = c }) → ⊥
 not-at e = true≢false (ap (λ (m : MaybeBlock). elim m [ At x ↦ false | Absent ↦ true ]) e)

@@ -15,7 +15,7 @@ use Rattle.use_rows.specs.declared.row.SplitUse.{SplitUse}
 use Rattle.gaps.specs.Gaps.{Gap, gapsBetween, ownGap, useOf, gapsOn, gapsOf}
 use Rattle.columns.specs.Table.{Each}
 use Rattle.gaps.specs.Laws.{Run, Least}
-use Rattle.gaps.proofs.Homes.{home-of}
+use Rattle.links.proofs.Homes.{home-of}
 use Rattle.gaps.proofs.Runs.{run-append, run-joined, fromsOf, tosOf, run-gaps}
 use Rattle.gaps.proofs.Chains.{each-append, between-run, between-least, between-few, own-least}
 

@@ -11,7 +11,7 @@ use lib.Ieee.{Float}
 use lib.ListN.{length, getD}
 use borrow.Author.Tests.{ltb-true}
 use Rattle.numbers.specs.Weight.{frequencyLimit, valueOf}
-use Rattle.links.specs.Blocks.{BlockRow, blocksOf, blockAt, itemLimit, Ends, SoundColumns}
+use Rattle.links.specs.Blocks.{BlockRow, blocksOf, blockAt, itemLimit, blockIn, Ends, SoundColumns}
 use Rattle.links.specs.Links.{lowerLink, linkColumn, onSide, IsLink}
 use Rattle.links.specs.Split.{follow, edge, preferred, home, reaches}
 use Rattle.links.specs.declared.lower.Side.{Side}
@@ -26,10 +26,10 @@ use Rattle.columns.specs.Below.{joined}
 use Rattle.use_rows.specs.declared.row.SplitUse.{SplitUse}
 use Rattle.gaps.specs.Gaps.{near, far, nearWeight, farWeights, farEnd, cutGaps, frequencyOf, cuts, gapsBetween, ownGap, useOf, gapsOn, usesIn}
 use Rattle.gaps.specs.Gaps.{Cuttable}
-use Rattle.gaps.proofs.Cuts.{and-parts}
+use Rattle.columns.proofs.Tests.{and-parts}
 use Rattle.gaps.proofs.Sides.{space-inside}
 use Rattle.gaps.proofs.GapTable.{Rising}
-use Rattle.gaps.specs.Cutting.{blockIn, spaceOf, Leads, followed, cutsIn, freqIn, spaceGaps, sideGaps, ownIn, Alike, InOrder}
+use Rattle.gaps.specs.Cutting.{spaceOf, Leads, followed, cutsIn, freqIn, spaceGaps, sideGaps, ownIn, Alike, InOrder}
 
 cond-same : {A : Type 0} (t : Bool) (a b d : A) → (t ≡ true → a ≡ b) → cond t a d ≡ cond t b d
 cond-same true a b d h = h refl

@@ -5,7 +5,7 @@ pub mod Spaces
 pub mod Sides
 pub mod InColumns
 pub mod Collected
-pub mod Homes
+pub mod Edges
 pub mod Runs
 pub mod Chains
 pub mod GapTable

@@ -8,8 +8,7 @@ use lib.Dec.{ltb}
 use lib.Ieee.{Float}
 use lib.ListN.{length, getD}
 use Rattle.numbers.specs.Weight.{frequencyLimit, valueOf}
-use Rattle.columns.specs.First.{firstBelow}
-use Rattle.links.specs.Blocks.{itemLimit, Ends}
+use Rattle.links.specs.Blocks.{itemLimit, blockIn, Ends}
 use Rattle.links.specs.Links.{absent, LiesBeyond, onSide}
 use Rattle.links.specs.Split.{preferred, home, reaches}
 use Rattle.links.specs.declared.lower.Side.{Side}
@@ -18,10 +17,6 @@ use Rattle.columns.specs.Below.{joined}
 use Rattle.use_rows.specs.declared.row.SplitUse.{SplitUse}
 use Rattle.gaps.specs.Gaps.{Gap, near, far, nearWeight, farEnd, cutGaps}
 use Rattle.gaps.specs.declared.gaps.Space.{Space}
-
--- the first of n blocks that ends after an instruction
-abbrev pub blockIn : List ℕ → ℕ → ℕ → ℕ
-blockIn ends n p = firstBelow (λ (i : ℕ). ltb p (getD ends i 0)) n
 
 -- the space between two uses
 abbrev pub spaceOf : Side → List ℕ → ℕ → SplitUse → SplitUse → Space

@@ -3,14 +3,14 @@ use mathlib.Core.Path.{_≡_, sym, ap, _∙_}
 use mathlib.Core.Logic.{⊎-elim}
 use mathlib.Core.Bool.{false}
 use mathlib.Core.List.{List}
-use Prim.Native.Nat.{ℕ, zero, suc, _+_, _≤_, _<_}
-use native.Mathlib.Nat.{le-trans, le-of-eq, le-of-lt, lt-of-lt-of-le, not-suc-le-zero}
+use Prim.Native.Nat.{ℕ, zero, suc, _+_, _≤_, _<_, zero-le}
+use native.Mathlib.Nat.{le-refl, le-trans, le-of-eq, le-of-lt, lt-of-lt-of-le, not-suc-le-zero}
 use native.Mathlib.Omega.{arith}
 use lib.Dec.{ltb}
 use lib.ListN.{length, getD}
-use borrow.Author.Tests.{lt-ltb, le-ltb}
+use borrow.Author.Tests.{lt-ltb, le-ltb, ltb-true, ltb-false}
 use Rattle.columns.specs.First.{FirstIn, firstBelow}
-use Rattle.columns.proofs.Firsts.{split, first-found}
+use Rattle.columns.proofs.Firsts.{split, first-in, first-at-most, first-found}
 use Rattle.jobs.specs.declared.rows.Segment.{Segment}
 use Rattle.jobs.specs.declared.rows.Use.{Use}
 use Rattle.jobs.specs.declared.rows.Limits.{Limits}
@@ -43,6 +43,29 @@ module _ (uses : ℕ) (segments : List Segment) (lists : Lists uses segments) wh
   list-of i u h p q =
       first-found (λ (k : ℕ). ltb u (endOf k)) (length segments) i h
       (λ k l. le-ltb u (endOf k) (le-trans (ends-before i k l h) p)) (lt-ltb u (endOf i) q)
+
+  -- each use is listed
+  pub record Listed (u : ℕ) : Type 0 where
+    pub inside : listOf segments u < length segments
+    pub from : getD segments (listOf segments u) noSegment .«first_use» ≤ u
+    pub to : u < getD segments (listOf segments u) noSegment .«end_use»
+
+  pub listed : (u : ℕ) → u < uses → Listed u
+  listed u h = record { inside = inside; from = from (listOf segments u) inside (λ k. found .passed k zero-le); to = ltb-true u (endOf (listOf segments u)) (found .found inside) }
+    where
+      found : FirstIn (λ (k : ℕ). ltb u (endOf k)) 0 (length segments) (listOf segments u)
+      found = first-in (λ (k : ℕ). ltb u (endOf k)) (length segments)
+
+      last : (n : ℕ) → 0 < n → u < rowBefore segments noSegment n .«end_use» → listOf segments u < n
+      last zero s l = absurd (not-suc-le-zero s)
+      last (suc n) s l = let m = first-at-most (λ (k : ℕ). ltb u (endOf k)) (length segments) n (lt-ltb u (endOf n) l) in omega (arith, m)
+
+      inside : listOf segments u < length segments
+      inside = last (length segments) (lists .some) (lt-of-lt-of-le h (le-of-eq (sym (lists .all))))
+
+      from : (i : ℕ) → i < length segments → ((k : ℕ) → k < i → ltb u (endOf k) ≡ false) → firstOf i ≤ u
+      from zero l p = le-trans (le-of-eq (lists .follows 0 l)) zero-le
+      from (suc i) l p = le-trans (le-of-eq (lists .follows (suc i) l)) (ltb-false u (endOf i) (p i (le-refl (suc i))))
 
   module _ (limits : Limits) (rows : List Use) (i : ℕ) (h : i < length segments) (r : ℕ)
       (found : FirstIn (badUseOf limits rows (getD segments i noSegment)) (firstOf i) (endOf i) r)

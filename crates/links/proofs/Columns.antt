@@ -12,7 +12,7 @@ use borrow.Author.Tests.{lt-ltb, eq-eqb, ne-eqb}
 use Rattle.columns.proofs.Tests.{cond-true, cond-false}
 use Rattle.columns.specs.First.{firstBelow}
 use Rattle.columns.specs.Table.{table}
-use Rattle.links.specs.Blocks.{BlockRow, noBlock, blocksOf, blockAt, startOf, endLimit, SoundBlocks, SoundColumns, blockOf, Ends}
+use Rattle.links.specs.Blocks.{BlockRow, noBlock, blocksOf, blockAt, startOf, endLimit, SoundBlocks, SoundColumns, blockOf, blockIn, Ends}
 use Rattle.links.specs.Links.{Frequencies}
 use Rattle.links.specs.Split.{follow, lastOr, edge, preferred, home, farthest, reaches, splitPoint, Swept, lastReached, Between}
 use Rattle.links.specs.declared.lower.Side.{Side}
@@ -147,7 +147,7 @@ module _ (fs ss es : List ℕ) (w : SoundColumns fs ss es) where
       }
 
   -- so its blocks are found, and the edges of a side are its column
-  pub block-of-sound : (inst : ℕ) → firstBelow (λ (i : ℕ). ltb inst (getD es i 0)) (length fs) ≡ blockOf listed inst
+  pub block-of-sound : (inst : ℕ) → blockIn es (length fs) inst ≡ blockOf listed inst
   block-of-sound inst =
       first-same (λ (i : ℕ). ltb inst (getD es i 0)) (λ (i : ℕ). ltb inst (blockAt listed i .end)) (length fs) (λ k _. ap (ltb inst) (sym (end-at k)))
       ∙ ap (firstBelow (λ (i : ℕ). ltb inst (blockAt listed i .end))) (sym n-is) ∙ block-of-holds listed (w .sound) inst
@@ -174,12 +174,12 @@ module _ (fs ss es : List ℕ) (after before : ℕ) (w : Between fs ss es after 
   pub searched : (inst : ℕ) → inst < before → Ends es (length fs) inst
   searched inst h = ends-of-sound fs ss es whole inst (lt-of-lt-of-le h before-last)
 
-  pub block-inside : (inst b : ℕ) → inst < before → b ≡ firstBelow (λ (i : ℕ). ltb inst (getD es i 0)) (length fs) → b < length fs
+  pub block-inside : (inst b : ℕ) → inst < before → b ≡ blockIn es (length fs) inst → b < length fs
   block-inside inst b h e =
       lt-of-le-of-lt (le-trans (le-of-eq e) (first-at-most (λ (i : ℕ). ltb inst (getD es i 0)) (length fs) (length fs - 1)
       (lt-ltb inst (getD es (length fs - 1) 0) (lt-of-lt-of-le h before-last)))) (last-inside fs ss es whole)
 
-  pub block-found : (inst b : ℕ) → b ≡ firstBelow (λ (i : ℕ). ltb inst (getD es i 0)) (length fs) → b ≡ blockOf blocks inst
+  pub block-found : (inst b : ℕ) → b ≡ blockIn es (length fs) inst → b ≡ blockOf blocks inst
   block-found inst b e = e ∙ block-of-sound fs ss es whole inst
 
   pub swept-ends : (b : ℕ) → b < length fs → Swept fs es b
@@ -211,7 +211,7 @@ unfolding splitPoint
 split-neighbours side blocks after before e = sym (cond-true before _ (eq-eqb (after + 1) before e))
 
 -- a search for the block of an instruction before the last end finds one
-pub ends-inside : (ends : List ℕ) (n p : ℕ) → Ends ends n p → firstBelow (λ (i : ℕ). ltb p (getD ends i 0)) n < n
+pub ends-inside : (ends : List ℕ) (n p : ℕ) → Ends ends n p → blockIn ends n p < n
 ends-inside ends n p known =
     let most = first-at-most (λ (i : ℕ). ltb p (getD ends i 0)) n (n - 1) (lt-ltb p (getD ends (n - 1) 0) (known .before)) in
     let some = known .some in

@@ -13,18 +13,15 @@ use Rattle.links.specs.Links.{beside, beyond, absent, isLower, lowerLink
 use Rattle.links.specs.Split.{follow, lastOr, reaches, lastReached}
 use Rattle.links.specs.declared.lower.Side.{Side}
 use Rattle.links.specs.declared.lower.Side.the-variants.{Previous, Next}
+use Rattle.columns.proofs.Tests.{and-both}
 use Rattle.columns.proofs.Firsts.{split}
 use Rattle.links.proofs.Linking.{beyond-further, beyond-inside, beyond-beyond, Distance, distance, nearer}
 use Rattle.links.proofs.Linking.{link-nearest, link-is}
 
 -- ---- one link
-and-right : (a b : Bool) → (a ≡ true → b ≡ false) → (a && b) ≡ false
-and-right true b h = h refl
-and-right false b h = refl
-
-and-both : (a b : Bool) → a ≡ true → b ≡ true → (a && b) ≡ true
-and-both true b p q = q
-and-both false b p q = p
+and-then : (a b : Bool) → (a ≡ true → b ≡ false) → (a && b) ≡ false
+and-then true b h = h refl
+and-then false b h = refl
 
 pub follow-ends : (side : Side) (f : List ℕ) (within : ℕ → Bool) (fuel b : ℕ) → (lowerLink side f b < length f → within (lowerLink side f b) ≡ false)
     → follow side f within fuel b ≡ []
@@ -32,7 +29,7 @@ unfolding follow
 follow-ends side f within zero b h = refl
 follow-ends side f within (suc fuel) b h =
     let c = lowerLink side f b in
-    ap (λ (t : Bool). cond t (c ∷ follow side f within fuel c) []) (and-right (ltb c (length f)) (within c) (λ e. h (ltb-true c (length f) e)))
+    ap (λ (t : Bool). cond t (c ∷ follow side f within fuel c) []) (and-then (ltb c (length f)) (within c) (λ e. h (ltb-true c (length f) e)))
 
 pub follow-goes-on : (side : Side) (f : List ℕ) (within : ℕ → Bool) (fuel b c : ℕ) → c ≡ lowerLink side f b → c < length f → within c ≡ true
     → follow side f within (suc fuel) b ≡ c ∷ follow side f within fuel c

@@ -4,4 +4,6 @@ pub mod Checks
 pub mod Linking
 pub mod Following
 pub mod Columns
+pub mod Stepping
+pub mod Homes
 pub mod Answers

@@ -10,6 +10,7 @@ use mathlib.Core.Bool.{Bool, true, false, not, _&&_, _||_}
 use lib.Dec.{leb, ltb, eqb}
 use lib.ListN.{length, getD}
 use borrow.Author.Tests.{ltb-false, leb-false, eqb-true, not-false, le-leb}
+use Rattle.columns.proofs.Tests.{and-right, and-both}
 use Rattle.numbers.specs.Weight.{frequencyLimit}
 use Rattle.columns.specs.First.{firstBelow}
 use Rattle.links.specs.Blocks.{BlockRow, noBlock, blocksOf, blockAt, startOf, endLimit, isBad, badBlock, SoundBlocks, holds, blockOf}
@@ -121,14 +122,6 @@ module _ (blocks : List BlockRow) (sound : SoundBlocks blocks) where
   starts-before inst zero h p = le-trans (le-of-eq (row-good 0 h .starts)) zero-le
   starts-before inst (suc i) h p = le-trans (le-of-eq (row-good (suc i) h .starts)) (ltb-false inst (blockAt blocks i .end) (p i (le-refl (suc i))))
 
-  and-false-right : (a b : Bool) → b ≡ false → (a && b) ≡ false
-  and-false-right true b e = e
-  and-false-right false b e = refl
-
-  and-true : (a b : Bool) → a ≡ true → b ≡ true → (a && b) ≡ true
-  and-true true b p q = q
-  and-true false b p q = p
-
   pub block-of-holds : (inst : ℕ) → firstBelow (λ (i : ℕ). ltb inst (blockAt blocks i .end)) (length blocks) ≡ blockOf blocks inst
   unfolding blockOf
   block-of-holds inst =
@@ -138,8 +131,8 @@ module _ (blocks : List BlockRow) (sound : SoundBlocks blocks) where
       first-is {test = holds blocks inst} (record {
         from = zero-le;
         to = f .to;
-        passed = λ k l m. and-false-right (leb (blockAt blocks k .first) inst) (ltb inst (blockAt blocks k .end)) (f .passed k l m);
+        passed = λ k l m. and-right (leb (blockAt blocks k .first) inst) (ltb inst (blockAt blocks k .end)) (f .passed k l m);
         found =
-            λ m. and-true (leb (blockAt blocks r .first) inst) (ltb inst (blockAt blocks r .end))
+            λ m. and-both (leb (blockAt blocks r .first) inst) (ltb inst (blockAt blocks r .end))
             (le-leb (blockAt blocks r .first) inst (starts-before inst r m (λ k. f .passed k zero-le))) (f .found m);
       })

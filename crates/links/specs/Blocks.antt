@@ -82,6 +82,10 @@ holds blocks inst i = leb (blockAt blocks i .first) inst && ltb inst (blockAt bl
 unfoldable pub blockOf : List BlockRow → ℕ → ℕ
 blockOf blocks inst = firstBelow (holds blocks inst) (length blocks)
 
+-- the same in the column of ends: the first of n blocks that ends after the instruction
+abbrev pub blockIn : List ℕ → ℕ → ℕ → ℕ
+blockIn ends n inst = firstBelow (λ (i : ℕ). ltb inst (getD ends i 0)) n
+
 -- what a search for an instruction's block relies on: ends that do not fall, the instruction before the last of them
 pub record Ends (ends : List ℕ) (n inst : ℕ) : Type 0 where
   pub some : 0 < n

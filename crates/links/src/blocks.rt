@@ -1,11 +1,11 @@
 // The block list: its part of refusal 2, refusal 3, and the block of an instruction.
 ghost use mathlib.Core.Path.{_≡_};
 ghost use mathlib.Core.Bool.{false, cond};
-ghost use Prim.Native.Nat.{ℕ, _-_, _≤_, _<_};
+ghost use Prim.Native.Nat.{_+_, _-_, _≤_, min};
 ghost use lib.Dec.{eqb, ltb};
 ghost use lib.ListN.{length, getD};
 ghost use Rattle.columns.specs.First.{firstBelow};
-ghost use Rattle.links.specs.Blocks.{blocksOf, isBad, badBlock, checkOf, Ends};
+ghost use Rattle.links.specs.Blocks.{blocksOf, isBad, badBlock, checkOf, blockIn, Ends};
 use columns::rows::shorter;
 use columns::search;
 use numbers::Block;
@@ -103,7 +103,7 @@ pub fn check_blocks(freq: &[u32], first: &[u32], end: &[u32]) -> Checked
 // block whose range holds the instruction.
 pub fn block_of(end: &[u32], n: usize, inst: Inst) -> Block
     requires { ⌜ Ends (now end) n (inst .0) ⌝ }
-    ensures { λ r. ⌜ r .0 ≡ firstBelow (λ (i : ℕ). ltb (inst .0) (getD (now (end .entry)) i 0)) n ⌝ }
+    ensures { λ r. ⌜ r .0 ≡ blockIn (now (end .entry)) n (inst .0) ⌝ }
 {
     let at = search::first_at_least(end, 0, n, inst.0 + 1);
     Block(at as u32)
@@ -121,21 +121,53 @@ fn lies_before(end: &[u32], b: Block, inst: Inst) -> bool
     inst.0 < end[at - 1]
 }
 
+// How many steps forward lead from a block to that of an instruction: the blocks passed end at or before it.
+fn steps_to(end: &[u32], n: usize, inst: Inst, from: Block) -> usize
+    requires { ⌜ Ends (now end) n (inst .0) ⌝ }
+    requires { ⌜ from .0 ≤ blockIn (now end) n (inst .0) ⌝ }
+    ensures { λ r. ⌜ from .0 + r ≡ blockIn (now (end .entry)) n (inst .0) ⌝ }
+{
+    let first = from.0 as usize;
+    let mut steps: usize = 0;
+    while end[first + steps] <= inst.0 {
+        steps += 1;
+    }
+    steps
+}
+
+// The block of an instruction, stepped forward to from one that is not behind it.
+pub fn step_forward(end: &[u32], n: usize, inst: Inst, from: Block) -> Block
+    requires { ⌜ Ends (now end) n (inst .0) ⌝ }
+    requires { ⌜ from .0 ≤ blockIn (now end) n (inst .0) ⌝ }
+    ensures { λ r. ⌜ r .0 ≡ blockIn (now (end .entry)) n (inst .0) ⌝ }
+{
+    let steps = steps_to(end, n, inst, from);
+    Block(from.0 + steps as u32)
+}
+
+// One step back from a block to that of an instruction, where that is the one before; else none.
+pub fn step_back(end: &[u32], n: usize, inst: Inst, from: Block) -> Block
+    requires { ⌜ Ends (now end) n (inst .0) ⌝ }
+    requires { ⌜ from .0 ≤ blockIn (now end) n (inst .0) + 1 ⌝ }
+    ensures { λ r. ⌜ r .0 ≡ min (from .0) (blockIn (now (end .entry)) n (inst .0)) ⌝ }
+{
+    if lies_before(end, from, inst) {
+        return Block(from.0 - 1);
+    }
+    from
+}
+
 // The same, walked to from a block that is likely to be near and not behind it: a sweep over instructions in order passes each block
 // once. Any block may be given.
 pub fn block_near(end: &[u32], n: usize, inst: Inst, near: Block) -> Block
     requires { ⌜ Ends (now end) n (inst .0) ⌝ }
-    ensures { λ r. ⌜ r .0 ≡ firstBelow (λ (i : ℕ). ltb (inst .0) (getD (now (end .entry)) i 0)) n ⌝ }
+    ensures { λ r. ⌜ r .0 ≡ blockIn (now (end .entry)) n (inst .0) ⌝ }
 {
-    let mut i = near.0 as usize;
-    if i >= n {
+    if near.0 as usize >= n {
         return block_of(end, n, inst);
     }
     if lies_before(end, near, inst) {
         return block_of(end, n, inst);
     }
-    while end[i] <= inst.0 {
-        i += 1;
-    }
-    Block(i as u32)
+    step_forward(end, n, inst, near)
 }

@@ -1,13 +1,14 @@
 -- Where the counts fit, no use breaks line 7: positions fall within no list, and a list whose ends lie inside its segment lies inside
 use mathlib.Core.Path.{_≡_, refl, sym, ap, _∙_, subst}
 use mathlib.Core.Logic.{⊎-elim}
-use mathlib.Core.Bool.{Bool, true, false, not, _&&_, _||_, cond, true≢false}
+use mathlib.Core.Bool.{Bool, true, false, not, _&&_, _||_, cond}
 use mathlib.Core.List.{List}
 use Prim.Native.Nat.{ℕ, zero, suc, _+_, _-_, _*_, _≤_, _<_, zero-le}
 use native.Mathlib.Nat.{le-refl, le-trans, le-of-eq, le-antisymm, lt-of-lt-of-le, lt-of-le-of-lt, not-suc-le-zero}
 use native.Mathlib.Omega.{arith}
 use lib.Dec.{leb, ltb, eqb}
 use lib.ListN.{length, getD}
+use Rattle.columns.proofs.Tests.{and-parts}
 use borrow.Author.Tests.{ltb-true, ltb-false, leb-false, eqb-true, eqb-false, lt-ltb, le-ltb, lt-leb}
 use Rattle.columns.specs.First.{firstBelow}
 use Rattle.columns.proofs.Firsts.{split, first-none}
@@ -37,11 +38,6 @@ apart : (f u : ℕ) → f ≤ u → (u ≡ f → ⊥) → f < u
 apart f u p n = ⊎-elim (λ m. m) (λ m. absurd (n (sym (le-antisymm p m)))) (split f u)
 
 -- ---- tests
--- both parts of an "and" that holds
-and-parts : (a b : Bool) → (a && b) ≡ true → (a ≡ true) × (b ≡ true)
-and-parts true b e = (refl, e)
-and-parts false b e = absurd (true≢false (sym e))
-
 -- what a use satisfies that breaks no part of line 7
 fits : (limits : Limits) (s : Segment) (isFirst : Bool) (last u : Use) → Fitting limits s isFirst last u → badUse limits s isFirst last u ≡ false
 unfolding badUse

@@ -16,13 +16,15 @@ use Rattle.columns.specs.Table.{rowBefore}
 use Rattle.jobs.specs.Lines.{Lists}
 use Rattle.jobs.specs.declared.rows.Use.{Use}
 use Rattle.jobs.proofs.Walk.{before-next}
+use Rattle.jobs.proofs.UseLists.{list-of}
 use Rattle.use_rows.proofs.Rows.{inside-less}
 use Rattle.jobs.specs.declared.rows.Segment.{Segment}
 use Rattle.use_rows.specs.declared.row.Part.{Part}
 use Rattle.use_rows.specs.declared.row.SplitUse.{SplitUse}
 use Rattle.use_rows.specs.Uses.{noWeights, addedToRow, partOf}
 use Rattle.use_rows.specs.UseColumns.{UseColumns, withUse, useIn}
-use Rattle.use_lists.specs.Collecting.{Collecting, isStored, addedBefore, added, weightAt, counted, countedList, countedLists, RowsLeft}
+use Rattle.use_lists.specs.Steps.{isDefOf, isFixedDef, blockInUse, Step}
+use Rattle.use_lists.specs.Collecting.{Collecting, isStored, addedBefore, added, weightIn, counted, countedList, countedLists, RowsLeft}
 
 -- the same lengths
 pub record Long (a b : UseColumns) : Type 0 where
@@ -58,11 +60,11 @@ grown-added c p t w =
     (λ _. cond-both (Grown c) (eqb p (c .latest .inst .0)) _ _ (λ _. record { long = long-same (c .cols); rows = omega arith })
     (λ _. record { long = long-with (c .cols) (c .rows) (c .latest); rows = omega arith }))
 
-grown-counted : (freqs ends : List ℕ) (s : Segment) (p : ℕ) (cost : Float) (c : Collecting) → Grown c (counted freqs ends s p cost c)
+grown-counted : (freqs : List ℕ) (s : Segment) (p b : ℕ) (cost : Float) (c : Collecting) → Grown c (counted freqs s p b cost c)
 unfolding counted
-grown-counted freqs ends s p cost c =
+grown-counted freqs s p b cost c =
     cond-both (Grown c) (eq cost zeroWeight) _ _ (λ _. record { long = long-same (c .cols); rows = omega arith })
-    (λ _. grown-added c p (partOf s p) (weightAt freqs ends cost p))
+    (λ _. grown-added c p (partOf s p) (weightIn freqs cost b))
 
 -- ---- after the uses of a list up to use i
 module _ (uses : List Use) (freqs ends : List ℕ) (s : Segment) (code : ℕ) (scales : RematScales) where
@@ -87,12 +89,15 @@ module _ (uses : List Use) (freqs ends : List ℕ) (s : Segment) (code : ℕ) (s
       none : (x : ℕ) → 0 ≡ x - x
       none x = omega arith
 
-  -- use i
+  -- use i, and its block
   abbrev useAt : ℕ → Use
   useAt i = getD uses i noUse
 
+  abbrev blockAt : ℕ → ℕ
+  blockAt = blockInUse ends (length freqs) uses
+
   pub along-next : (lent : Collecting) (i : ℕ) (c d : Collecting) → i < s .«end_use» → Along lent i c
-      → d ≡ counted freqs ends s (useAt i .position) (scaled code scales (spillCost reloadCost moveCost (useAt i .kind) (useAt i .cost))) c
+      → d ≡ counted freqs s (useAt i .position) (blockAt i) (scaled code scales (spillCost reloadCost moveCost (useAt i .kind) (useAt i .cost))) c
       → Along lent (i + 1) d
   unfolding countedList
   along-next lent i c d h known e =
@@ -100,8 +105,8 @@ module _ (uses : List Use) (freqs ends : List ℕ) (s : Segment) (code : ℕ) (s
         from = let f = known .from in omega (arith, f);
         to = omega (arith, h);
         sofar = whole;
-        room = subst (RowsLeft (s .«end_use» - (i + 1))) (sym e) (less (grown-counted freqs ends s (useAt i .position) cost c));
-        long = subst (λ (x : Collecting). Long (lent .cols) (x .cols)) (sym e) (longer (grown-counted freqs ends s (useAt i .position) cost c .long));
+        room = subst (RowsLeft (s .«end_use» - (i + 1))) (sym e) (less (grown-counted freqs s (useAt i .position) (blockAt i) cost c));
+        long = subst (λ (x : Collecting). Long (lent .cols) (x .cols)) (sym e) (longer (grown-counted freqs s (useAt i .position) (blockAt i) cost c .long));
       }
     where
       cost : Float
@@ -116,8 +121,8 @@ module _ (uses : List Use) (freqs ends : List ℕ) (s : Segment) (code : ℕ) (s
           let here : i ≡ s .«first_use» + (i - s .«first_use») = omega (arith, f) in
           let more : suc (i - s .«first_use») ≡ i + 1 - s .«first_use» = omega (arith, f) in
           e
-          ∙ ap (counted freqs ends s (useAt i .position) (scaled code scales (spillCost reloadCost moveCost (useAt i .kind) (useAt i .cost)))) (known .sofar)
-          ∙ ap (λ (j : ℕ). counted freqs ends s (useAt j .position) (scaled code scales (spillCost reloadCost moveCost (useAt j .kind) (useAt j .cost)))
+          ∙ ap (counted freqs s (useAt i .position) (blockAt i) (scaled code scales (spillCost reloadCost moveCost (useAt i .kind) (useAt i .cost)))) (known .sofar)
+          ∙ ap (λ (j : ℕ). counted freqs s (useAt j .position) (blockAt j) (scaled code scales (spillCost reloadCost moveCost (useAt j .kind) (useAt j .cost)))
           (countedList uses freqs ends s code scales (i - s .«first_use») lent)) here
           ∙ ap (λ (n : ℕ). countedList uses freqs ends s code scales n lent) more
 
@@ -148,7 +153,7 @@ unfolding countedList
 grown-list uses freqs ends s code scales zero c = (long-same (c .cols), omega arith)
 grown-list uses freqs ends s code scales (suc k) c =
     let before = grown-list uses freqs ends s code scales k c in
-    let one = grown-counted freqs ends s (getD uses (s .«first_use» + k) noUse .position)
+    let one = grown-counted freqs s (getD uses (s .«first_use» + k) noUse .position) (blockInUse ends (length freqs) uses (s .«first_use» + k))
     (scaled code scales (spillCost reloadCost moveCost (getD uses (s .«first_use» + k) noUse .kind) (getD uses (s .«first_use» + k) noUse .cost)))
     (countedList uses freqs ends s code scales k c) in
     let r = before .1 in
@@ -234,3 +239,12 @@ module _ (uses : List Use) (freqs ends : List ℕ) (segments : List Segment) (co
             rights = l .rights
                 ∙ known .long .rights;
           }
+
+-- ---- the steps to the uses of a segment's list
+pub list-steps : (uses : List Use) (segments : List Segment) → Lists (length uses) segments → (ends : List ℕ) (n : ℕ)
+    → ((u : ℕ) → u < length uses → Step (blockInUse ends n uses) u (isFixedDef segments u)) → (i : ℕ) → i < length segments
+    → (u : ℕ) → getD segments i noSegment .«first_use» ≤ u → u < getD segments i noSegment .«end_use»
+    → Step (blockInUse ends n uses) u (isDefOf (getD segments i noSegment) u)
+list-steps uses segments lists ends n steps i h u p q =
+    subst (λ (k : ℕ). Step (blockInUse ends n uses) u (isDefOf (getD segments k noSegment) u)) (sym (list-of (length uses) segments lists i u h p q))
+    (steps u (let l = lists .inside i h in omega (arith, l, q)))

@@ -9,8 +9,7 @@ use lib.ListN.{length, getD}
 use Rattle.numbers.specs.Weight.{zeroWeight, frequencyLimit, valueOf}
 use Rattle.numbers.specs.Cost.{reloadCost, moveCost, spillCost, scaled}
 use Rattle.numbers.specs.declared.costs.RematScales.{RematScales}
-use Rattle.columns.specs.First.{firstBelow}
-use Rattle.links.specs.Blocks.{Ends}
+use Rattle.links.specs.Blocks.{blockIn, Ends}
 use Rattle.jobs.specs.Rows.{noUse, noSegment}
 use Rattle.jobs.specs.Lines.{Lists}
 use Rattle.jobs.specs.declared.rows.Use.{Use}
@@ -20,6 +19,7 @@ use Rattle.use_rows.specs.declared.row.SplitUse.{SplitUse}
 use Rattle.use_lists.specs.declared.lists.Collected.{Collected}
 use Rattle.use_rows.specs.Uses.{noWeights, addedToRow, partOf}
 use Rattle.use_rows.specs.UseColumns.{UseColumns, Inside, withUse, useIn}
+use Rattle.use_lists.specs.Steps.{isDefOf, isFixedDef, blockInUse, Step}
 
 -- the columns, the number of rows stored, and the latest row, which is not
 pub record Collecting : Type 0 where
@@ -49,30 +49,32 @@ added c p part w =
     (cond (eqb p (c .latest .inst .0)) (record { cols = c .cols; rows = c .rows; latest = addedToRow (c .latest) part w })
     (record { cols = withUse (c .cols) (c .rows) (c .latest); rows = c .rows + 1; latest = addedToRow (noWeights p) part w }))
 
--- cost × the frequency of the first block that ends after an instruction, from the columns of frequencies and ends
-unfoldable pub weightAt : List ℕ → List ℕ → Float → ℕ → Float
-weightAt freqs ends cost p = mul binary32 cost (valueOf frequencyLimit (getD freqs (firstBelow (λ (i : ℕ). ltb p (getD ends i 0)) (length freqs)) 0))
+-- cost × the frequency of a block, from the column of frequencies
+unfoldable pub weightIn : List ℕ → Float → ℕ → Float
+weightIn freqs cost b = mul binary32 cost (valueOf frequencyLimit (getD freqs b 0))
 
--- a use of a segment, at an instruction, added unless it costs nothing
-unfoldable pub counted : List ℕ → List ℕ → Segment → ℕ → Float → Collecting → Collecting
-counted freqs ends s p cost c = cond (eq cost zeroWeight) c (added c p (partOf s p) (weightAt freqs ends cost p))
+-- a use of a segment, at an instruction in a block, added unless it costs nothing
+unfoldable pub counted : List ℕ → Segment → ℕ → ℕ → Float → Collecting → Collecting
+counted freqs s p b cost c = cond (eq cost zeroWeight) c (added c p (partOf s p) (weightIn freqs cost b))
 
 -- the first n uses of a segment's list added in order
 unfoldable pub countedList : List Use → List ℕ → List ℕ → Segment → ℕ → RematScales → ℕ → Collecting → Collecting
 countedList uses freqs ends s code scales zero c = c
 countedList uses freqs ends s code scales (suc n) c =
     let u = getD uses (s .«first_use» + n) noUse in
-    counted freqs ends s (u .position) (scaled code scales (spillCost reloadCost moveCost (u .kind) (u .cost))) (countedList uses freqs ends s code scales n c)
+    counted freqs s (u .position) (blockIn ends (length freqs) (u .position))
+    (scaled code scales (spillCost reloadCost moveCost (u .kind) (u .cost))) (countedList uses freqs ends s code scales n c)
 
 -- the columns have the next row and n more behind it
 abbrev pub RowsLeft : ℕ → Collecting → Type 0
 RowsLeft n c = Inside (c .rows + n) (c .cols)
 
--- what the collection of a list relies on: it lies inside the uses, and each of them in a block
+-- what the collection of a list relies on: it lies inside the uses, each of them in a block, and each step to one of its own is short
 pub record Listing (uses : List Use) (ends : List ℕ) (blocks : ℕ) (s : Segment) : Type 0 where
   pub forward : s .«first_use» ≤ s .«end_use»
   pub inside : s .«end_use» ≤ length uses
   pub blocked : (u : ℕ) → u < length uses → Ends ends blocks (getD uses u noUse .position)
+  pub steps : (u : ℕ) → s .«first_use» ≤ u → u < s .«end_use» → Step (blockInUse ends blocks uses) u (isDefOf s u)
 
 -- the lists of the first n segments added in order
 unfoldable pub countedLists : List Use → List ℕ → List ℕ → List Segment → List ℕ → RematScales → ℕ → Collecting → Collecting
@@ -95,8 +97,10 @@ withLast c last =
     cond (eqb (c .latest .inst .0) last) (heldIn (withUse (c .cols) (c .rows) (c .latest)) (c .rows + 1))
     (heldIn (withUse (withUse (c .cols) (c .rows) (c .latest)) (c .rows + 1) (noWeights last)) (c .rows + 2))
 
--- what the collection of all lists relies on: they follow one another, each use lies in a block, and each segment's value is known
+-- what the collection of all lists relies on: they follow one another, each use lies in a block, each step to a use is short, and each
+-- segment's value is known
 pub record Listings (uses : List Use) (ends : List ℕ) (blocks values : ℕ) (segments : List Segment) : Type 0 where
   pub lists : Lists (length uses) segments
   pub blocked : (u : ℕ) → u < length uses → Ends ends blocks (getD uses u noUse .position)
+  pub steps : (u : ℕ) → u < length uses → Step (blockInUse ends blocks uses) u (isFixedDef segments u)
   pub known : (i : ℕ) → i < length segments → getD segments i noSegment .value < values

@@ -1,10 +1,12 @@
 // The uses of the segments' lists, collected in use order.
 use jobs::checked::LiveSegment;
+use jobs::checked::PlacedUse;
 use jobs::checked::live_segment_at;
 use jobs::checked::placed_use_at;
 use jobs::rows::cell;
 use jobs::rows::segment_count;
-use links::blocks::block_near;
+use links::blocks::step_back;
+use links::blocks::step_forward;
 use numbers::Block;
 use numbers::Inst;
 use numbers::costs::RematScales;
@@ -20,17 +22,16 @@ use use_rows::row::use_at;
 ghost use mathlib.Core.Path.{_≡_};
 ghost use Prim.Native.Nat.{_-_, _≤_, _<_};
 ghost use Rattle.use_rows.specs.UseColumns.{useColumns, Inside};
-ghost use Rattle.use_lists.specs.Collecting.{collecting, isStored, addedBefore, added, counted, countedList, countedLists};
+ghost use Rattle.use_lists.specs.Collecting.{collecting, isStored, addedBefore, added, weightIn, counted, countedList, countedLists};
 ghost use Rattle.use_lists.specs.Collecting.{heldIn, withLast, Listing, Listings, RowsLeft};
-ghost use Rattle.jobs.specs.Rows.{usesOf, segmentsOf};
-ghost use Rattle.jobs.specs.Checked.{plainSegment};
+ghost use Rattle.use_lists.specs.Steps.{numberBefore, isDefOf, blockInUse, Step};
+ghost use Rattle.jobs.specs.Rows.{usesOf, segmentsOf, noUse};
+ghost use Rattle.jobs.specs.Checked.{plainSegment, plainUse};
 ghost use Rattle.links.specs.Blocks.{Ends};
-ghost use Rattle.numbers.specs.Weight.{frequencyLimit, valueOf};
-ghost use lib.Ieee.{binary32, mul};
 ghost use lib.ListN.{length, getD};
 
-// How far the collection is: the rows stored, the latest row, which is not, and the block of the latest use that counted, where the
-// search for the next one's begins.
+// How far the collection is: the rows stored, the latest row, which is not, and the block of the latest use listed, from which the
+// next one's is found.
 pub struct Collected {
     pub rows: usize,
     pub latest: SplitUse,
@@ -129,18 +130,18 @@ fn add_use(
 // A use's weight: its cost times the frequency of its block.
 fn weight_in(freq: &[u32], cost: f32, b: Block) -> f32
     requires { ⌜ b .0 < length (now freq) ⌝ }
-    ensures { λ r. ⌜ r ≡ mul binary32 cost (valueOf frequencyLimit (getD (now (freq .entry)) (b .0) 0)) ⌝ }
+    ensures { λ r. ⌜ r ≡ weightIn (now (freq .entry)) cost (b .0) ⌝ }
 {
     let i = b.0 as usize;
     cost * frequency_of(freq[i])
 }
 
-// Collects one use of a segment. A use that costs nothing is ignored.
+// Collects one use of a segment, in a block. A use that costs nothing is ignored.
 fn count_use(
     freq: &[u32],
-    end: &[u32],
     s: LiveSegment,
     p: Inst,
+    b: Block,
     cost: f32,
     inst: &mut [u32],
     weight: &mut [f32],
@@ -149,26 +150,70 @@ fn count_use(
     done: Collected,
 ) -> Collected
     requires { ⌜ Inside (done .rows) (useColumns (now inst) (now weight) (now «left_weight») (now «right_weight»)) ⌝ }
-    requires { ⌜ Ends (now end) (length (now freq)) (p .0) ⌝ }
+    requires { ⌜ b .0 < length (now freq) ⌝ }
     ensures { λ r. ⌜
         (let lent = useColumns (now (inst .entry)) (now (weight .entry)) (now («left_weight» .entry)) (now («right_weight» .entry)) in
         let after = useColumns (now (inst .exit)) (now (weight .exit)) (now («left_weight» .exit)) (now («right_weight» .exit)) in
-        collecting after r ≡ counted (now (freq .entry)) (now (end .entry)) (plainSegment s) (p .0) cost (collecting lent done)) ⌝ }
+        collecting after r ≡ counted (now (freq .entry)) (plainSegment s) (p .0) (b .0) cost (collecting lent done)) ⌝ }
 {
     if cost == 0.0 {
         return done;
     }
-    // Uses come in order, but for fixed defs: the search goes on where that of the use before ended.
-    let near = done.near;
-    let b = block_near(end, freq.len(), p, near);
     let w = weight_in(freq, cost, b);
     let part = part_of(s, p);
-    let mut done = done;
-    done.near = b;
     add_use(inst, weight, left_weight, right_weight, done, p, part, w)
 }
 
-// Collects the uses of one segment's list, whose value has a code.
+// Whether use i of a segment's list is its fixed def.
+fn is_def(s: LiveSegment, i: usize) -> bool
+    ensures { λ r. ⌜ r ≡ isDefOf (plainSegment s) i ⌝ }
+{
+    if i != s.first_use as usize {
+        return false;
+    }
+    s.has_fixeddef()
+}
+
+// A use and its block.
+struct FoundUse {
+    pub row: PlacedUse,
+    pub block: Block,
+}
+
+// Use i of a segment's list, and its block, stepped to from that of the use listed before it: by one block back at most, and back
+// for a fixed def alone, else forward.
+fn find_use(
+    position: &[u32],
+    kind: &[u32],
+    cost: &[u32],
+    end: &[u32],
+    n: usize,
+    s: LiveSegment,
+    i: usize,
+    from: Block,
+) -> FoundUse
+    requires { ⌜
+        (let uses = usesOf (now position) (now kind) (now cost) in
+        (i < length uses) × Ends (now end) n (getD uses i noUse .position)) ⌝ }
+    requires { ⌜
+        (let block = blockInUse (now end) n (usesOf (now position) (now kind) (now cost)) in
+        Step block i (isDefOf (plainSegment s) i) × (from .0 ≡ numberBefore block i)) ⌝ }
+    ensures { λ r. ⌜
+        (let uses = usesOf (now (position .entry)) (now (kind .entry)) (now (cost .entry)) in
+        (plainUse (r .row) ≡ getD uses i noUse) × (r .block .0 ≡ blockInUse (now (end .entry)) n uses i)) ⌝ }
+{
+    let row = placed_use_at(position, kind, cost, i);
+    let p = row.position;
+    let mut near = from;
+    if is_def(s, i) {
+        near = step_back(end, n, p, near);
+    }
+    let block = step_forward(end, n, p, near);
+    FoundUse { row, block }
+}
+
+// Collects the uses of one segment's list, whose value has a code. The block of each use is found from that of the use listed
+// before it.
 fn collect_list(
     position: &[u32],
     kind: &[u32],
@@ -188,24 +233,31 @@ fn collect_list(
     requires { ⌜
         (let lent = useColumns (now inst) (now weight) (now «left_weight») (now «right_weight») in
         RowsLeft (s .«end_use» - s .«first_use») (collecting lent done)) ⌝ }
+    requires { ⌜
+        (let block = blockInUse (now end) (length (now freq)) (usesOf (now position) (now kind) (now cost)) in
+        done .near .0 ≡ numberBefore block (s .«first_use»)) ⌝ }
     ensures { λ r. ⌜
         (let uses = usesOf (now (position .entry)) (now (kind .entry)) (now (cost .entry)) in
         let lent = useColumns (now (inst .entry)) (now (weight .entry)) (now («left_weight» .entry)) (now («right_weight» .entry)) in
         let after = useColumns (now (inst .exit)) (now (weight .exit)) (now («left_weight» .exit)) (now («right_weight» .exit)) in
-        collecting after r ≡
-        countedList uses (now (freq .entry)) (now (end .entry)) (plainSegment s) code scales (s .«end_use» - s .«first_use») (collecting lent done)) ⌝ }
+        (collecting after r ≡
+        countedList uses (now (freq .entry)) (now (end .entry)) (plainSegment s) code scales (s .«end_use» - s .«first_use») (collecting lent done)) ×
+        (r .near .0 ≡ numberBefore (blockInUse (now (end .entry)) (length (now (freq .entry))) uses) (s .«end_use»))) ⌝ }
 {
     let mut done = done;
     let mut i = s.first_use as usize;
     let n = s.end_use as usize;
     while i < n {
-        let u = placed_use_at(position, kind, cost, i);
+        let near = done.near;
+        let found = find_use(position, kind, cost, end, freq.len(), s, i, near);
+        let u = found.row;
+        let b = found.block;
         let c = use_spill_cost(u.kind, u.cost, code, scales);
         done = count_use(
             freq,
-            end,
             s,
             u.position,
+            b,
             c,
             inst,
             weight,
@@ -213,6 +265,7 @@ fn collect_list(
             right_weight,
             done,
         );
+        done.near = b;
         i += 1;
     }
     done
@@ -247,6 +300,7 @@ pub fn collect_lists(
         (let uses = usesOf (now position) (now kind) (now cost) in
         let lent = useColumns (now inst) (now weight) (now «left_weight») (now «right_weight») in
         RowsLeft (length uses) (collecting lent done)) ⌝ }
+    requires { ⌜ done .near .0 ≡ 0 ⌝ }
     ensures { λ r. ⌜
         (let uses = usesOf (now (position .entry)) (now (kind .entry)) (now (cost .entry)) in
         let segments = segmentsOf

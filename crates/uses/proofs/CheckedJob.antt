@@ -8,10 +8,9 @@ use lib.Dec.{eqb}
 use lib.ListN.{length, getD}
 use borrow.Author.Tests.{eq-eqb}
 use Rattle.numbers.specs.Point.{instOf, roundUp}
-use Rattle.links.specs.Blocks.{blocksOf, startOf, SoundColumns}
+use Rattle.links.specs.Blocks.{startOf}
 use Rattle.columns.specs.First.{firstBelow}
 use Rattle.columns.proofs.Firsts.{first-all}
-use Rattle.links.proofs.Columns.{ends-of-sound, last-of-sound}
 use Rattle.jobs.specs.declared.rows.Segment.{Segment}
 use Rattle.jobs.specs.declared.rows.Limits.{Limits}
 use Rattle.jobs.specs.Rows.{noSegment, noUse, liveOut, fixedDef}
@@ -22,7 +21,6 @@ use Rattle.jobs.proofs.SoundUses.{Defined, defined, Fitting, fitting, LivesOut,
 use Rattle.jobs.proofs.LastUse.{list-fitting}
 use Rattle.use_rows.specs.Uses.{Source, firstInst, lastInst}
 use Rattle.uses.specs.CheckedUses.{CheckedUses}
-use Rattle.use_lists.specs.Collecting.{Listings}
 use Rattle.uses.specs.FirstLast.{Starting, Ending}
 use Rattle.uses.proofs.UseOrder.{last-out, last-use, first-out, first-use-last}
 
@@ -198,14 +196,3 @@ module _ (job : Source) (checked : CheckedUses job) where
     where
       four : (s x : ℕ) → s < x → x % 4 ≡ 0 → 4 ≤ x
       four s x n b = omega (arith, n, b)
-
-  pub job-listings : (fs ss es : List ℕ) → SoundColumns fs ss es → job .blocks ≡ blocksOf fs ss es
-      → Listings (job .uses) es (length fs) (length (job .codes)) (job .segments)
-  job-listings fs ss es w e =
-      record {
-        lists = job-lists;
-        blocked =
-            λ u h. ends-of-sound fs ss es w (at u) (subst (λ (x : ℕ). at u < x) (last-of-sound fs ss es w)
-            (subst (λ b. at u < startOf b (length b)) e (use-in-blocks u h)));
-        known = λ i h. subst (λ (n : ℕ). seg i .value < n) (checked .values) (job-bounded i h .known);
-      }

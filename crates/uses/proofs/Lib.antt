@@ -8,6 +8,8 @@ pub mod UseOrder
 pub mod OneList
 pub mod WholeTable
 pub mod CheckedJob
+pub mod Distances
+pub mod UseSteps
 pub mod Held
 pub mod UseTable
 pub mod EdgeWeights

@@ -11,7 +11,7 @@ use lib.ListN.{length, getD}
 use borrow.Author.Tests.{eqb-true}
 use Rattle.numbers.specs.Weight.{zeroWeight, frequencyLimit, valueOf}
 use Rattle.columns.proofs.Tests.{cond-true, cond-false}
-use Rattle.links.specs.Blocks.{BlockRow, blocksOf, blockOf, SoundBlocks}
+use Rattle.links.specs.Blocks.{BlockRow, blocksOf, blockOf, blockIn, SoundBlocks}
 use Rattle.links.proofs.Columns.{row-at, block-of-sound}
 use Rattle.numbers.specs.Cost.{reloadCost, moveCost, spillCost, scaled}
 use Rattle.jobs.specs.declared.rows.Segment.{Segment}
@@ -24,7 +24,8 @@ use Rattle.jobs.proofs.SoundUses.{Defined, Fitting}
 use Rattle.jobs.proofs.UseLists.{list-of}
 use Rattle.use_rows.specs.Uses.{Seen, countsAt, carries, hasRow, frequencyAt, Source, segmentOf, costOf, seenOf, firstInst}
 use Rattle.use_rows.specs.UseColumns.{UseColumns, Inside}
-use Rattle.use_lists.specs.Collecting.{Collecting, added, weightAt, counted, countedList, countedLists}
+use Rattle.use_lists.specs.Steps.{blockInUse}
+use Rattle.use_lists.specs.Collecting.{Collecting, added, weightIn, counted, countedList, countedLists}
 use Rattle.uses.proofs.Adding.{Stored, stored-skipped, stored-added}
 use Rattle.use_rows.proofs.Rows.{inside-less}
 use Rattle.uses.proofs.UseOrder.{use-near, use-inside}
@@ -60,8 +61,8 @@ rows-near seen first n most h uses p e = by (eqb p first) refl (carries seen n p
 
 -- a use's weight by the columns is its weight by the blocks
 pub weight-blocks : (fs ss es : List ℕ) → length ss ≡ length fs → length es ≡ length fs → SoundBlocks (blocksOf fs ss es) → (cost : Float) (p : ℕ)
-    → weightAt fs es cost p ≡ mul binary32 cost (frequencyAt (blocksOf fs ss es) p)
-unfolding weightAt frequencyAt
+    → weightIn fs cost (blockIn es (length fs) p) ≡ mul binary32 cost (frequencyAt (blocksOf fs ss es) p)
+unfolding weightIn frequencyAt
 weight-blocks fs ss es a b sound cost p =
     let found = block-of-sound fs ss es (record { firsts-long = a; ends-long = b; sound = sound }) p in
     ap (λ (i : ℕ). mul binary32 cost (valueOf frequencyLimit (getD fs i 0))) found
@@ -94,19 +95,19 @@ module _ (limits : Limits) (job : Source) (lists : Lists (length (job .uses)) (j
     inside-uses = let l = lists .inside i h in omega (arith, l, q)
 
     -- what the code adds is what the table sees of the use
-    as-seen : counted fs es (seg i) (getD (job .uses) n noUse .position)
+    as-seen : counted fs (seg i) (getD (job .uses) n noUse .position) (blockInUse es (length fs) (job .uses) n)
         (scaled (codeOf (seg i)) (job .scales) (spillCost reloadCost moveCost (getD (job .uses) n noUse .kind) (getD (job .uses) n noUse .cost))) c
         ≡ cond (eq (costOf job n) zeroWeight) c (added c (seenOf job .inst n) (seenOf job .part n) (seenOf job .weight n))
     unfolding counted costOf
     as-seen =
-        ap (λ (s : Segment). counted fs es s (getD (job .uses) n noUse .position)
+        ap (λ (s : Segment). counted fs s (getD (job .uses) n noUse .position) (blockInUse es (length fs) (job .uses) n)
         (scaled (codeOf s) (job .scales) (spillCost reloadCost moveCost (getD (job .uses) n noUse .kind) (getD (job .uses) n noUse .cost))) c) own-segment
         ∙ ap (λ (w : Float). cond (eq (costOf job n) zeroWeight) c (added c (seenOf job .inst n) (seenOf job .part n) w))
         (weight-blocks fs ss es as-long as-long-too sound (costOf job n) (getD (job .uses) n noUse .position)
         ∙ ap (λ (b : List BlockRow). mul binary32 (costOf job n) (frequencyAt b (getD (job .uses) n noUse .position))) (sym blocks))
 
     use-stored : Stored (seenOf job) (firstInst (job .segments)) (suc n) lent
-        (counted fs es (seg i) (getD (job .uses) n noUse .position)
+        (counted fs (seg i) (getD (job .uses) n noUse .position) (blockInUse es (length fs) (job .uses) n)
         (scaled (codeOf (seg i)) (job .scales) (spillCost reloadCost moveCost (getD (job .uses) n noUse .kind) (getD (job .uses) n noUse .cost))) c)
     use-stored = by (eq (costOf job n) zeroWeight) refl
       where
@@ -114,7 +115,7 @@ module _ (limits : Limits) (job : Source) (lists : Lists (length (job .uses)) (j
         first-before = use-inside limits (job .uses) (job .segments) lists bounded defined fitting i n h p q
 
         by : (b : Bool) → eq (costOf job n) zeroWeight ≡ b → Stored (seenOf job) (firstInst (job .segments)) (suc n) lent
-            (counted fs es (seg i) (getD (job .uses) n noUse .position)
+            (counted fs (seg i) (getD (job .uses) n noUse .position) (blockInUse es (length fs) (job .uses) n)
             (scaled (codeOf (seg i)) (job .scales) (spillCost reloadCost moveCost (getD (job .uses) n noUse .kind) (getD (job .uses) n noUse .cost))) c)
         by true e =
             subst (Stored (seenOf job) (firstInst (job .segments)) (suc n) lent) (sym (as-seen ∙ cond-true _ _ e))

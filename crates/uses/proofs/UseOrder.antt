@@ -1,6 +1,6 @@
--- The order of a checked job's uses: none is before the first instruction, and none is more than one instruction before an earlier one
+-- The order of a checked job's uses: none is before the first instruction, and none before an earlier one, but a fixed def by one instruction
 use mathlib.Core.Path.{_≡_, refl, sym, ap, _∙_, subst}
-use mathlib.Core.Bool.{Bool, true, false, _&&_, cond}
+use mathlib.Core.Bool.{Bool, true, false, _&&_, cond, true≢false}
 use mathlib.Core.Logic.{⊎-elim}
 use mathlib.Core.List.{List}
 use Prim.Native.Nat.{ℕ, zero, suc, _+_, _-_, _*_, _/_, _%_, _≤_, _<_}
@@ -9,6 +9,7 @@ use native.Mathlib.Omega.{arith}
 use lib.Dec.{eqb}
 use lib.ListN.{length, getD}
 use borrow.Author.Tests.{eqb-true}
+use Rattle.columns.proofs.Tests.{and-both}
 use Rattle.columns.proofs.Firsts.{split}
 use Rattle.jobs.specs.declared.rows.Segment.{Segment}
 use Rattle.jobs.specs.declared.rows.Use.{Use}
@@ -20,6 +21,7 @@ use Rattle.jobs.proofs.Sound.{Bounded}
 use Rattle.jobs.proofs.SoundUses.{Defined, Fitting, LivesOut, Ended}
 use Rattle.jobs.proofs.LastUse.{list-rises, last-highest}
 use Rattle.use_rows.specs.Uses.{firstInst}
+use Rattle.use_lists.specs.Steps.{isDefOf}
 
 module _ (limits : Limits) (uses : List Use) (segments : List Segment) (lists : Lists (length uses) segments)
     (bounded : (i : ℕ) → i < length segments → Bounded limits (rowBefore segments noSegment i) (getD segments i noSegment))
@@ -35,6 +37,7 @@ module _ (limits : Limits) (uses : List Use) (segments : List Segment) (lists : 
   -- a use of segment i: where it is the fixed def, and where it isn't
   record Placed (s : Segment) (u : ℕ) : Type 0 where
     low : s .start ≤ 4 * (at u + 1)
+    plain : isDefOf s u ≡ false → s .start < 4 * (at u + 1)
     high : 4 * at u ≤ s .end
 
   placed : (i u : ℕ) → i < length segments → seg i .«first_use» ≤ u → u < seg i .«end_use» → Placed (seg i) u
@@ -42,7 +45,7 @@ module _ (limits : Limits) (uses : List Use) (segments : List Segment) (lists : 
     where
       -- a use to which the rule of the range applies
       ranged : (eqb u (seg i .«first_use») && fixedDef (seg i .flags)) ≡ false → Placed (seg i) u
-      ranged e = let r = fitting i u h p q .inside e in record { low = let x = r .0 in omega (arith, x); high = r .1 }
+      ranged e = let r = fitting i u h p q .inside e in record { low = let x = r .0 in omega (arith, x); plain = λ _. r .0; high = r .1 }
 
       by : (a : Bool) → eqb u (seg i .«first_use») ≡ a → (b : Bool) → fixedDef (seg i .flags) ≡ b → Placed (seg i) u
       by false e b f = ranged (ap (λ (x : Bool). x && fixedDef (seg i .flags)) e)
@@ -54,7 +57,11 @@ module _ (limits : Limits) (uses : List Use) (segments : List Segment) (lists : 
           let b = d .boundary in
           let l = d .later in
           let n = bounded i h .nonempty in
-          record { low = omega (arith, there, b, l); high = omega (arith, there, b, l, n) }
+          record {
+            low = omega (arith, there, b, l);
+            plain = λ g. absurd (true≢false (sym (and-both (eqb u (seg i .«first_use»)) (fixedDef (seg i .flags)) e f) ∙ g));
+            high = omega (arith, there, b, l, n);
+          }
 
   -- the uses listed before segment i are before the end of the segment before it
   ended : (i u : ℕ) → i ≤ length segments → u < rowBefore segments noSegment i .«end_use» → 4 * at u ≤ rowBefore segments noSegment i .end
@@ -66,22 +73,36 @@ module _ (limits : Limits) (uses : List Use) (segments : List Segment) (lists : 
       earlier : 4 * at u ≤ rowBefore segments noSegment i .end → 4 * at u ≤ seg i .end
       earlier a = let b = bounded i h .after in let n = bounded i h .nonempty in omega (arith, a, b, n)
 
-  -- an earlier use is at most one instruction after a later one
-  pub use-near : (i m n : ℕ) → i < length segments → seg i .«first_use» ≤ n → n < seg i .«end_use» → m < n → at m ≤ at n + 1
-  use-near i m n h p q l = ⊎-elim other same (split m (seg i .«first_use»))
+  -- an earlier use is not after a later one, but by one instruction after a fixed def
+  pub use-order : (i m n : ℕ) → i < length segments → seg i .«first_use» ≤ n → n < seg i .«end_use» → m < n → at m ≤ at n + cond (isDefOf (seg i) n) 1 0
+  use-order i m n h p q l = ⊎-elim other same (split m (seg i .«first_use»))
     where
-      other : m < seg i .«first_use» → at m ≤ at n + 1
-      other b =
-          let e = ended i m (omega (arith, h)) (subst (λ (x : ℕ). m < x) (lists .follows i h) b) in
-          let a = bounded i h .after in
-          let w = placed i n h p q .low in
-          omega (arith, e, a, w)
+      other : m < seg i .«first_use» → at m ≤ at n + cond (isDefOf (seg i) n) 1 0
+      other b = by (isDefOf (seg i) n) refl
+        where
+          before : 4 * at m ≤ seg i .start
+          before =
+              let e = ended i m (omega (arith, h)) (subst (λ (x : ℕ). m < x) (lists .follows i h) b) in
+              let a = bounded i h .after in
+              omega (arith, e, a)
 
-      same : seg i .«first_use» ≤ m → at m ≤ at n + 1
+          by : (t : Bool) → isDefOf (seg i) n ≡ t → at m ≤ at n + cond t 1 0
+          by true e = let a = before in let w = placed i n h p q .low in omega (arith, a, w)
+          by false e = let a = before in let w = placed i n h p q .plain e in omega (arith, a, w)
+
+      same : seg i .«first_use» ≤ m → at m ≤ at n + cond (isDefOf (seg i) n) 1 0
       same b =
           let k : m + (n - m) ≡ n = omega (arith, l) in
           let r = subst (λ (x : ℕ). at m ≤ at x) k (list-rises limits uses (seg i) (λ u. fitting i u h) m (n - m) b (omega (arith, l, q))) in
           omega (arith, r)
+
+  -- so by at most one instruction
+  pub use-near : (i m n : ℕ) → i < length segments → seg i .«first_use» ≤ n → n < seg i .«end_use» → m < n → at m ≤ at n + 1
+  use-near i m n h p q l = at-most (isDefOf (seg i) n) (use-order i m n h p q l)
+    where
+      at-most : (t : Bool) → at m ≤ at n + cond t 1 0 → at m ≤ at n + 1
+      at-most true a = a
+      at-most false a = omega (arith, a)
 
   -- a later segment starts after the first one
   starts-after : (i : ℕ) → suc i < length segments → seg 0 .start < seg (suc i) .start

@@ -6,7 +6,8 @@ use borrow.Author.Needs.{needs}
 use Rattle.links.specs.declared.lower.Side.{Side}
 use Rattle.links.specs.declared.lower.Side.the-variants.{Previous, Next}
 use Rattle.use_rows.specs.declared.row.SplitUse.{SplitUse}
-use Rattle.gaps.specs.Cutting.{blockIn, spaceOf}
+use Rattle.links.specs.Blocks.{blockIn}
+use Rattle.gaps.specs.Cutting.{spaceOf}
 use Rattle.gaps.specs.declared.gaps.Space.{Space}
 use Rattle.gaps.proofs.gaps.space_between.Statement.{statement}
 use Rattle.gaps.proofs.gaps.space_between.Tie as tie

@@ -3,16 +3,17 @@ use mathlib.Core.Path.{_≡_, sym, ap, _∙_}
 use mathlib.Core.List.{List}
 use Prim.Native.Nat.{ℕ, _+_}
 use native.Mathlib.Numerals.{add-one}
-use lib.Dec.{leb, ltb}
+use lib.Dec.{leb}
 use lib.ListN.{getD}
-use Rattle.columns.specs.First.{firstBelow, FirstIn}
+use Rattle.columns.specs.First.{FirstIn}
 use Rattle.columns.proofs.Firsts.{first-is}
 use borrow.Author.Needs.{needs}
+use Rattle.links.specs.Blocks.{blockIn}
 use Rattle.links.proofs.blocks.block_of.Statement.{statement}
 use Rattle.links.proofs.blocks.block_of.Tie as tie
 
 -- at least p + 1 is above p
-above : (ends : List ℕ) (n p r : ℕ) → FirstIn (λ (k : ℕ). leb (p + 1) (getD ends k 0)) 0 n r → r ≡ firstBelow (λ (i : ℕ). ltb p (getD ends i 0)) n
+above : (ends : List ℕ) (n p r : ℕ) → FirstIn (λ (k : ℕ). leb (p + 1) (getD ends k 0)) 0 n r → r ≡ blockIn ends n p
 above ends n p r f =
     first-is (record {
       from = f .from;

@@ -1,20 +1,20 @@
 -- `collect_list` adds the uses of a list one by one, in order
-use mathlib.Core.Path.{_≡_, sym, ap, _∙_, subst}
-use mathlib.Core.List.{List, [], _∷_}
+use mathlib.Core.Path.{_≡_, sym, ap, ap₂, _∙_}
+use mathlib.Core.List.{List}
 use Prim.Native.Nat.{ℕ, _-_, _<_}
-use native.Mathlib.Nat.{lt-of-lt-of-le, le-antisymm}
+use native.Mathlib.Nat.{lt-of-lt-of-le, lt-of-le-of-lt, le-antisymm, le-of-eq}
 use native.Mathlib.Omega.{arith}
+use native.Mathlib.Numerals.{add-one}
 use borrow.Author.Needs.{needs}
 use lib.Ieee.{Float}
-use lib.ListN.{length, getD}
+use lib.ListN.{length}
 use Rattle.numbers.specs.Cost.{reloadCost, moveCost, spillCost, scaled}
-use Rattle.columns.specs.Table.{shortest}
-use Rattle.links.specs.Blocks.{Ends}
-use Rattle.jobs.specs.Rows.{useRow, usesOf, noUse}
-use Rattle.jobs.specs.Checked.{plainSegment, plainUse}
+use Rattle.jobs.specs.Rows.{usesOf}
+use Rattle.jobs.specs.Checked.{plainSegment}
 use Rattle.jobs.specs.declared.rows.Use.{Use}
-use Rattle.jobs.proofs.Walk.{own-row}
+use Rattle.links.proofs.Columns.{ends-inside}
 use Rattle.use_rows.specs.UseColumns.{useColumns}
+use Rattle.use_lists.specs.Steps.{numberBefore, blockInUse}
 use Rattle.use_lists.specs.Collecting.{collecting, counted, countedList}
 use Rattle.use_rows.proofs.Rows.{inside-less}
 use Rattle.use_lists.proofs.ListWalk.{Along, along-first, along-next}
@@ -25,7 +25,8 @@ abbrev Inv-loop : tie.InvT-loop
 Inv-loop position kind cost freq end s code scales inst₀ weight₀ left-weight₀ right-weight₀ done₀ i₀ n inst weight left-weight right-weight done i =
     Along (usesOf position kind cost) freq end (plainSegment s) code scales
     (collecting (useColumns inst₀ weight₀ left-weight₀ right-weight₀) done₀) i
-    (collecting (useColumns inst weight left-weight right-weight) done)
+    (collecting (useColumns inst weight left-weight right-weight) done) ×
+    (done .near .0 ≡ numberBefore (blockInUse end (length freq) (usesOf position kind cost)) i)
 
 abbrev μ-loop : tie.MeasureT-loop
 μ-loop position kind cost freq end s code scales inst₀ weight₀ left-weight₀ right-weight₀ done₀ i₀ n inst weight left-weight right-weight done i = n - i
@@ -39,15 +40,6 @@ uses c = usesOf (begin c .args .position .now) (begin c .args .kind .now) (begin
 in-list : (c : tie.In-loop Inv-loop μ-loop) → c .before .loop .i < length (uses c)
 in-list c = lt-of-lt-of-le (c .loop-test .taken) (begin c .pre .0 .inside)
 
--- the row that was read is the table's
-row : (c : tie.After-placed-use-at Inv-loop μ-loop) → plainUse (c .placed-use-at .result) ≡ getD (uses (c .before)) (c .before .before .loop .i) noUse
-row d =
-    let c = d .before in
-    own-row (useRow (begin c .args .position .now) (begin c .args .kind .now) (begin c .args .cost .now))
-    (shortest
-    (length (begin c .args .position .now) ∷ length (begin c .args .kind .now) ∷ length (begin c .args .cost .now) ∷ []))
-    (c .before .loop .i) noUse (plainUse (d .placed-use-at .result)) (ap plainUse (d .placed-use-at .ensures)) (in-list c)
-
 cast-i : tie.Need-cast-i Inv-loop μ-loop
 cast-i c = search needs
 
@@ -57,79 +49,92 @@ cast-n c = search needs
 loop-holds : tie.Need-loop-holds Inv-loop μ-loop
 loop-holds c =
     let at-pre = c .before .before .before .before .before .before .before .before .before .before .before in
-    let a = at-pre .args in
-    along-first (usesOf (a .position .now) (a .kind .now) (a .cost .now)) (a .freq .now) (a .end .now) (plainSegment (a .s)) (a .code)
-    (a .scales) (collecting (useColumns (a .inst .now) (a .weight .now) (a .left-weight .now) (a .right-weight .now)) (a .done))
-    (at-pre .pre .0 .forward) (at-pre .pre .1)
+    let a = at-pre .args in (
+      along-first (usesOf (a .position .now) (a .kind .now) (a .cost .now)) (a .freq .now) (a .end .now) (plainSegment (a .s)) (a .code)
+          (a .scales) (collecting (useColumns (a .inst .now) (a .weight .now) (a .left-weight .now) (a .right-weight .now)) (a .done))
+          (at-pre .pre .0 .forward) (at-pre .pre .1 .0),
+      at-pre .pre .1 .1,
+    )
 
-placed-use-at-requires : tie.Need-placed-use-at-requires Inv-loop μ-loop
-placed-use-at-requires c κs = in-list (c)
+find-use-requires : tie.Need-find-use-requires Inv-loop μ-loop
+find-use-requires c κs =
+    let l = c .before in
+    let k = l .before .loop in
+    let p = begin l .pre .0 in (
+      (in-list l, p .blocked (k .i) (in-list l)),
+      (p .steps (k .i) (k .inv .0 .from) (l .loop-test .taken), k .inv .1),
+    )
 
 use-spill-cost-requires : tie.Need-use-spill-cost-requires Inv-loop μ-loop
 use-spill-cost-requires c κs = search needs
 
 count-use-requires : tie.Need-count-use-requires Inv-loop μ-loop
 count-use-requires c κs =
-    let at-stage = c .before .before .before .before .before in
-    let l = at-stage .before in
-    let a = begin l .args in (
-      inside-less _ _ _ (omega arith) (l .before .loop .inv .room),
-      subst
-          (λ (u : Use). Ends (a .end .now) (length (a .freq .now)) (u .position)) (sym (row (at-stage)))
-          (begin l .pre .0 .blocked (l .before .loop .i) (in-list l)),
+    let at-found = c .before .before .before .before .before .before .before in
+    let l = at-found .before .before in
+    let a = begin l .args in
+    let k = l .before .loop in (
+      inside-less _ _ _ (omega arith) (k .inv .0 .room),
+      lt-of-le-of-lt (le-of-eq (at-found .find-use .ensures .1))
+          (ends-inside (a .end .now) (length (a .freq .now)) _ (begin l .pre .0 .blocked (k .i) (in-list l))),
     )
 
 add-i : tie.Need-add-i Inv-loop μ-loop
 add-i c =
-    let l =
-    c .before .before .before .before .before .before .before .before .before .before .before .before .before .before .before in
-    omega (arith, l .loop-test .taken, l .before .before .struct-known2 .given)
+    let l = c .before .before .before .before .before .before .before .before .before .before .before .before .before .before .before .before .before
+    .before in
+    omega (arith, l .loop-test .taken)
 
 loop-less : tie.Need-loop-less Inv-loop μ-loop
 loop-less c =
-    let at-loop-test =
-    c .before .before .before .before .before .before .before .before .before .before .before .before .before .before .before in
-    omega (arith, at-loop-test .loop-test .taken)
+    let l = c .before .before .before .before .before .before .before .before .before .before .before .before .before .before .before .before .before
+    .before in
+    omega (arith, l .loop-test .taken)
 
 loop-again : tie.Need-loop-again Inv-loop μ-loop
 loop-again c =
     let at-count-use = c .before .before .before .before .before .before .before .before in
-    let at-use-spill-cost = at-count-use .before .before .before .before .before in
-    let u = at-use-spill-cost .before in
-    let l = u .before in
+    let at-cost = at-count-use .before .before .before .before .before in
+    let at-found = at-cost .before .before .before in
+    let l = at-found .before .before in
     let a = begin l .args in
     let k = l .before .loop in
+    let s = plainSegment (a .s) in
+    let block = blockInUse (a .end .now) (length (a .freq .now)) (uses l) in
     let now = collecting (useColumns (k .inst) (k .weight) (k .left-weight) (k .right-weight)) (k .done) in
-    along-next (uses l) (a .freq .now) (a .end .now) (plainSegment (a .s)) (a .code) (a .scales) _ (k .i) now _ (l .loop-test .taken) (k .inv)
-    (at-count-use .count-use .ensures
-    ∙ ap (λ (x : Float). counted (a .freq .now) (a .end .now) (plainSegment (a .s)) (u .placed-use-at .result .position .0) x now)
-    (at-use-spill-cost .use-spill-cost .ensures)
-    ∙ ap
-    (λ (x : Use). counted (a .freq .now) (a .end .now) (plainSegment (a .s)) (x .position)
-    (scaled (a .code) (a .scales) (spillCost reloadCost moveCost (x .kind) (x .cost))) now) (row u))
+    let found = at-found .find-use in (
+      along-next (uses l) (a .freq .now) (a .end .now) s (a .code) (a .scales) _ (k .i) now _ (l .loop-test .taken) (k .inv .0)
+          (at-count-use .count-use .ensures
+          ∙ ap (λ (x : Float). counted (a .freq .now) s (found .result .row .position .0) (found .result .block .0) x now) (at-cost .use-spill-cost .ensures)
+          ∙ ap₂
+          (λ (x : Use) (b : ℕ). counted (a .freq .now) s (x .position) b
+          (scaled (a .code) (a .scales) (spillCost reloadCost moveCost (x .kind) (x .cost))) now) (found .ensures .0) (found .ensures .1)),
+      found .ensures .1 ∙ ap (numberBefore block) (sym (add-one (k .i))),
+    )
 
 same-length : tie.Need-same-length Inv-loop μ-loop
-same-length c = c .before .loop .inv .long .insts
+same-length c = c .before .loop .inv .0 .long .insts
 
 same-length-2 : tie.Need-same-length-2 Inv-loop μ-loop
-same-length-2 c = c .before .loop .inv .long .mains
+same-length-2 c = c .before .loop .inv .0 .long .mains
 
 same-length-3 : tie.Need-same-length-3 Inv-loop μ-loop
-same-length-3 c = c .before .loop .inv .long .lefts
+same-length-3 c = c .before .loop .inv .0 .long .lefts
 
 same-length-4 : tie.Need-same-length-4 Inv-loop μ-loop
-same-length-4 c = c .before .loop .inv .long .rights
+same-length-4 c = c .before .loop .inv .0 .long .rights
 
 returns : tie.Need-returns Inv-loop μ-loop
 returns c =
-    let at-args = c .before .before .before .before .before .before .before .before .before .before .before .before .before in
-    let a = at-args .args in
-    c .before .loop .inv .sofar
-    ∙ ap
-    (λ (i : ℕ). countedList (usesOf (a .position .now) (a .kind .now) (a .cost .now)) (a .freq .now) (a .end .now) (plainSegment (a .s))
-    (a .code) (a .scales) (i - a .s .«first_use»)
-    (collecting (useColumns (a .inst .now) (a .weight .now) (a .left-weight .now) (a .right-weight .now)) (a .done)))
-    (le-antisymm (c .before .loop .inv .to) (c .loop-test .left))
+    let a = c .before .before .before .before .before .before .before .before .before .before .before .before .before .args in
+    let uses = usesOf (a .position .now) (a .kind .now) (a .cost .now) in
+    let all = le-antisymm (c .before .loop .inv .0 .to) (c .loop-test .left) in (
+      c .before .loop .inv .0 .sofar
+          ∙ ap
+          (λ (i : ℕ). countedList uses (a .freq .now) (a .end .now) (plainSegment (a .s)) (a .code) (a .scales) (i - a .s .«first_use»)
+          (collecting (useColumns (a .inst .now) (a .weight .now) (a .left-weight .now) (a .right-weight .now)) (a .done))) all,
+      c .before .loop .inv .1 ∙ ap (numberBefore (blockInUse (a .end .now) (length (a .freq .now)) uses)) all,
+    )
 
 pub collect-list-spec : {M : Type 1} → statement M
 collect-list-spec =
@@ -140,7 +145,7 @@ collect-list-spec =
     cast-i
     cast-n
     loop-holds
-    placed-use-at-requires
+    find-use-requires
     use-spill-cost-requires
     count-use-requires
     add-i

@@ -6,15 +6,16 @@ use native.Mathlib.Nat.{lt-of-lt-of-le, le-antisymm, le-of-eq, le-trans}
 use native.Mathlib.Omega.{arith}
 use borrow.Author.Needs.{needs}
 use lib.ListN.{length, getD}
-use Rattle.columns.specs.Table.{shortest}
+use Rattle.columns.specs.Table.{shortest, rowBefore}
 use Rattle.jobs.specs.Rows.{segmentRow, segmentsOf, usesOf, noSegment}
 use Rattle.jobs.specs.Checked.{plainSegment}
 use Rattle.jobs.specs.declared.rows.Segment.{Segment}
 use Rattle.jobs.specs.declared.rows.Use.{Use}
-use Rattle.jobs.proofs.Walk.{own-row}
+use Rattle.jobs.proofs.Walk.{own-row, before-next}
 use Rattle.use_rows.specs.UseColumns.{useColumns}
+use Rattle.use_lists.specs.Steps.{numberBefore, blockInUse}
 use Rattle.use_lists.specs.Collecting.{collecting, Listing, RowsLeft, countedList, countedLists}
-use Rattle.use_lists.proofs.ListWalk.{AlongAll, along-all-first, along-all-next, list-room}
+use Rattle.use_lists.proofs.ListWalk.{AlongAll, along-all-first, along-all-next, list-room, list-steps}
 use Rattle.use_lists.proofs.lists.collect_lists.Statement.{statement}
 use Rattle.use_lists.proofs.lists.collect_lists.Tie as tie
 
@@ -24,7 +25,9 @@ Inv-loop start end value first-use end-use flags code position kind cost freq bl
     (n ≡ length (segmentsOf start end value first-use end-use flags)) ×
     AlongAll (usesOf position kind cost) freq block-end (segmentsOf start end value first-use end-use flags) code scales
     (collecting (useColumns inst₀ weight₀ left-weight₀ right-weight₀) done₀) i
-    (collecting (useColumns inst weight left-weight right-weight) done)
+    (collecting (useColumns inst weight left-weight right-weight) done) ×
+    (done .near .0 ≡ numberBefore (blockInUse block-end (length freq) (usesOf position kind cost))
+    (rowBefore (segmentsOf start end value first-use end-use flags) noSegment i .«end_use»))
 
 abbrev μ-loop : tie.MeasureT-loop
 μ-loop start end value first-use end-use flags code position kind cost freq block-end scales inst₀ weight₀ left-weight₀ right-weight₀ n done₀ i₀ inst weight
@@ -45,6 +48,9 @@ segments c =
 
 abbrev uses : tie.In-loop Inv-loop μ-loop → List Use
 uses c = usesOf (begin c .args .position .now) (begin c .args .kind .now) (begin c .args .cost .now)
+
+abbrev block : tie.In-loop Inv-loop μ-loop → ℕ → ℕ
+block c = blockInUse (begin c .args .block-end .now) (length (begin c .args .freq .now)) (uses c)
 
 in-list : (c : tie.In-loop Inv-loop μ-loop) → c .before .loop .i < length (segments c)
 in-list c = lt-of-lt-of-le (c .loop-test .taken) (le-of-eq (c .before .loop .inv .0))
@@ -77,7 +83,8 @@ loop-holds c =
           (segmentsOf (a .start .now) (a .end .now) (a .value .now) (a .first-use .now) (a .end-use .now) (a .flags .now))
           (a .code .now) (a .scales)
           (collecting (useColumns (a .inst .now) (a .weight .now) (a .left-weight .now) (a .right-weight .now)) (a .done))
-          (at-args .pre .1),
+          (at-args .pre .1 .0),
+      at-args .pre .1 .1,
     )
 
 live-segment-at-requires : tie.Need-live-segment-at-requires Inv-loop μ-loop
@@ -105,11 +112,16 @@ collect-list-requires c κs =
             forward = p .lists .forward (k .i) (in-list l);
             inside = p .lists .inside (k .i) (in-list l);
             blocked = p .blocked;
+            steps = list-steps (uses l) (segments l) (p .lists) (a .block-end .now) (length (a .freq .now)) (p .steps) (k .i) (in-list l);
           }),
-      subst (λ (s : Segment). RowsLeft (s .«end_use» - s .«first_use») now) (sym (row (at-stage)))
-          (list-room (uses l) (a .freq .now) (a .block-end .now) (segments l) (a .code .now) (a .scales) (p .lists)
-          (collecting (useColumns (a .inst .now) (a .weight .now) (a .left-weight .now) (a .right-weight .now)) (a .done)) (k .i) now
-          (in-list l) (k .inv .1)),
+      (
+        subst (λ (s : Segment). RowsLeft (s .«end_use» - s .«first_use») now) (sym (row (at-stage)))
+            (list-room (uses l) (a .freq .now) (a .block-end .now) (segments l) (a .code .now) (a .scales) (p .lists)
+            (collecting (useColumns (a .inst .now) (a .weight .now) (a .left-weight .now) (a .right-weight .now)) (a .done)) (k .i) now
+            (in-list l) (k .inv .1)),
+        subst (λ (s : Segment). k .done .near .0 ≡ numberBefore (block l) (s .«first_use»)) (sym (row (at-stage)))
+            (k .inv .2 ∙ ap (numberBefore (block l)) (sym (p .lists .follows (k .i) (in-list l)))),
+      ),
     )
 
 add-i : tie.Need-add-i Inv-loop μ-loop
@@ -140,12 +152,14 @@ loop-again c =
       along-all-next (uses l) (a .freq .now) (a .block-end .now) (segments l) (a .code .now) (a .scales) (p .lists)
           (collecting (useColumns (a .inst .now) (a .weight .now) (a .left-weight .now) (a .right-weight .now)) (a .done)) (k .i) now _
           (in-list l) (k .inv .1)
-          (at-collect-list .collect-list .ensures
+          (at-collect-list .collect-list .ensures .0
           ∙ ap
           (λ (x : ℕ). countedList (uses l) (a .freq .now) (a .block-end .now) (plainSegment (r .live-segment-at .result)) x (a .scales)
           (r .live-segment-at .result .«end_use» - r .live-segment-at .result .«first_use») now) (at-cell .cell .ensures)
           ∙ ap (λ (s : Segment). countedList (uses l) (a .freq .now) (a .block-end .now) s (getD (a .code .now) (s .value) 0) (a .scales)
           (s .«end_use» - s .«first_use») now) (row r)),
+      at-collect-list .collect-list .ensures .1
+          ∙ ap (λ (s : Segment). numberBefore (block l) (s .«end_use»)) (row r ∙ before-next (segments l) noSegment (k .i)),
     )
 
 same-length : tie.Need-same-length Inv-loop μ-loop

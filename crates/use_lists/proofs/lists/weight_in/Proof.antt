@@ -2,6 +2,7 @@
 use mathlib.Core.Path.{ap}
 use lib.Ieee.{binary32, mul}
 use borrow.Author.Needs.{needs}
+use Rattle.use_lists.specs.Collecting.{weightIn}
 use Rattle.use_lists.proofs.lists.weight_in.Statement.{statement}
 use Rattle.use_lists.proofs.lists.weight_in.Tie as tie
 
@@ -18,6 +19,7 @@ frequency-of-requires : tie.Need-frequency-of-requires
 frequency-of-requires c κs = search needs
 
 returns : tie.Need-returns
+unfolding weightIn
 returns c = ap (mul binary32 (c .before .before .before .before .args .cost)) (c .frequency-of .ensures)
 
 pub weight-in-spec : {M : Type 1} → statement M

@@ -16,7 +16,8 @@ use Rattle.use_rows.specs.UseColumns.{UseColumns, useColumns, Holds}
 use Rattle.use_lists.specs.Collecting.{Collecting, countedLists, RowsLeft, StoredUses, withLast}
 use Rattle.uses.specs.FirstLast.{Starting, Ending}
 use Rattle.use_rows.proofs.Rows.{inside-less}
-use Rattle.uses.proofs.CheckedJob.{job-starting, job-ending, job-listings}
+use Rattle.uses.proofs.CheckedJob.{job-starting, job-ending}
+use Rattle.uses.proofs.UseSteps.{job-listings}
 use Rattle.uses.proofs.Held.{last-room, last-held}
 use borrow.Author.Needs.{needs}
 use Rattle.uses.proofs.collect.collect_uses.Statement.{statement}
@@ -161,7 +162,7 @@ collect-lists-requires c κs =
     c .before .before .before .before .before .before .before .before .before .before .before .before .before .before .before
     .before .before .before .before .before .before .before .before .before .before .before .before in (
       job-listings (job s) (s .pre .1 .0) (s .args .freq .now) (s .args .block-first .now) (s .args .block-end .now) (s .pre .0) refl,
-      inside-less (0 + length (job s .uses)) (length (job s .uses) + 1) (lent s) (omega arith) (s .pre .1 .1),
+      (inside-less (0 + length (job s .uses)) (length (job s .uses) + 1) (lent s) (omega arith) (s .pre .1 .1), refl),
     )
 
 put-last-requires : tie.Need-put-last-requires
