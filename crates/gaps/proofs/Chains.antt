@@ -15,7 +15,7 @@ use lib.Ieee.Bits.{is-true, is-false}
 use Rattle.numbers.specs.Weight.{finite, unitsOf, zeroWeight, frequencyLimit, valueOf}
 use Rattle.numbers.proofs.Units.{units-order}
 use Rattle.numbers.proofs.Bits.{value-finite}
-use Rattle.columns.proofs.Tests.{cond-both}
+use Rattle.columns.proofs.Tests.{cond-both, and-parts}
 use Rattle.links.specs.Blocks.{BlockRow, blockAt, blockOf, startOf, SoundBlocks}
 use Rattle.links.specs.Links.{absent, beside, isLower, lowerLink, LiesBeyond, onSide}
 use Rattle.links.specs.Split.{follow, edge, preferred, home, reaches}
@@ -31,7 +31,7 @@ use Rattle.use_rows.specs.declared.row.SplitUse.{SplitUse}
 use Rattle.gaps.specs.Gaps.{Gap, near, far, nearWeight, farWeights, farEnd, spanned, inOrder, cutGaps, frequencyOf, cuts, gapsBetween, ownGap}
 use Rattle.columns.specs.Table.{Each}
 use Rattle.gaps.specs.Laws.{Run, Least}
-use Rattle.gaps.proofs.Cuts.{and-parts, all-enough}
+use Rattle.gaps.proofs.Cuts.{all-enough}
 use Rattle.gaps.proofs.Spaces.{cut-gaps-length}
 use Rattle.links.proofs.Homes.{Home, home-of, home-only, homes-rise, blocks-rise}
 use Rattle.gaps.proofs.Edges.{At, at-home, at-edge, at-beyond, home-block, target-block, at-start, start-beyond, edge-beyond, home-reaches}

@@ -4,4 +4,5 @@ pub mod Verdicts
 pub mod Sizes
 pub mod Stages
 pub mod Accepted
+pub mod UseBlocks
 pub mod Columns

@@ -1,13 +1,11 @@
--- The blocks of the listed uses, one after the other: from which block the search for each begins, and how far it goes in all
-use Prim.Native.Nat.{ℕ, zero, suc, _+_, _*_, _≤_, _<_}
+-- The blocks of the listed uses, one after the other: from which block to which the step to a use goes
+use Prim.Native.Nat.{ℕ, zero, suc, _+_, _≤_, _<_}
 use mathlib.Core.Path.{_≡_}
-use mathlib.Core.Bool.{Bool, true, _&&_, cond}
+use mathlib.Core.Bool.{Bool, true, _&&_}
 use mathlib.Core.List.{List}
 use lib.Dec.{eqb}
-use lib.ListN.{length, getD}
-use Rattle.columns.specs.Below.{sumBelow}
-use Rattle.numbers.specs.Figure.{apart}
-use Rattle.links.specs.Blocks.{BlockRow, blockOf, blockIn}
+use lib.ListN.{getD}
+use Rattle.links.specs.Blocks.{blockIn}
 use Rattle.jobs.specs.Rows.{noSegment, noUse, fixedDef}
 use Rattle.jobs.specs.Lines.{listOf}
 use Rattle.jobs.specs.declared.rows.Segment.{Segment}
@@ -18,10 +16,6 @@ abbrev pub numberBefore : (ℕ → ℕ) → ℕ → ℕ
 numberBefore b zero = 0
 numberBefore b (suc i) = b i
 
--- the distances between successive ones of the first n numbers, from 0 on, added up
-abbrev pub distances : (ℕ → ℕ) → ℕ → ℕ
-distances b = sumBelow (λ (i : ℕ). apart (numberBefore b i) (b i))
-
 -- use u of a segment's list is its fixed def: the first, where the flag is set
 abbrev pub isDefOf : Segment → ℕ → Bool
 isDefOf s u = eqb u (s .«first_use») && fixedDef (s .flags)
@@ -30,11 +24,7 @@ isDefOf s u = eqb u (s .«first_use») && fixedDef (s .flags)
 abbrev pub isFixedDef : List Segment → ℕ → Bool
 isFixedDef segments u = isDefOf (getD segments (listOf segments u) noSegment) u
 
--- the block of use u
-abbrev pub blockOfUse : List BlockRow → List Use → ℕ → ℕ
-blockOfUse blocks uses u = blockOf blocks (getD uses u noUse .position)
-
--- the same in the column of ends
+-- the block of use u, in the column of ends
 abbrev pub blockInUse : List ℕ → ℕ → List Use → ℕ → ℕ
 blockInUse ends n uses u = blockIn ends n (getD uses u noUse .position)
 
@@ -42,10 +32,3 @@ blockInUse ends n uses u = blockIn ends n (getD uses u noUse .position)
 pub record Step (b : ℕ → ℕ) (u : ℕ) (isDef : Bool) : Type 0 where
   pub near : numberBefore b u ≤ b u + 1
   pub back : b u < numberBefore b u → isDef ≡ true
-
--- what the listed uses of a checked job satisfy: one is not before an earlier one, but a fixed def may be, by one instruction; each step from block
--- to block is as just said; and the distances, from block 0 on, sum to at most B + 2S, even to 3 less
-pub record UseSteps (blocks : List BlockRow) (uses : List Use) (segments : List Segment) : Type 0 where
-  pub order : (i u : ℕ) → i < u → u < length uses → getD uses i noUse .position ≤ getD uses u noUse .position + cond (isFixedDef segments u) 1 0
-  pub steps : (u : ℕ) → u < length uses → Step (blockOfUse blocks uses) u (isFixedDef segments u)
-  pub few : distances (blockOfUse blocks uses) (length uses) + 3 ≤ length blocks + 2 * length segments

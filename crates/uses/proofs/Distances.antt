@@ -9,7 +9,8 @@ use lib.Dec.{ltb}
 use borrow.Author.Tests.{lt-ltb, le-ltb}
 use Rattle.columns.specs.Below.{countBelow, sumBelow}
 use Rattle.columns.proofs.Firsts.{split}
-use Rattle.use_lists.specs.Steps.{numberBefore, distances}
+use Rattle.use_lists.specs.Steps.{numberBefore}
+use Rattle.uses.specs.UseSteps.{distances}
 
 -- number i is below the one before it
 abbrev pub falls : (ℕ → ℕ) → ℕ → Bool

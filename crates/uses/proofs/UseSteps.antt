@@ -12,17 +12,19 @@ use borrow.Author.Tests.{ltb-true, eqb-true}
 use Rattle.columns.specs.Below.{countBelow}
 use Rattle.columns.specs.Table.{rowBefore}
 use Rattle.columns.proofs.Tests.{and-parts}
-use Rattle.links.specs.Blocks.{blocksOf, blockOf, startOf, SoundBlocks, SoundColumns}
+use Rattle.links.specs.Blocks.{BlockRow, blocksOf, startOf, SoundBlocks, SoundColumns}
 use Rattle.links.proofs.Columns.{ends-of-sound, last-of-sound, block-of-sound}
 use Rattle.links.proofs.Homes.{home-of, blocks-near}
 use Rattle.jobs.specs.Rows.{noSegment, noUse, fixedDef}
 use Rattle.jobs.specs.Lines.{listOf}
 use Rattle.jobs.specs.declared.rows.Segment.{Segment}
+use Rattle.jobs.specs.declared.rows.Use.{Use}
 use Rattle.jobs.proofs.UseLists.{list-of, listed}
 use Rattle.use_rows.specs.Uses.{Source}
-use Rattle.use_lists.specs.Steps.{numberBefore, isDefOf, isFixedDef, blockOfUse, Step, UseSteps}
+use Rattle.use_lists.specs.Steps.{numberBefore, isDefOf, isFixedDef, blockInUse, Step}
 use Rattle.use_lists.specs.Collecting.{Listings}
 use Rattle.uses.specs.CheckedUses.{CheckedUses}
+use Rattle.uses.specs.UseSteps.{blockOfUse, UseSteps}
 use Rattle.uses.proofs.UseOrder.{use-order}
 use Rattle.uses.proofs.Distances.{falls, distances-falls, count-first}
 use Rattle.uses.proofs.CheckedJob.{job-lists, job-bounded, job-defined, job-fitting, use-in-blocks}
@@ -107,6 +109,10 @@ module _ (job : Source) (checked : CheckedUses job) (sound : SoundBlocks (job .b
       }
 
 -- ---- what the code relies on
+-- in the column of ends the uses have the same blocks
+pub blocks-alike : (fs ss es : List ℕ) → SoundColumns fs ss es → (uses : List Use) → blockOfUse (blocksOf fs ss es) uses ≡ blockInUse es (length fs) uses
+blocks-alike fs ss es w uses = fun-ext (λ u. sym (block-of-sound fs ss es w (getD uses u noUse .position)))
+
 pub job-listings : (job : Source) → CheckedUses job → (fs ss es : List ℕ) → SoundColumns fs ss es → job .blocks ≡ blocksOf fs ss es
     → Listings (job .uses) es (length fs) (length (job .codes)) (job .segments)
 job-listings job checked fs ss es w e =
@@ -116,8 +122,8 @@ job-listings job checked fs ss es w e =
           λ u h. ends-of-sound fs ss es w (at u) (subst (λ (x : ℕ). at u < x) (last-of-sound fs ss es w)
           (subst (λ b. at u < startOf b (length b)) e (use-in-blocks job checked u h)));
       steps =
-          λ u h. subst (λ (block : ℕ → ℕ). Step (λ (i : ℕ). block (at i)) u (isFixedDef (job .segments) u))
-          (ap blockOf e ∙ sym (fun-ext (block-of-sound fs ss es w)))
+          λ u h. subst (λ (block : ℕ → ℕ). Step block u (isFixedDef (job .segments) u))
+          (ap (λ (blocks : List BlockRow). blockOfUse blocks (job .uses)) e ∙ blocks-alike fs ss es w (job .uses))
           (job-steps job checked (subst SoundBlocks (sym e) (w .sound)) u h);
       known = λ i h. subst (λ (n : ℕ). getD (job .segments) i noSegment .value < n) (checked .values) (job-bounded job checked i h .known);
     }

@@ -66,6 +66,7 @@ slips! {
     DefInside: "a fixed def's weight added to the main weight";
     EndInside: "the weight of a use at the end added to the main weight";
     DefBehind: "a fixed def before the last row merged into that row";
+    NeverBack: "a fixed def before the use before it weighed in that one's block";
     FirstWithoutDef: "first row without the first segment's fixed def";
     LastCovered: "last row at the last covered instruction, not at the last use";
     NearWeightFar: "where cuts stand, the near use's side weight put to the far gap";

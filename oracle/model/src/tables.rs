@@ -129,6 +129,13 @@ impl Reading<'_> {
                 counted[i].inst = counted[i].inst.max(counted[i - 1].inst);
             }
         }
+        if self.slips(Slip::NeverBack) {
+            for i in 1..counted.len() {
+                if counted[i].inst < counted[i - 1].inst {
+                    counted[i].freq = counted[i - 1].freq;
+                }
+            }
+        }
         let mut insts: Vec<u32> = counted.iter().map(|c| c.inst).collect();
         insts.push(self.first_inst());
         insts.push(self.last_inst());
