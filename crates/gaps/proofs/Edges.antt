@@ -74,5 +74,6 @@ module _ (blocks : List BlockRow) (sound : SoundBlocks blocks) where
 
     -- cutting begins no farther than the farther use's block
     pub home-reaches : (side : Side) → reaches side (blockOf blocks (onSide side p q)) (blockOf blocks (home side p q)) ≡ true
-    home-reaches Previous = le-leb (blockOf blocks p) (blockOf blocks (q - 1)) (blocks-rise blocks sound p (q - 1) (omega (arith, order)) (omega (arith, order, inside)))
+    home-reaches Previous =
+        le-leb (blockOf blocks p) (blockOf blocks (q - 1)) (blocks-rise blocks sound p (q - 1) (omega (arith, order)) (omega (arith, order, inside)))
     home-reaches Next = le-leb (blockOf blocks (p + 1)) (blockOf blocks q) (blocks-rise blocks sound (p + 1) q (omega (arith, order)) inside)

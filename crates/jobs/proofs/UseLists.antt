@@ -51,7 +51,12 @@ module _ (uses : ℕ) (segments : List Segment) (lists : Lists uses segments) wh
     pub to : u < getD segments (listOf segments u) noSegment .«end_use»
 
   pub listed : (u : ℕ) → u < uses → Listed u
-  listed u h = record { inside = inside; from = from (listOf segments u) inside (λ k. found .passed k zero-le); to = ltb-true u (endOf (listOf segments u)) (found .found inside) }
+  listed u h =
+      record {
+        inside = inside;
+        from = from (listOf segments u) inside (λ k. found .passed k zero-le);
+        to = ltb-true u (endOf (listOf segments u)) (found .found inside);
+      }
     where
       found : FirstIn (λ (k : ℕ). ltb u (endOf k)) 0 (length segments) (listOf segments u)
       found = first-in (λ (k : ℕ). ltb u (endOf k)) (length segments)

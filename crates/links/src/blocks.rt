@@ -121,7 +121,8 @@ fn lies_before(end: &[u32], b: Block, inst: Inst) -> bool
     inst.0 < end[at - 1]
 }
 
-// How many steps forward lead from a block to that of an instruction: the blocks passed end at or before it.
+// How many steps forward lead from a block to that of an instruction: the blocks passed end at or before it. The number of blocks is
+// not read: it is given so that the contract can say which blocks there are.
 fn steps_to(end: &[u32], n: usize, inst: Inst, from: Block) -> usize
     requires { ⌜ Ends (now end) n (inst .0) ⌝ }
     requires { ⌜ from .0 ≤ blockIn (now end) n (inst .0) ⌝ }
@@ -157,8 +158,8 @@ pub fn step_back(end: &[u32], n: usize, inst: Inst, from: Block) -> Block
     from
 }
 
-// The same, walked to from a block that is likely to be near and not behind it: a sweep over instructions in order passes each block
-// once. Any block may be given.
+// The block of an instruction, stepped forward to from one that is likely to be near and not behind it, else searched for: a sweep over
+// instructions in order passes each block once. Any block may be given.
 pub fn block_near(end: &[u32], n: usize, inst: Inst, near: Block) -> Block
     requires { ⌜ Ends (now end) n (inst .0) ⌝ }
     ensures { λ r. ⌜ r .0 ≡ blockIn (now (end .entry)) n (inst .0) ⌝ }

@@ -121,7 +121,7 @@ module _ (uses : List Use) (freqs ends : List ℕ) (s : Segment) (code : ℕ) (s
           let here : i ≡ s .«first_use» + (i - s .«first_use») = omega (arith, f) in
           let more : suc (i - s .«first_use») ≡ i + 1 - s .«first_use» = omega (arith, f) in
           e
-          ∙ ap (counted freqs s (useAt i .position) (blockAt i) (scaled code scales (spillCost reloadCost moveCost (useAt i .kind) (useAt i .cost)))) (known .sofar)
+          ∙ ap (counted freqs s (useAt i .position) (blockAt i) cost) (known .sofar)
           ∙ ap (λ (j : ℕ). counted freqs s (useAt j .position) (blockAt j) (scaled code scales (spillCost reloadCost moveCost (useAt j .kind) (useAt j .cost)))
           (countedList uses freqs ends s code scales (i - s .«first_use») lent)) here
           ∙ ap (λ (n : ℕ). countedList uses freqs ends s code scales n lent) more

@@ -1,6 +1,5 @@
 -- `step_forward` goes as many blocks further as there are steps
-use Prim.Native.Nat.{ℕ, _+_, _≤_, _<_}
-use mathlib.Core.Path.{_≡_}
+use Prim.Native.Nat.{_+_, _<_}
 use native.Mathlib.Omega.{arith}
 use borrow.Author.Needs.{needs}
 use Rattle.links.specs.Blocks.{itemLimit}

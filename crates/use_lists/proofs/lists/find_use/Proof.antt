@@ -3,7 +3,7 @@ use mathlib.Core.Path.{_≡_, sym, ap, _∙_, subst}
 use mathlib.Core.Bool.{Bool, false, true≢false}
 use mathlib.Core.Logic.{⊎-elim}
 use mathlib.Core.List.{List, [], _∷_}
-use Prim.Native.Nat.{ℕ, _+_, _≤_, _<_, min}
+use Prim.Native.Nat.{ℕ, _+_, _≤_, min}
 use native.Mathlib.Nat.{le-trans, le-of-eq}
 use native.Mathlib.Omega.{arith}
 use lib.ListN.{length, getD}
@@ -24,7 +24,9 @@ abbrev uses : tie.Start → List Use
 uses s = usesOf (s .args .position .now) (s .args .kind .now) (s .args .cost .now)
 
 -- the row that was read is the table's
-row : (c : tie.After-placed-use-at) → plainUse (c .placed-use-at .result) ≡ getD (uses (c .before .before .before .before .before)) (c .before .before .before .before .before .args .i) noUse
+row : (c : tie.After-placed-use-at) →
+    let s = c .before .before .before .before .before in
+    plainUse (c .placed-use-at .result) ≡ getD (uses s) (s .args .i) noUse
 row c =
     let s = c .before .before .before .before .before in
     own-row (useRow (s .args .position .now) (s .args .kind .now) (s .args .cost .now))

@@ -1,7 +1,6 @@
 -- `is_def` looks at the flag where the use is the list's first
 use mathlib.Core.Path.{sym, ap, _∙_}
 use mathlib.Core.Bool.{Bool, _&&_}
-use lib.Dec.{eqb}
 use borrow.Author.Tests.{eq-eqb, ne-eqb}
 use Rattle.jobs.specs.Rows.{fixedDef}
 use borrow.Author.Needs.{needs}
