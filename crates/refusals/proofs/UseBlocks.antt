@@ -10,8 +10,8 @@ use Rattle.numbers.specs.Figure.{apart}
 use Rattle.links.specs.Blocks.{isBad, blockOf}
 use Rattle.links.specs.declared.blocks.Checked.the-variants.{Sound}
 use Rattle.jobs.specs.Lines.{badBounds, badList, badDef, badUse, badEnd, badSpan, badKind, badFixedUse}
-use Rattle.use_lists.specs.Steps.{numberBefore, isFixedDef}
-use Rattle.uses.specs.UseSteps.{blockOfUse, distances, UseSteps}
+use Rattle.use_lists.specs.Steps.{numberBefore}
+use Rattle.uses.specs.UseSteps.{isFixedDef, blockOfUse, distances, UseSteps}
 use Rattle.uses.proofs.UseSteps.{use-steps}
 use Rattle.refusals.specs.Job.{Job, sourceOfJob}
 use Rattle.refusals.specs.Refusals.{firstBroken, badParameters, someLong, badSizes, tableRefusalOf}

@@ -16,14 +16,13 @@ use Rattle.columns.specs.Table.{rowBefore}
 use Rattle.jobs.specs.Lines.{Lists}
 use Rattle.jobs.specs.declared.rows.Use.{Use}
 use Rattle.jobs.proofs.Walk.{before-next}
-use Rattle.jobs.proofs.UseLists.{list-of}
 use Rattle.use_rows.proofs.Rows.{inside-less}
 use Rattle.jobs.specs.declared.rows.Segment.{Segment}
 use Rattle.use_rows.specs.declared.row.Part.{Part}
 use Rattle.use_rows.specs.declared.row.SplitUse.{SplitUse}
 use Rattle.use_rows.specs.Uses.{noWeights, addedToRow, partOf}
 use Rattle.use_rows.specs.UseColumns.{UseColumns, withUse, useIn}
-use Rattle.use_lists.specs.Steps.{isDefOf, isFixedDef, blockInUse, Step}
+use Rattle.use_lists.specs.Steps.{blockInUse}
 use Rattle.use_lists.specs.Collecting.{Collecting, isStored, addedBefore, added, weightIn, counted, countedList, countedLists, RowsLeft}
 
 -- the same lengths
@@ -239,12 +238,3 @@ module _ (uses : List Use) (freqs ends : List ℕ) (segments : List Segment) (co
             rights = l .rights
                 ∙ known .long .rights;
           }
-
--- ---- the steps to the uses of a segment's list
-pub list-steps : (uses : List Use) (segments : List Segment) → Lists (length uses) segments → (ends : List ℕ) (n : ℕ)
-    → ((u : ℕ) → u < length uses → Step (blockInUse ends n uses) u (isFixedDef segments u)) → (i : ℕ) → i < length segments
-    → (u : ℕ) → getD segments i noSegment .«first_use» ≤ u → u < getD segments i noSegment .«end_use»
-    → Step (blockInUse ends n uses) u (isDefOf (getD segments i noSegment) u)
-list-steps uses segments lists ends n steps i h u p q =
-    subst (λ (k : ℕ). Step (blockInUse ends n uses) u (isDefOf (getD segments k noSegment) u)) (sym (list-of (length uses) segments lists i u h p q))
-    (steps u (let l = lists .inside i h in omega (arith, l, q)))

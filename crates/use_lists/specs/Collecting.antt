@@ -19,7 +19,7 @@ use Rattle.use_rows.specs.declared.row.SplitUse.{SplitUse}
 use Rattle.use_lists.specs.declared.lists.Collected.{Collected}
 use Rattle.use_rows.specs.Uses.{noWeights, addedToRow, partOf}
 use Rattle.use_rows.specs.UseColumns.{UseColumns, Inside, withUse, useIn}
-use Rattle.use_lists.specs.Steps.{isDefOf, isFixedDef, blockInUse, Step}
+use Rattle.use_lists.specs.Steps.{numberBefore, blockInUse}
 
 -- the columns, the number of rows stored, and the latest row, which is not
 pub record Collecting : Type 0 where
@@ -69,12 +69,12 @@ countedList uses freqs ends s code scales (suc n) c =
 abbrev pub RowsLeft : ℕ → Collecting → Type 0
 RowsLeft n c = Inside (c .rows + n) (c .cols)
 
--- what the collection of a list relies on: it lies inside the uses, each of them in a block, and each step to one of its own is short
+-- what the collection of a list relies on: it lies inside the uses, each of them in a block that is at most one before that of the use before it
 pub record Listing (uses : List Use) (ends : List ℕ) (blocks : ℕ) (s : Segment) : Type 0 where
   pub forward : s .«first_use» ≤ s .«end_use»
   pub inside : s .«end_use» ≤ length uses
   pub blocked : (u : ℕ) → u < length uses → Ends ends blocks (getD uses u noUse .position)
-  pub steps : (u : ℕ) → s .«first_use» ≤ u → u < s .«end_use» → Step (blockInUse ends blocks uses) u (isDefOf s u)
+  pub near : (u : ℕ) → u < length uses → numberBefore (blockInUse ends blocks uses) u ≤ blockInUse ends blocks uses u + 1
 
 -- the lists of the first n segments added in order
 unfoldable pub countedLists : List Use → List ℕ → List ℕ → List Segment → List ℕ → RematScales → ℕ → Collecting → Collecting
@@ -97,10 +97,10 @@ withLast c last =
     cond (eqb (c .latest .inst .0) last) (heldIn (withUse (c .cols) (c .rows) (c .latest)) (c .rows + 1))
     (heldIn (withUse (withUse (c .cols) (c .rows) (c .latest)) (c .rows + 1) (noWeights last)) (c .rows + 2))
 
--- what the collection of all lists relies on: they follow one another, each use lies in a block, each step to a use is short, and each
--- segment's value is known
+-- what the collection of all lists relies on: they follow one another, each use lies in a block that is at most one before that of the use before
+-- it, and each segment's value is known
 pub record Listings (uses : List Use) (ends : List ℕ) (blocks values : ℕ) (segments : List Segment) : Type 0 where
   pub lists : Lists (length uses) segments
   pub blocked : (u : ℕ) → u < length uses → Ends ends blocks (getD uses u noUse .position)
-  pub steps : (u : ℕ) → u < length uses → Step (blockInUse ends blocks uses) u (isFixedDef segments u)
+  pub near : (u : ℕ) → u < length uses → numberBefore (blockInUse ends blocks uses) u ≤ blockInUse ends blocks uses u + 1
   pub known : (i : ℕ) → i < length segments → getD segments i noSegment .value < values

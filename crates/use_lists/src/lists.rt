@@ -20,11 +20,11 @@ use use_rows::row::part_of;
 use use_rows::row::put_use;
 use use_rows::row::use_at;
 ghost use mathlib.Core.Path.{_≡_};
-ghost use Prim.Native.Nat.{_-_, _≤_, _<_};
+ghost use Prim.Native.Nat.{_+_, _-_, _≤_, _<_};
 ghost use Rattle.use_rows.specs.UseColumns.{useColumns, Inside};
 ghost use Rattle.use_lists.specs.Collecting.{collecting, isStored, addedBefore, added, weightIn, counted, countedList, countedLists};
 ghost use Rattle.use_lists.specs.Collecting.{heldIn, withLast, Listing, Listings, RowsLeft};
-ghost use Rattle.use_lists.specs.Steps.{numberBefore, isDefOf, blockInUse, Step};
+ghost use Rattle.use_lists.specs.Steps.{numberBefore, blockInUse};
 ghost use Rattle.jobs.specs.Rows.{usesOf, segmentsOf, noUse};
 ghost use Rattle.jobs.specs.Checked.{plainSegment, plainUse};
 ghost use Rattle.links.specs.Blocks.{Ends};
@@ -164,31 +164,20 @@ fn count_use(
     add_use(inst, weight, left_weight, right_weight, done, p, part, w)
 }
 
-// Whether use i of a segment's list is its fixed def.
-fn is_def(s: LiveSegment, i: usize) -> bool
-    ensures { λ r. ⌜ r ≡ isDefOf (plainSegment s) i ⌝ }
-{
-    if i != s.first_use as usize {
-        return false;
-    }
-    s.has_fixeddef()
-}
-
 // A use and its block.
 struct FoundUse {
     pub row: PlacedUse,
     pub block: Block,
 }
 
-// Use i of a segment's list, and its block, stepped to from that of the use listed before it: by one block back at most, and back
-// for a fixed def alone, else forward.
+// Use i and its block, stepped to from that of the use listed before it: by one block back at most, which only a fixed def needs, else
+// forward.
 fn find_use(
     position: &[u32],
     kind: &[u32],
     cost: &[u32],
     end: &[u32],
     n: usize,
-    s: LiveSegment,
     i: usize,
     from: Block,
 ) -> FoundUse
@@ -197,17 +186,14 @@ fn find_use(
         (i < length uses) × Ends (now end) n (getD uses i noUse .position)) ⌝ }
     requires { ⌜
         (let block = blockInUse (now end) n (usesOf (now position) (now kind) (now cost)) in
-        Step block i (isDefOf (plainSegment s) i) × (from .0 ≡ numberBefore block i)) ⌝ }
+        (from .0 ≡ numberBefore block i) × (from .0 ≤ block i + 1)) ⌝ }
     ensures { λ r. ⌜
         (let uses = usesOf (now (position .entry)) (now (kind .entry)) (now (cost .entry)) in
         (plainUse (r .row) ≡ getD uses i noUse) × (r .block .0 ≡ blockInUse (now (end .entry)) n uses i)) ⌝ }
 {
     let row = placed_use_at(position, kind, cost, i);
     let p = row.position;
-    let mut near = from;
-    if is_def(s, i) {
-        near = step_back(end, n, p, near);
-    }
+    let near = step_back(end, n, p, from);
     let block = step_forward(end, n, p, near);
     FoundUse { row, block }
 }
@@ -249,7 +235,7 @@ fn collect_list(
     let n = s.end_use as usize;
     while i < n {
         let near = done.near;
-        let found = find_use(position, kind, cost, end, freq.len(), s, i, near);
+        let found = find_use(position, kind, cost, end, freq.len(), i, near);
         let u = found.row;
         let b = found.block;
         let c = use_spill_cost(u.kind, u.cost, code, scales);

@@ -21,7 +21,7 @@ use Rattle.jobs.proofs.Sound.{Bounded}
 use Rattle.jobs.proofs.SoundUses.{Defined, Fitting, LivesOut, Ended}
 use Rattle.jobs.proofs.LastUse.{list-rises, last-highest}
 use Rattle.use_rows.specs.Uses.{firstInst}
-use Rattle.use_lists.specs.Steps.{isDefOf}
+use Rattle.uses.specs.UseSteps.{isDefOf}
 
 module _ (limits : Limits) (uses : List Use) (segments : List Segment) (lists : Lists (length uses) segments)
     (bounded : (i : ℕ) → i < length segments → Bounded limits (rowBefore segments noSegment i) (getD segments i noSegment))

@@ -21,10 +21,10 @@ use Rattle.jobs.specs.declared.rows.Segment.{Segment}
 use Rattle.jobs.specs.declared.rows.Use.{Use}
 use Rattle.jobs.proofs.UseLists.{list-of, listed}
 use Rattle.use_rows.specs.Uses.{Source}
-use Rattle.use_lists.specs.Steps.{numberBefore, isDefOf, isFixedDef, blockInUse, Step}
+use Rattle.use_lists.specs.Steps.{numberBefore, blockInUse}
 use Rattle.use_lists.specs.Collecting.{Listings}
 use Rattle.uses.specs.CheckedUses.{CheckedUses}
-use Rattle.uses.specs.UseSteps.{blockOfUse, UseSteps}
+use Rattle.uses.specs.UseSteps.{isDefOf, isFixedDef, blockOfUse, Step, UseSteps}
 use Rattle.uses.proofs.UseOrder.{use-order}
 use Rattle.uses.proofs.Distances.{falls, distances-falls, count-first}
 use Rattle.uses.proofs.CheckedJob.{job-lists, job-bounded, job-defined, job-fitting, use-in-blocks}
@@ -121,10 +121,10 @@ job-listings job checked fs ss es w e =
       blocked =
           λ u h. ends-of-sound fs ss es w (at u) (subst (λ (x : ℕ). at u < x) (last-of-sound fs ss es w)
           (subst (λ b. at u < startOf b (length b)) e (use-in-blocks job checked u h)));
-      steps =
-          λ u h. subst (λ (block : ℕ → ℕ). Step block u (isFixedDef (job .segments) u))
+      near =
+          λ u h. subst (λ (block : ℕ → ℕ). numberBefore block u ≤ block u + 1)
           (ap (λ (blocks : List BlockRow). blockOfUse blocks (job .uses)) e ∙ blocks-alike fs ss es w (job .uses))
-          (job-steps job checked (subst SoundBlocks (sym e) (w .sound)) u h);
+          (job-steps job checked (subst SoundBlocks (sym e) (w .sound)) u h .near);
       known = λ i h. subst (λ (n : ℕ). getD (job .segments) i noSegment .value < n) (checked .values) (job-bounded job checked i h .known);
     }
   where

@@ -2,7 +2,7 @@
 use mathlib.Core.Path.{_≡_, sym, ap, ap₂, _∙_}
 use mathlib.Core.List.{List}
 use Prim.Native.Nat.{ℕ, _-_, _<_}
-use native.Mathlib.Nat.{lt-of-lt-of-le, lt-of-le-of-lt, le-antisymm, le-of-eq}
+use native.Mathlib.Nat.{lt-of-lt-of-le, lt-of-le-of-lt, le-antisymm, le-of-eq, le-trans}
 use native.Mathlib.Omega.{arith}
 use native.Mathlib.Numerals.{add-one}
 use borrow.Author.Needs.{needs}
@@ -62,7 +62,7 @@ find-use-requires c κs =
     let k = l .before .loop in
     let p = begin l .pre .0 in (
       (in-list l, p .blocked (k .i) (in-list l)),
-      (p .steps (k .i) (k .inv .0 .from) (l .loop-test .taken), k .inv .1),
+      (k .inv .1, le-trans (le-of-eq (k .inv .1)) (p .near (k .i) (in-list l))),
     )
 
 use-spill-cost-requires : tie.Need-use-spill-cost-requires Inv-loop μ-loop

@@ -15,7 +15,7 @@ use Rattle.jobs.proofs.Walk.{own-row, before-next}
 use Rattle.use_rows.specs.UseColumns.{useColumns}
 use Rattle.use_lists.specs.Steps.{numberBefore, blockInUse}
 use Rattle.use_lists.specs.Collecting.{collecting, Listing, RowsLeft, countedList, countedLists}
-use Rattle.use_lists.proofs.ListWalk.{AlongAll, along-all-first, along-all-next, list-room, list-steps}
+use Rattle.use_lists.proofs.ListWalk.{AlongAll, along-all-first, along-all-next, list-room}
 use Rattle.use_lists.proofs.lists.collect_lists.Statement.{statement}
 use Rattle.use_lists.proofs.lists.collect_lists.Tie as tie
 
@@ -112,7 +112,7 @@ collect-list-requires c κs =
             forward = p .lists .forward (k .i) (in-list l);
             inside = p .lists .inside (k .i) (in-list l);
             blocked = p .blocked;
-            steps = list-steps (uses l) (segments l) (p .lists) (a .block-end .now) (length (a .freq .now)) (p .steps) (k .i) (in-list l);
+            near = p .near;
           }),
       (
         subst (λ (s : Segment). RowsLeft (s .«end_use» - s .«first_use») now) (sym (row (at-stage)))

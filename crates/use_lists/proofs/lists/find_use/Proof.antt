@@ -1,21 +1,15 @@
 -- `find_use` steps to the use's block from that of the use before
 use mathlib.Core.Path.{_≡_, sym, ap, _∙_, subst}
-use mathlib.Core.Bool.{Bool, false, true≢false}
-use mathlib.Core.Logic.{⊎-elim}
 use mathlib.Core.List.{List, [], _∷_}
 use Prim.Native.Nat.{ℕ, _+_, _≤_, min}
-use native.Mathlib.Nat.{le-trans, le-of-eq}
 use native.Mathlib.Omega.{arith}
 use lib.ListN.{length, getD}
-use Rattle.numbers.specs.declared.Block.{Block}
 use Rattle.columns.specs.Table.{shortest}
-use Rattle.columns.proofs.Firsts.{split}
 use Rattle.links.specs.Blocks.{blockIn, Ends}
 use Rattle.jobs.specs.Rows.{useRow, usesOf, noUse}
 use Rattle.jobs.specs.Checked.{plainUse}
 use Rattle.jobs.specs.declared.rows.Use.{Use}
 use Rattle.jobs.proofs.Walk.{own-row}
-use Rattle.use_lists.specs.Steps.{numberBefore, blockInUse, Step}
 use borrow.Author.Needs.{needs}
 use Rattle.use_lists.proofs.lists.find_use.Statement.{statement}
 use Rattle.use_lists.proofs.lists.find_use.Tie as tie
@@ -41,46 +35,25 @@ place c = sym (ap (λ (u : Use). u .position) (row c))
 placed-use-at-requires : tie.Need-placed-use-at-requires
 placed-use-at-requires c κs = search needs
 
-is-def-requires : tie.Need-is-def-requires
-is-def-requires c κs = search needs
-
 step-back-requires : tie.Need-step-back-requires
 step-back-requires c κs =
-    let at-row = c .before .before .before in
+    let at-row = c .before in
     let s = at-row .before .before .before .before .before in
     subst (λ (p : ℕ). Ends (s .args .end .now) (s .args .n) p × (s .args .from .0 ≤ blockIn (s .args .end .now) (s .args .n) p + 1)) (place at-row)
-    (s .pre .0 .1, le-trans (le-of-eq (s .pre .1 .1)) (s .pre .1 .0 .near))
+    (s .pre .0 .1, s .pre .1 .1)
 
--- the block from which the steps go forward is not behind the use's
-begun : (c : tie.Joined1) →
-    let at-row = c .before .before .before in
-    let a = at-row .before .before .before .before .before .args in
-    c .if1 .near .0 ≤ blockIn (a .end .now) (a .n) (at-row .placed-use-at .result .position .0)
-begun c =
-    let at-row = c .before .before .before in
+step-forward-requires : tie.Need-step-forward-requires
+step-forward-requires c κs =
+    let at-row = c .before .before in
     let s = at-row .before .before .before .before .before in
-    ⊎-elim
-    (λ w. least (s .args .from .0) _ (c .if1 .near .0) (ap (λ (b : Block). b .0) (w .2) ∙ w .1 .ensures))
-    (λ w. subst (λ (p : ℕ). c .if1 .near .0 ≤ blockIn (s .args .end .now) (s .args .n) p) (place at-row)
-    (le-trans (le-of-eq (ap (λ (b : Block). b .0) (w .1) ∙ s .pre .1 .1))
-    (not-back (blockInUse (s .args .end .now) (s .args .n) (uses s)) (s .args .i) (s .pre .1 .0) (sym (c .before .is-def .ensures) ∙ w .0 .left))))
-    (c .if1 .came)
+    (subst (Ends (s .args .end .now) (s .args .n)) (place at-row) (s .pre .0 .1), least (s .args .from .0) _ _ (c .step-back .ensures))
   where
     least : (f b r : ℕ) → r ≡ min f b → r ≤ b
     least f b r e = omega (arith, e)
 
-    not-back : {t : Bool} (b : ℕ → ℕ) (i : ℕ) → Step b i t → t ≡ false → numberBefore b i ≤ b i
-    not-back b i step e = ⊎-elim (λ l. absurd (true≢false (sym (step .back l) ∙ e))) (λ l. l) (split (b i) (numberBefore b i))
-
-step-forward-requires : tie.Need-step-forward-requires
-step-forward-requires c κs =
-    let at-row = c .before .before .before in
-    let s = at-row .before .before .before .before .before in
-    (subst (Ends (s .args .end .now) (s .args .n)) (place at-row) (s .pre .0 .1), begun c)
-
 returns : tie.Need-returns
 returns c =
-    let at-row = c .before .before .before .before in
+    let at-row = c .before .before .before in
     let s = at-row .before .before .before .before .before in
     (row at-row, c .step-forward .ensures ∙ sym (ap (blockIn (s .args .end .now) (s .args .n)) (place at-row)))
 
@@ -89,7 +62,6 @@ find-use-spec =
     tie.close
     (tie.spec
     placed-use-at-requires
-    is-def-requires
     step-back-requires
     step-forward-requires
     returns)
