@@ -10,7 +10,7 @@ use Rattle.use_rows.specs.declared.row.BestUse.{BestUse}
 use Rattle.use_rows.specs.declared.row.BestUse.the-variants as BestUse·is
 use Rattle.use_rows.specs.Uses.{Source}
 use Rattle.gaps.specs.Gaps.{Gap}
-use Rattle.filling.specs.GapTables.{fromsOf}
+use Rattle.gaps.specs.GapColumns.{fromsOf}
 use Rattle.filling.specs.UseTables.{bestOf}
 use Rattle.filling.specs.SourceTables.{freqsOf, gapsFrom, tablesOfBest}
 use Rattle.filling.specs.declared.lent.Rooms.{Rooms}

@@ -1,5 +1,4 @@
 -- Why the tables are right
 pub mod UseFilling
-pub mod GapFilling
 pub mod SourceTables
 pub mod TableLaws

@@ -16,14 +16,14 @@ use Rattle.use_rows.specs.Uses.{Source, useTableOf}
 use Rattle.uses.specs.CheckedUses.{CheckedUses}
 use Rattle.uses.proofs.CheckedJob.{job-bounded}
 use Rattle.overlaps.specs.Live.{liveInsts, liveInGap, Segments, Gaps}
-use Rattle.overlaps.specs.GapSegments.{Valued}
+use Rattle.overlaps.specs.GapSegments.{Valued, SegmentRoom}
 use Rattle.overlaps.proofs.LiveLaws.{last-next, lastOf, live-before, live-inside}
 use Rattle.overlaps.proofs.LiveTotal.{sum-same}
 use Rattle.overlaps.proofs.GapCount.{gap-segments-few}
 use Rattle.gaps.specs.Gaps.{Gap}
 use Rattle.gaps.proofs.JobGaps.{job-gaps-few, job-gaps-tile, job-live-total}
-use Rattle.filling.specs.GapTables.{fromsOf, tosOf, lentTables, GapRoom}
-use Rattle.filling.specs.SourceTables.{startsOf, stopsOf, valuesOf, gapsFrom, livesFrom, segmentsFrom, WorkColumns, roomsOf, Roomy}
+use Rattle.gaps.specs.GapColumns.{fromsOf, tosOf, Rows}
+use Rattle.filling.specs.SourceTables.{startsOf, stopsOf, valuesOf, gapsFrom, livesFrom, segmentsFrom, WorkColumns, gapTable, segmentTable, roomsOf, Roomy}
 
 module _ (source : Source) (checked : CheckedUses source) (sound : SoundBlocks (source .blocks)) where
   -- ---- its segments
@@ -116,22 +116,27 @@ module _ (source : Source) (checked : CheckedUses source) (sound : SoundBlocks (
 
     -- and for all of them in lent columns
     pub source-gap-room : (lent : WorkColumns) → Roomy (length (source .uses)) (length (source .blocks)) (length (source .segments)) (roomsOf lent)
-        → GapRoom (gapsFrom source best) (startsOf source) (stopsOf source) (valuesOf source)
-        (lentTables (lent .froms) (lent .tos) (lent .weights) (lent .lives) (lent .freqs) (lent .segment-froms) (lent .segment-tos) (lent .segment-values)
-        (lent .segment-gaps))
+        → Rows (length (gapsFrom source best)) (gapTable lent) × SegmentRoom (length (segmentsFrom source best)) (segmentTable lent 0)
     source-gap-room lent roomy =
         let gap-lengths = length (lent .froms) ∷ length (lent .tos) ∷ length (lent .weights) ∷ length (lent .lives) ∷ length (lent .freqs) ∷ [] in
         let segment-lengths = length (lent .segment-froms) ∷ length (lent .segment-tos) ∷ length (lent .segment-values) ∷ length (lent .segment-gaps) ∷ [] in
         let g = le-trans source-gaps-few (roomy .gaps) in
         let s = le-trans source-segments-few (roomy .gap-segments) in
-        record {
-          from = le-trans g (shortest-at-most gap-lengths 0 (omega arith));
-          to = le-trans g (shortest-at-most gap-lengths 1 (omega arith));
-          weight = le-trans g (shortest-at-most gap-lengths 2 (omega arith));
-          live = le-trans g (shortest-at-most gap-lengths 3 (omega arith));
-          freq = le-trans g (shortest-at-most gap-lengths 4 (omega arith));
-          segment-from = le-trans s (shortest-at-most segment-lengths 0 (omega arith));
-          segment-to = le-trans s (shortest-at-most segment-lengths 1 (omega arith));
-          segment-value = le-trans s (shortest-at-most segment-lengths 2 (omega arith));
-          segment-gap = le-trans s (shortest-at-most segment-lengths 3 (omega arith));
-        }
+        (
+          record {
+            from = le-trans g (shortest-at-most gap-lengths 0 (omega arith));
+            to = le-trans g (shortest-at-most gap-lengths 1 (omega arith));
+            weight = le-trans g (shortest-at-most gap-lengths 2 (omega arith));
+            live = le-trans g (shortest-at-most gap-lengths 3 (omega arith));
+            freq = le-trans g (shortest-at-most gap-lengths 4 (omega arith));
+          },
+          record {
+            from = from-none (le-trans s (shortest-at-most segment-lengths 0 (omega arith)));
+            to = from-none (le-trans s (shortest-at-most segment-lengths 1 (omega arith)));
+            value = from-none (le-trans s (shortest-at-most segment-lengths 2 (omega arith)));
+            gap = from-none (le-trans s (shortest-at-most segment-lengths 3 (omega arith)));
+          },
+        )
+      where
+        from-none : {n m : ℕ} → n ≤ m → 0 + n ≤ m
+        from-none h = omega (arith, h)

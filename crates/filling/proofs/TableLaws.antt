@@ -26,7 +26,7 @@ use Rattle.overlaps.proofs.LiveCovered.{gap-covered, live-covered}
 use Rattle.overlaps.proofs.AllOverlaps.{all-overlaps}
 use Rattle.gaps.specs.Gaps.{Gap, useOf, ownGap, gapsOn, gapsOf, initialGap}
 use Rattle.gaps.proofs.JobGaps.{job-gaps-run, job-gaps-least, job-weights-once}
-use Rattle.filling.specs.GapTables.{fromsOf, tosOf}
+use Rattle.gaps.specs.GapColumns.{fromsOf, tosOf}
 use Rattle.filling.specs.SourceTables.{freqsOf, startsOf, stopsOf, valuesOf, gapsFrom, livesFrom, tablesOfBest}
 use Rattle.filling.specs.TableLaws.{TableLaws}
 use Rattle.filling.proofs.SourceTables.{source-segments, source-tiles, live-at, source-lives-total, end-at}

@@ -15,9 +15,9 @@ use Rattle.use_rows.specs.Uses.{Source, sourceOf, useTableOf}
 use Rattle.use_rows.specs.declared.row.SplitUse.{SplitUse}
 use Rattle.use_rows.specs.declared.row.BestUse.{BestUse}
 use Rattle.use_rows.specs.declared.row.BestUse.the-variants as BestUse·is
-use Rattle.overlaps.specs.GapSegments.{Overlap}
+use Rattle.overlaps.specs.GapSegments.{Overlap, SegmentColumns, segmentColumns}
 use Rattle.gaps.specs.Gaps.{Gap, gapWeight, gapsOf}
-use Rattle.filling.specs.GapTables.{fromsOf, tosOf, livesOf, gapSegmentsOf}
+use Rattle.gaps.specs.GapColumns.{fromsOf, tosOf, livesOf, gapSegmentsOf, GapColumns, gapColumns}
 use Rattle.filling.specs.declared.lent.Rooms.{Rooms}
 
 -- the thirteen columns that the work tables are made of, table by table: B (3), V (1), S (6), U (3)
@@ -157,6 +157,13 @@ workColumns prevs nexts insts mains lefts rights froms tos weights lives freqs s
       segment-values = segment-values;
       segment-gaps = segment-gaps;
     }
+
+-- of them the gap table's, and those of the gap segments with so many rows used
+abbrev pub gapTable : WorkColumns → GapColumns
+gapTable c = gapColumns (c .froms) (c .tos) (c .weights) (c .lives) (c .freqs)
+
+abbrev pub segmentTable : WorkColumns → ℕ → SegmentColumns
+segmentTable c used = segmentColumns (c .segment-froms) (c .segment-tos) (c .segment-values) (c .segment-gaps) used
 
 -- a table has as many rows as its shortest column
 abbrev pub roomsOf : WorkColumns → Rooms

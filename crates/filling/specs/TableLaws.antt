@@ -14,7 +14,7 @@ use Rattle.overlaps.specs.GapSegments.{AllOverlaps}
 use Rattle.gaps.specs.Gaps.{useOf, initialGap}
 use Rattle.columns.specs.Table.{Each}
 use Rattle.gaps.specs.Laws.{Run, Least, placed, rowMeasure}
-use Rattle.filling.specs.GapTables.{fromsOf, tosOf}
+use Rattle.gaps.specs.GapColumns.{fromsOf, tosOf}
 use Rattle.filling.specs.SourceTables.{freqsOf, startsOf, stopsOf, valuesOf, Tables}
 
 -- the laws of the tables of a job, where the best use is a row of the use table

@@ -9,7 +9,7 @@ use Rattle.links.specs.declared.lower.Side.the-variants.{Previous, Next}
 use Rattle.columns.proofs.Tables.{table-length}
 use Rattle.use_rows.specs.UseColumns.{UseColumns, useIn}
 use Rattle.gaps.specs.Gaps.{Gap, gapWeight, gapsOn, gapsOf, initialGap, usesIn, Cuttable}
-use Rattle.gaps.specs.GapColumns.{GapColumns, withGap, storedGaps, Rows}
+use Rattle.gaps.specs.Cutting.{CutColumns, withGap, storedGaps, CutRows}
 use Rattle.gaps.specs.Cutting.{sideGaps, ownIn}
 use Rattle.gaps.proofs.StoredGaps.{rows-with, rows-stored, rows-fewer, stored-three}
 use Rattle.gaps.proofs.InColumns.{side-is, own-gap}
@@ -52,29 +52,29 @@ module _ (freqs firsts ends prevs nexts : List ℕ) (uses : UseColumns) (best : 
   all-length : length all ≡ length left + suc (length right)
   all-length = ap length (sym parts) ∙ length-append left (own ∷ right)
 
-  module _ (lent : GapColumns) (r : Rows (length all) lent) where
-    pub left-rows : Rows (0 + length left) lent
+  module _ (lent : CutColumns) (r : CutRows (length all) lent) where
+    pub left-rows : CutRows (0 + length left) lent
     left-rows = let l = all-length in rows-fewer (0 + length left) (length all) lent (omega (arith, l)) r
 
-    module _ {n₁ : ℕ} {c₁ : GapColumns} (l : (n₁ ≡ 0 + length left) × (c₁ ≡ storedGaps 0 left lent)) where
-      rows₁ : Rows (length all) c₁
-      rows₁ = subst (Rows (length all)) (sym (l .1)) (rows-stored (length all) 0 left lent r)
+    module _ {n₁ : ℕ} {c₁ : CutColumns} (l : (n₁ ≡ 0 + length left) × (c₁ ≡ storedGaps 0 left lent)) where
+      rows₁ : CutRows (length all) c₁
+      rows₁ = subst (CutRows (length all)) (sym (l .1)) (rows-stored (length all) 0 left lent r)
 
-      pub own-rows : Rows (n₁ + 1) c₁
+      pub own-rows : CutRows (n₁ + 1) c₁
       own-rows = let e = all-length in let n = l .0 in rows-fewer (n₁ + 1) (length all) c₁ (omega (arith, e, n)) rows₁
 
       pub own-below : n₁ + 1 ≤ length all
       own-below = let e = all-length in let n = l .0 in omega (arith, e, n)
 
-      module _ {g : Gap} {c₂ : GapColumns} (is : g ≡ own) (o : c₂ ≡ withGap c₁ n₁ g) where
-        rows₂ : Rows (length all) c₂
-        rows₂ = subst (Rows (length all)) (sym o) (rows-with (length all) n₁ (g .from) (g .to) (gapWeight g) (g .freq) c₁ rows₁)
+      module _ {g : Gap} {c₂ : CutColumns} (is : g ≡ own) (o : c₂ ≡ withGap c₁ n₁ g) where
+        rows₂ : CutRows (length all) c₂
+        rows₂ = subst (CutRows (length all)) (sym o) (rows-with (length all) n₁ (g .from) (g .to) (gapWeight g) (g .freq) c₁ rows₁)
 
-        pub right-rows : Rows (n₁ + 1 + length right) c₂
+        pub right-rows : CutRows (n₁ + 1 + length right) c₂
         right-rows = let e = all-length in let n = l .0 in rows-fewer (n₁ + 1 + length right) (length all) c₂ (omega (arith, e, n)) rows₂
 
         -- all are stored
-        pub all-stored : {n₃ : ℕ} {c₃ : GapColumns} → (n₃ ≡ n₁ + 1 + length right) × (c₃ ≡ storedGaps (n₁ + 1) right c₂)
+        pub all-stored : {n₃ : ℕ} {c₃ : CutColumns} → (n₃ ≡ n₁ + 1 + length right) × (c₃ ≡ storedGaps (n₁ + 1) right c₂)
             → (n₃ ≡ length all) × (c₃ ≡ storedGaps 0 all lent)
         all-stored s =
             let e = all-length in
@@ -82,7 +82,7 @@ module _ (freqs firsts ends prevs nexts : List ℕ) (uses : UseColumns) (best : 
             let m = s .0 in
             let z : n₁ ≡ length left = omega (arith, n) in (
               omega (arith, e, n, m),
-              s .1 ∙ ap (storedGaps (n₁ + 1) right) (o ∙ ap (withGap c₁ n₁) is ∙ ap (λ (x : GapColumns). withGap x n₁ own) (l .1))
+              s .1 ∙ ap (storedGaps (n₁ + 1) right) (o ∙ ap (withGap c₁ n₁) is ∙ ap (λ (x : CutColumns). withGap x n₁ own) (l .1))
                   ∙ ap (λ (x : ℕ). storedGaps (x + 1) right (withGap (storedGaps 0 left lent) x own)) z
                   ∙ stored-three left right own lent ∙ ap (λ (gs : List Gap). storedGaps 0 gs lent) parts,
             )

@@ -14,9 +14,10 @@ use Rattle.columns.specs.Below.{joined}
 use Rattle.use_rows.specs.declared.row.SplitUse.{SplitUse}
 use Rattle.gaps.specs.Gaps.{Gap, gapsBetween, ownGap, useOf, gapsOn, gapsOf}
 use Rattle.columns.specs.Table.{Each}
+use Rattle.gaps.specs.GapColumns.{fromsOf, tosOf}
 use Rattle.gaps.specs.Laws.{Run, Least}
 use Rattle.links.proofs.Homes.{home-of}
-use Rattle.gaps.proofs.Runs.{run-append, run-joined, fromsOf, tosOf, run-gaps}
+use Rattle.gaps.proofs.Runs.{run-append, run-joined, run-gaps}
 use Rattle.gaps.proofs.Chains.{each-append, between-run, between-least, between-few, own-least}
 
 pub each-joined : (P : Gap → Type 0) (lists : ℕ → List Gap) (i n : ℕ) → ((k : ℕ) → i ≤ k → k < i + n → Each P (lists k)) → Each P (joined lists i n)

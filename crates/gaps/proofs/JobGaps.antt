@@ -24,9 +24,10 @@ use Rattle.uses.proofs.CheckedJob.{first-covers, last-covers}
 use Rattle.uses.proofs.EdgeWeights.{first-no-left, last-no-right}
 use Rattle.overlaps.proofs.LiveTotal.{live-total}
 use Rattle.gaps.specs.Gaps.{Gap, useOf, gapsOf, usesIn, Cuttable}
+use Rattle.gaps.specs.GapColumns.{fromsOf, tosOf}
 use Rattle.gaps.specs.Laws.{Run, Least, placed, rowMeasure}
 use Rattle.gaps.proofs.Placed.{all-weights-once}
-use Rattle.gaps.proofs.Runs.{fromsOf, tosOf, run-first, run-last}
+use Rattle.gaps.proofs.Runs.{run-first, run-last}
 use Rattle.gaps.proofs.GapTable.{Rising, gaps-run, gaps-least, gaps-few, gaps-some, gaps-tile}
 
 -- ---- the columns of a use table

@@ -1,6 +1,8 @@
 -- Why the gaps are right
 pub mod Cuts
 pub mod StoredGaps
+pub mod Passing
+pub mod Built
 pub mod Spaces
 pub mod Sides
 pub mod InColumns

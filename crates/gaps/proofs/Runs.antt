@@ -1,6 +1,6 @@
 -- Gaps that follow one another from one instruction to before another
 use mathlib.Core.Path.{_≡_, refl, sym, ap, _∙_, subst}
-use mathlib.Core.List.{List, [], _∷_, _++_, map}
+use mathlib.Core.List.{List, [], _∷_, _++_}
 use Prim.Native.Nat.{ℕ, zero, suc, _+_, _-_, _≤_, _<_}
 use native.Mathlib.Nat.{le-trans, le-of-eq, not-suc-le-zero, le-of-suc-le-suc}
 use native.Mathlib.Omega.{arith}
@@ -13,6 +13,7 @@ use Rattle.links.specs.declared.lower.Side.the-variants.{Previous, Next}
 use Rattle.columns.specs.Below.{joined}
 use Rattle.overlaps.specs.Live.{Gaps}
 use Rattle.gaps.specs.Gaps.{Gap, spanned, inOrder}
+use Rattle.gaps.specs.GapColumns.{fromsOf, tosOf}
 use Rattle.gaps.specs.Laws.{Run}
 
 pub run-append : (lo mid hi : ℕ) (gs hs : List Gap) → Run lo mid gs → Run mid hi hs → Run lo hi (gs ++ hs)
@@ -47,12 +48,6 @@ run-joined lists edges i (suc n) h =
 pub run-below : (lo hi : ℕ) (gs : List Gap) → Run lo hi gs → lo ≤ hi
 run-below lo hi [] r = le-of-eq r
 run-below lo hi (g ∷ gs) r = let a = r .0 in let b = r .1 in let c = run-below (g .to) hi gs (r .2) in omega (arith, a, b, c)
-
-abbrev pub fromsOf : List Gap → List ℕ
-fromsOf gs = map (λ (g : Gap). g .from) gs
-
-abbrev pub tosOf : List Gap → List ℕ
-tosOf gs = map (λ (g : Gap). g .to) gs
 
 pub run-gaps : (lo hi : ℕ) (gs : List Gap) → hi ≤ endLimit → Run lo hi gs → Gaps (fromsOf gs) (tosOf gs)
 run-gaps lo hi gs limit r =

@@ -14,35 +14,35 @@ use Rattle.links.proofs.Columns.{ends-inside}
 use Rattle.columns.proofs.Joining.{joined-next, fromOn, fromOn-end}
 use Rattle.gaps.specs.Gaps.{Gap}
 use Rattle.gaps.specs.Cutting.{spaceOf, Ordered}
-use Rattle.gaps.specs.GapColumns.{GapColumns, storedGaps, Rows}
+use Rattle.gaps.specs.Cutting.{CutColumns, storedGaps, CutRows}
 use Rattle.gaps.proofs.StoredGaps.{stored-append, rows-stored, rows-fewer}
 use Rattle.gaps.proofs.Spaces.{Same}
 
 -- lists of gaps, from the first-th to before the last-th
-module _ (lists : ℕ → List Gap) (first last n₀ : ℕ) (lent : GapColumns) where
+module _ (lists : ℕ → List Gap) (first last n₀ : ℕ) (lent : CutColumns) where
   abbrev all : List Gap
   all = fromOn lists last first
 
-  pub record Siding (cols : GapColumns) (i n : ℕ) : Type 0 where
+  pub record Siding (cols : CutColumns) (i n : ℕ) : Type 0 where
     pub from : first ≤ i
     pub used : n + length (fromOn lists last i) ≡ n₀ + length all
-    pub rows : Rows (n₀ + length all) cols
+    pub rows : CutRows (n₀ + length all) cols
     pub same : Same lent cols
     pub gives : storedGaps n (fromOn lists last i) cols ≡ storedGaps n₀ all lent
 
-  pub siding-starts : Rows (n₀ + length all) lent → Siding lent first n₀
+  pub siding-starts : CutRows (n₀ + length all) lent → Siding lent first n₀
   siding-starts r = record { from = omega arith; used = refl; rows = r; same = record { from = refl; to = refl; weight = refl; freq = refl }; gives = refl }
 
-  module _ (cols : GapColumns) (i n : ℕ) (k : Siding cols i n) where
+  module _ (cols : CutColumns) (i n : ℕ) (k : Siding cols i n) where
     next-length : i < last → length (fromOn lists last i) ≡ length (lists i) + length (fromOn lists last (i + 1))
     next-length h = ap length (joined-next lists i last h) ∙ length-append (lists i) (fromOn lists last (i + 1))
 
     -- the next list has room
-    pub siding-room : i < last → Rows (n + length (lists i)) cols
+    pub siding-room : i < last → CutRows (n + length (lists i)) cols
     siding-room h = let e = next-length h in let u = k .used in rows-fewer (n + length (lists i)) (n₀ + length all) cols (omega (arith, e, u)) (k .rows)
 
     -- and is stored
-    pub siding-next : i < last → {cols' : GapColumns} {n' : ℕ} → (n' ≡ n + length (lists i)) × (cols' ≡ storedGaps n (lists i) cols) → Same cols cols'
+    pub siding-next : i < last → {cols' : CutColumns} {n' : ℕ} → (n' ≡ n + length (lists i)) × (cols' ≡ storedGaps n (lists i) cols) → Same cols cols'
         → Siding cols' (i + 1) n'
     siding-next h {cols'} {n'} e t =
         let l = next-length h in
@@ -52,7 +52,7 @@ module _ (lists : ℕ → List Gap) (first last n₀ : ℕ) (lent : GapColumns) 
         record {
           from = omega (arith, k .from);
           used = omega (arith, l, u, q);
-          rows = subst (Rows (n₀ + length all)) (sym (e .1)) (rows-stored (n₀ + length all) n (lists i) cols (k .rows));
+          rows = subst (CutRows (n₀ + length all)) (sym (e .1)) (rows-stored (n₀ + length all) n (lists i) cols (k .rows));
           same = record { from = t .from ∙ s .from; to = t .to ∙ s .to; weight = t .weight ∙ s .weight; freq = t .freq ∙ s .freq };
           gives = ap (λ (x : ℕ). storedGaps x (fromOn lists last (i + 1)) cols') q ∙ ap (storedGaps (n + length (lists i)) (fromOn lists last (i + 1))) (e .1)
               ∙ sym (stored-append n (lists i) (fromOn lists last (i + 1)) cols)

@@ -13,9 +13,9 @@ use Rattle.links.specs.declared.lower.Side.{Side}
 use Rattle.links.specs.declared.lower.Side.the-variants.{Previous, Next}
 use Rattle.gaps.specs.Gaps.{Gap, spanned, inOrder, cutGaps}
 use Rattle.numbers.specs.Sum.{plus}
-use Rattle.gaps.specs.GapColumns.{GapColumns, withRow, withGap, storedGaps, Rows}
+use Rattle.gaps.specs.Cutting.{CutColumns, withRow, withGap, storedGaps, CutRows}
 use Rattle.gaps.specs.Cutting.{Leads, followed, cutsIn, freqIn, spaceGaps, Alike}
-use Rattle.gaps.specs.declared.gaps.Space.{Space}
+use Rattle.gaps.specs.declared.cutting.Space.{Space}
 use Rattle.gaps.proofs.Cuts.{nextCut, one-more, followed-end, all-enough}
 use Rattle.gaps.proofs.StoredGaps.{stored-last, rows-with}
 
@@ -59,30 +59,30 @@ module _ (n : ℕ) where
   place-used Next at k all e p = omega (arith, e, p .0)
 
   -- the next gap and those left, stored
-  place-stored : (side : Side) (at : ℕ) (g : Gap) (gs : List Gap) (all : ℕ) (cols : GapColumns) → Place side n at (length gs) all
+  place-stored : (side : Side) (at : ℕ) (g : Gap) (gs : List Gap) (all : ℕ) (cols : CutColumns) → Place side n at (length gs) all
       → storedGaps (onSide side n at) (inOrder side g gs) cols ≡ storedGaps (onSide side n (onSide side (at - 1) (at + 1))) gs (withGap cols at g)
   unfolding storedIn Place
   place-stored Previous at g gs all cols p = stored-last n gs g cols ∙ ap (λ (x : ℕ). storedGaps n gs (withGap cols x g)) (sym (p .0))
   place-stored Next at g gs all cols p = let z : suc at ≡ at + 1 = omega arith in ap (λ (x : ℕ). storedGaps x gs (withGap cols at g)) z
 
-  place-one : (side : Side) (at : ℕ) (g : Gap) (all : ℕ) (cols : GapColumns) → Place side n at 0 all
+  place-one : (side : Side) (at : ℕ) (g : Gap) (all : ℕ) (cols : CutColumns) → Place side n at 0 all
       → storedGaps (onSide side n at) (g ∷ []) cols ≡ withGap cols at g
   unfolding storedIn Place
   place-one Previous at g all cols p = let z : n ≡ at = omega (arith, p .0) in ap (λ (x : ℕ). withGap cols x g) z
   place-one Next at g all cols p = refl
 
-  start-same : (side : Side) (k : ℕ) (gs : List Gap) (cols : GapColumns) → storedGaps (onSide side n (n + onSide side k 0)) gs cols ≡ storedGaps n gs cols
+  start-same : (side : Side) (k : ℕ) (gs : List Gap) (cols : CutColumns) → storedGaps (onSide side n (n + onSide side k 0)) gs cols ≡ storedGaps n gs cols
   start-same Previous k gs cols = refl
   start-same Next k gs cols = let z : n + 0 ≡ n = omega arith in ap (λ (x : ℕ). storedGaps x gs cols) z
 
 -- ---- the columns are as long as they were
-pub record Same (lent cols : GapColumns) : Type 0 where
+pub record Same (lent cols : CutColumns) : Type 0 where
   pub from : length (cols .froms) ≡ length (lent .froms)
   pub to : length (cols .tos) ≡ length (lent .tos)
   pub weight : length (cols .weights) ≡ length (lent .weights)
   pub freq : length (cols .freqs) ≡ length (lent .freqs)
 
-pub same-with : (lent cols : GapColumns) (at from to : ℕ) (weight freq : Float) → Same lent cols → Same lent (withRow cols at from to weight freq)
+pub same-with : (lent cols : CutColumns) (at from to : ℕ) (weight freq : Float) → Same lent cols → Same lent (withRow cols at from to weight freq)
 same-with lent cols at from to weight freq s =
     let a = s .from in
     let b = s .to in
@@ -91,7 +91,7 @@ same-with lent cols at from to weight freq s =
     record { from = simp length-set a; to = simp length-set b; weight = simp length-set c; freq = simp length-set d }
 
 -- ---- the storing of a space's gaps, before its next cut
-module _ (side : Side) (freqs edges links : List ℕ) (s : Space) (n : ℕ) (lent : GapColumns) where
+module _ (side : Side) (freqs edges links : List ℕ) (s : Space) (n : ℕ) (lent : CutColumns) where
   abbrev edgeIn : ℕ → ℕ
   edgeIn c = getD edges c 0
 
@@ -101,13 +101,13 @@ module _ (side : Side) (freqs edges links : List ℕ) (s : Space) (n : ℕ) (len
   abbrev rest : ℕ → ℕ → Float → ℕ → List Gap
   rest fuel e w b = cutGaps side (freqIn freqs) edgeIn (s .end .0) (s .far ∷ s .main ∷ []) e w b (followed side links (s .last .0) fuel b)
 
-  pub record Storing (cols : GapColumns) (b at e : ℕ) (w : Float) : Type 0 where
+  pub record Storing (cols : CutColumns) (b at e : ℕ) (w : Float) : Type 0 where
     pub leads : Leads side links
     pub alike : Alike freqs edges links
     pub inside : b < length links
     pub fuel : ℕ
     pub enough : beside side (length links) b ≤ fuel
-    pub rows : Rows (n + length all) cols
+    pub rows : CutRows (n + length all) cols
     pub same : Same lent cols
     pub place : Place side n at (length (followed side links (s .last .0) fuel b)) (length all)
     pub gives : storedGaps (onSide side n at) (rest fuel e w b) cols ≡ storedGaps n all lent
@@ -120,7 +120,7 @@ module _ (side : Side) (freqs edges links : List ℕ) (s : Space) (n : ℕ) (len
       cut-gaps-length side (freqIn freqs) edgeIn (s .end .0) (s .far ∷ s .main ∷ []) (s .edge .0) (s .near) (s .block .0)
       (cutsIn side links (s .last .0) (s .block .0))
 
-  pub storing-starts : Leads side links → Alike freqs edges links → s .block .0 < length links → Rows (n + length all) lent → (at : ℕ)
+  pub storing-starts : Leads side links → Alike freqs edges links → s .block .0 < length links → CutRows (n + length all) lent → (at : ℕ)
       → at ≡ n + onSide side cutsLong 0
       → Storing lent (s .block .0) at (s .edge .0) (s .near)
   storing-starts leads alike h rows at q =
@@ -143,8 +143,8 @@ module _ (side : Side) (freqs edges links : List ℕ) (s : Space) (n : ℕ) (len
       subst (λ (x : ℕ). n + onSide side cutsLong 0 < n + x) (sym all-length)
       (place-inside n side (n + onSide side cutsLong 0) cutsLong (suc cutsLong) (place-first n side cutsLong))
 
-  module _ (cols : GapColumns) (b at e : ℕ) (w : Float) (k : Storing cols b at e w) where
-    pub row-inside : Rows (at + 1) cols
+  module _ (cols : CutColumns) (b at e : ℕ) (w : Float) (k : Storing cols b at e w) where
+    pub row-inside : CutRows (at + 1) cols
     row-inside =
         let r = k .rows in
         let p = place-inside n side at (length (followed side links (s .last .0) (k .fuel) b)) (length all) (k .place) in
@@ -204,15 +204,15 @@ module _ (side : Side) (freqs edges links : List ℕ) (s : Space) (n : ℕ) (len
         )
 
     -- the same, of what the calls answer
-    pub storing-step : (c : ℕ) → nextCut side links (s .last .0) b ≡ At (record { 0 = c }) → {cols' : GapColumns} {f : Float} {at' : ℕ} → f ≡ freqIn freqs b
+    pub storing-step : (c : ℕ) → nextCut side links (s .last .0) b ≡ At (record { 0 = c }) → {cols' : CutColumns} {f : Float} {at' : ℕ} → f ≡ freqIn freqs b
         → cols' ≡ withRow cols at (onSide side (edgeIn c) e) (onSide side e (edgeIn c)) w f → at' ≡ onSide side (at - 1) (at + 1)
         → Storing cols' c at' (edgeIn c) zeroWeight
     storing-step c q {cols'} {f} {at'} ef ec ea =
         subst (λ (x : ℕ). Storing cols' c x (edgeIn c) zeroWeight) (sym ea)
-        (subst (λ (x : GapColumns). Storing x c (onSide side (at - 1) (at + 1)) (edgeIn c) zeroWeight)
+        (subst (λ (x : CutColumns). Storing x c (onSide side (at - 1) (at + 1)) (edgeIn c) zeroWeight)
         (sym (ec ∙ ap (withRow cols at (onSide side (edgeIn c) e) (onSide side e (edgeIn c)) w) ef)) (storing-next c q .0))
 
-    pub storing-done : nextCut side links (s .last .0) b ≡ Absent → {cols' : GapColumns} {f : Float} {first r : ℕ} → f ≡ freqIn freqs b
+    pub storing-done : nextCut side links (s .last .0) b ≡ Absent → {cols' : CutColumns} {f : Float} {first r : ℕ} → f ≡ freqIn freqs b
         → cols' ≡ withRow cols at (onSide side (s .end .0) e) (onSide side e (s .end .0)) (add binary32 (add binary32 w (s .far)) (s .main)) f
         → first ≡ n + onSide side cutsLong 0 → r ≡ max first at → (r + 1 ≡ n + length all) × (cols' ≡ storedGaps n all lent)
     storing-done q ef ec e1 er = (

@@ -6,13 +6,13 @@ use native.Mathlib.Omega.{arith}
 use lib.Ieee.{Float}
 use lib.ListN.{length, set, length-set}
 use lib.Seq.{set-comm}
-use Rattle.columns.specs.Table.{table, filled, storedIn}
+use Rattle.columns.specs.Table.{filled, storedIn}
 use Rattle.columns.proofs.Fillings.{stored-filled}
 use Rattle.gaps.specs.Gaps.{Gap, gapWeight}
-use Rattle.gaps.specs.GapColumns.{GapColumns, withRow, withGap, withNext, storedGaps, Rows, GapsHeld}
+use Rattle.gaps.specs.Cutting.{CutColumns, withRow, withGap, withNext, storedGaps, CutRows}
 
 -- ---- how long the columns are
-pub rows-with : (n at from to : ℕ) (weight freq : Float) (cols : GapColumns) → Rows n cols → Rows n (withRow cols at from to weight freq)
+pub rows-with : (n at from to : ℕ) (weight freq : Float) (cols : CutColumns) → CutRows n cols → CutRows n (withRow cols at from to weight freq)
 rows-with n at from to weight freq cols r =
     let a = r .from in
     let b = r .to in
@@ -20,18 +20,18 @@ rows-with n at from to weight freq cols r =
     let d = r .freq in
     record { from = simp length-set a; to = simp length-set b; weight = simp length-set c; freq = simp length-set d }
 
-pub rows-fewer : (m n : ℕ) (cols : GapColumns) → m ≤ n → Rows n cols → Rows m cols
+pub rows-fewer : (m n : ℕ) (cols : CutColumns) → m ≤ n → CutRows n cols → CutRows m cols
 rows-fewer m n cols h r =
     let a = r .from in let b = r .to in let c = r .weight in let d = r .freq in
     record { from = omega arith; to = omega arith; weight = omega arith; freq = omega arith }
 
-pub rows-stored : (n at : ℕ) (gs : List Gap) (cols : GapColumns) → Rows n cols → Rows n (storedGaps at gs cols)
+pub rows-stored : (n at : ℕ) (gs : List Gap) (cols : CutColumns) → CutRows n cols → CutRows n (storedGaps at gs cols)
 unfolding storedIn
 rows-stored n at [] cols r = r
 rows-stored n at (g ∷ gs) cols r = rows-stored n (suc at) gs (withGap cols at g) (rows-with n at (g .from) (g .to) (gapWeight g) (g .freq) cols r)
 
 -- ---- stored in parts
-pub stored-append : (at : ℕ) (gs hs : List Gap) (cols : GapColumns) → storedGaps at (gs ++ hs) cols ≡ storedGaps (at + length gs) hs (storedGaps at gs cols)
+pub stored-append : (at : ℕ) (gs hs : List Gap) (cols : CutColumns) → storedGaps at (gs ++ hs) cols ≡ storedGaps (at + length gs) hs (storedGaps at gs cols)
 unfolding storedIn
 stored-append at [] hs cols = let z : at ≡ at + 0 = omega arith in ap (λ (n : ℕ). storedGaps n hs cols) z
 stored-append at (g ∷ gs) hs cols =
@@ -39,7 +39,7 @@ stored-append at (g ∷ gs) hs cols =
     stored-append (suc at) gs hs (withGap cols at g) ∙ ap (λ (n : ℕ). storedGaps n hs (storedGaps (suc at) gs (withGap cols at g))) z
 
 -- two rows stored, in either order
-with-either : (i j : ℕ) (g h : Gap) (cols : GapColumns) → (i ≡ j → ⊥) → withGap (withGap cols i g) j h ≡ withGap (withGap cols j h) i g
+with-either : (i j : ℕ) (g h : Gap) (cols : CutColumns) → (i ≡ j → ⊥) → withGap (withGap cols i g) j h ≡ withGap (withGap cols j h) i g
 with-either i j g h cols apart =
     λ k. record {
       froms = set-comm (cols .froms) i j (g .from) (h .from) apart k;
@@ -49,7 +49,7 @@ with-either i j g h cols apart =
     }
 
 -- the last one first
-pub stored-last : (at : ℕ) (gs : List Gap) (g : Gap) (cols : GapColumns)
+pub stored-last : (at : ℕ) (gs : List Gap) (g : Gap) (cols : CutColumns)
     → storedGaps at (gs ++ (g ∷ [])) cols ≡ storedGaps at gs (withGap cols (at + length gs) g)
 unfolding storedIn
 stored-last at [] g cols = let z : at ≡ at + 0 = omega arith in ap (λ (n : ℕ). withGap cols n g) z
@@ -59,33 +59,30 @@ stored-last at (x ∷ gs) g cols =
     stored-last (suc at) gs g (withGap cols at x) ∙ ap (storedGaps (suc at) gs) (e ∙ ap (λ (n : ℕ). withGap (withGap cols n g) at x) z)
 
 -- ---- a column of stored gaps: filled with a field of the gaps
-field-filled : {B : Type 0} (column : GapColumns → List B) (field : Gap → B)
-    → ((at : ℕ) (g : Gap) (c : GapColumns) → column (withGap c at g) ≡ set (column c) at (field g))
-    → (gs : List Gap) (c : GapColumns) → length gs ≤ length (column c) → column (storedGaps 0 gs c) ≡ filled (map field gs) (column c)
+field-filled : {B : Type 0} (column : CutColumns → List B) (field : Gap → B)
+    → ((at : ℕ) (g : Gap) (c : CutColumns) → column (withGap c at g) ≡ set (column c) at (field g))
+    → (gs : List Gap) (c : CutColumns) → length gs ≤ length (column c) → column (storedGaps 0 gs c) ≡ filled (map field gs) (column c)
 field-filled column field one gs c h =
     stored-filled withNext (λ s. s .at) (λ r s. refl) (λ s. column (s .cols)) field (λ r s. one (s .at) r (s .cols)) gs (record { at = 0; cols = c }) refl h
 
--- no row counts anything
-none-counted : (gs : List Gap) → table {A = ℕ} (λ (k : ℕ). 0) (length gs) ≡ map (λ (g : Gap). 0) gs
-unfolding table
-none-counted [] = refl
-none-counted (g ∷ gs) = ap (λ (l : List ℕ). 0 ∷ l) (none-counted gs)
+-- the columns that hold the gaps, and past them what was there
+pub record CutHeld (gs : List Gap) (lent now : CutColumns) : Type 0 where
+  pub from : now .froms ≡ filled (map (λ (g : Gap). g .from) gs) (lent .froms)
+  pub to : now .tos ≡ filled (map (λ (g : Gap). g .to) gs) (lent .tos)
+  pub weight : now .weights ≡ filled (map gapWeight gs) (lent .weights)
+  pub freq : now .freqs ≡ filled (map (λ (g : Gap). g .freq) gs) (lent .freqs)
 
-pub stored-held : (gs : List Gap) (lent now : GapColumns) (lentLive nowLive : List ℕ) (used : ℕ) → Rows (length gs) lent → used ≡ length gs
-    → now ≡ storedGaps 0 gs lent
-    → nowLive ≡ filled (table (λ (k : ℕ). 0) used) lentLive → GapsHeld gs lent now lentLive nowLive used
-stored-held gs lent now lentLive nowLive used r u e l =
+pub stored-held : (gs : List Gap) (lent now : CutColumns) → CutRows (length gs) lent → now ≡ storedGaps 0 gs lent → CutHeld gs lent now
+stored-held gs lent now r e =
     record {
-      count = u;
-      from = ap (λ (c : GapColumns). c .froms) e ∙ field-filled (λ c. c .froms) (λ g. g .from) (λ at g c. refl) gs lent (r .from);
-      to = ap (λ (c : GapColumns). c .tos) e ∙ field-filled (λ c. c .tos) (λ g. g .to) (λ at g c. refl) gs lent (r .to);
-      weight = ap (λ (c : GapColumns). c .weights) e ∙ field-filled (λ c. c .weights) gapWeight (λ at g c. refl) gs lent (r .weight);
-      freq = ap (λ (c : GapColumns). c .freqs) e ∙ field-filled (λ c. c .freqs) (λ g. g .freq) (λ at g c. refl) gs lent (r .freq);
-      live = l ∙ ap (λ (n : ℕ). filled (table (λ (k : ℕ). 0) n) lentLive) u ∙ ap (λ (rows : List ℕ). filled rows lentLive) (none-counted gs);
+      from = ap (λ (c : CutColumns). c .froms) e ∙ field-filled (λ c. c .froms) (λ g. g .from) (λ at g c. refl) gs lent (r .from);
+      to = ap (λ (c : CutColumns). c .tos) e ∙ field-filled (λ c. c .tos) (λ g. g .to) (λ at g c. refl) gs lent (r .to);
+      weight = ap (λ (c : CutColumns). c .weights) e ∙ field-filled (λ c. c .weights) gapWeight (λ at g c. refl) gs lent (r .weight);
+      freq = ap (λ (c : CutColumns). c .freqs) e ∙ field-filled (λ c. c .freqs) (λ g. g .freq) (λ at g c. refl) gs lent (r .freq);
     }
 
 -- the gaps on the left, the own one and those on the right, stored one after the other
-pub stored-three : (ls rs : List Gap) (own : Gap) (lent : GapColumns) → storedGaps (length ls + 1) rs (withGap (storedGaps 0 ls lent) (length ls) own)
+pub stored-three : (ls rs : List Gap) (own : Gap) (lent : CutColumns) → storedGaps (length ls + 1) rs (withGap (storedGaps 0 ls lent) (length ls) own)
     ≡ storedGaps 0 (ls ++ (own ∷ rs)) lent
 unfolding storedIn
 stored-three ls rs own lent =

@@ -6,17 +6,18 @@ use mathlib.Core.Bool.{_&&_, cond}
 use mathlib.Core.List.{List, [], _∷_}
 use lib.Dec.{ltb}
 use lib.Ieee.{Float}
-use lib.ListN.{length, getD}
+use lib.ListN.{length, getD, set}
 use Rattle.numbers.specs.Weight.{frequencyLimit, valueOf}
 use Rattle.links.specs.Blocks.{itemLimit, blockIn, Ends}
 use Rattle.links.specs.Links.{absent, LiesBeyond, onSide}
 use Rattle.links.specs.Split.{preferred, home, reaches}
 use Rattle.links.specs.declared.lower.Side.{Side}
 use Rattle.use_rows.specs.UseColumns.{UseColumns, Inside, useIn}
+use Rattle.columns.specs.Table.{storedIn}
 use Rattle.columns.specs.Below.{joined}
 use Rattle.use_rows.specs.declared.row.SplitUse.{SplitUse}
-use Rattle.gaps.specs.Gaps.{Gap, near, far, nearWeight, farEnd, cutGaps}
-use Rattle.gaps.specs.declared.gaps.Space.{Space}
+use Rattle.gaps.specs.Gaps.{Gap, gapWeight, near, far, nearWeight, farEnd, cutGaps}
+use Rattle.gaps.specs.declared.cutting.Space.{Space}
 
 -- the space between two uses
 abbrev pub spaceOf : Side → List ℕ → ℕ → SplitUse → SplitUse → Space
@@ -79,3 +80,41 @@ Ordered ends n u v = (u .inst .0 < v .inst .0) × Ends ends n (v .inst .0)
 pub record InOrder (ends : List ℕ) (n : ℕ) (uses : UseColumns) (i last : ℕ) : Type 0 where
   pub inside : Inside last uses
   pub each : (k : ℕ) → i ≤ k → k < last → Ordered ends n (useIn uses k) (useIn uses (k + 1))
+
+-- ---- the columns that cutting fills: all but that of live instructions
+pub record CutColumns : Type 0 where
+  pub froms : List ℕ
+  pub tos : List ℕ
+  pub weights : List Float
+  pub freqs : List Float
+
+-- the four as one
+abbrev pub cutColumns : List ℕ → List ℕ → List Float → List Float → CutColumns
+cutColumns froms tos weights freqs = record { froms = froms; tos = tos; weights = weights; freqs = freqs }
+
+-- the columns with a row stored
+abbrev pub withRow : CutColumns → ℕ → ℕ → ℕ → Float → Float → CutColumns
+withRow cols at from to weight freq = cutColumns (set (cols .froms) at from) (set (cols .tos) at to) (set (cols .weights) at weight) (set (cols .freqs) at freq)
+
+-- the columns with a gap stored
+abbrev pub withGap : CutColumns → ℕ → Gap → CutColumns
+withGap cols at g = withRow cols at (g .from) (g .to) (gapWeight g) (g .freq)
+
+-- the columns, and the row at which the next gap is stored
+pub record AtRow : Type 0 where
+  pub at : ℕ
+  pub cols : CutColumns
+
+abbrev pub withNext : Gap → AtRow → AtRow
+withNext g c = record { at = suc (c .at); cols = withGap (c .cols) (c .at) g }
+
+-- gaps stored from a row on
+abbrev pub storedGaps : ℕ → List Gap → CutColumns → CutColumns
+storedGaps at gaps cols = storedIn withNext gaps (record { at = at; cols = cols }) .cols
+
+-- the columns have n rows
+pub record CutRows (n : ℕ) (cols : CutColumns) : Type 0 where
+  pub from : n ≤ length (cols .froms)
+  pub to : n ≤ length (cols .tos)
+  pub weight : n ≤ length (cols .weights)
+  pub freq : n ≤ length (cols .freqs)

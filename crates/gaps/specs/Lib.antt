@@ -1,5 +1,6 @@
--- The gaps between a job's uses, and the words of their laws. Cutting is for private functions.
+-- The gaps between a job's uses, the gap table, and the words of their laws. Cutting and Passing are for private functions.
 pub mod Gaps
 pub mod GapColumns
 pub mod Laws
 pub mod Cutting
+pub mod Passing

@@ -1,346 +1,23 @@
-// The gaps between uses, cut where the frequency falls.
-use links::blocks::block_near;
-use links::blocks::block_of;
-use links::lower::Side;
-use links::lower::link_at;
-use links::lower::reaches;
-use numbers::Block;
-use numbers::Inst;
-use numbers::MaybeBlock;
-use numbers::weights::frequency_of;
-use use_rows::row::SplitUse;
-use use_rows::row::use_at;
+// The gap table of a use table, every column of it, and its gap segments.
+use crate::cutting::cut_gaps;
+use crate::segments::fill_segments;
 ghost use mathlib.Core.Path.{_≡_};
-ghost use mathlib.Core.List.{_∷_, []};
-ghost use Prim.Native.Nat.{ℕ, _+_, _-_, _≤_, _<_, max};
-ghost use lib.ListN.{length, getD};
-ghost use Rattle.use_rows.specs.UseColumns.{useColumns, useIn};
-ghost use Rattle.links.specs.Blocks.{blocksOf, Ends};
-ghost use Rattle.columns.specs.Table.{table, filled};
-ghost use Rattle.links.specs.Links.{onSide};
-ghost use Rattle.gaps.specs.Gaps.{gapsOf, initialGap, Cuttable, usesIn};
-ghost use Rattle.gaps.specs.GapColumns.{gapColumns, withRow, withGap, storedGaps, Rows, GapsHeld};
-ghost use Rattle.gaps.specs.Cutting.{Ordered, spaceOf, Leads, cutsIn, freqIn, Alike, spaceGaps, sideGaps, ownIn, InOrder};
+ghost use lib.ListN.{length};
+ghost use Rattle.links.specs.Blocks.{blocksOf};
+ghost use Rattle.use_rows.specs.UseColumns.{useColumns};
+ghost use Rattle.overlaps.specs.GapSegments.{Valued, segmentColumns, SegmentRoom, Filled};
+ghost use Rattle.gaps.specs.Gaps.{gapsOf, initialGap, usesIn, Cuttable};
+ghost use Rattle.gaps.specs.GapColumns.{gapColumns, gapSegmentsOf, Rows, GapsHeld};
 
-// What stands left of the best use, or right of it.
-fn on_side(side: Side, left: Inst, right: Inst) -> Inst
-    ensures { λ r. ⌜ r .0 ≡ onSide side (left .0) (right .0) ⌝ }
-{
-    match side {
-        Side::Previous => left,
-        Side::Next => right,
-    }
-}
-
-// Two neighbouring uses and the space between them, from the use nearer to the best one to the farther one: where it begins and
-// ends, the weights placed in it, the block in which cutting begins, and the farther use's block.
-struct Space {
-    pub edge: Inst,
-    pub end: Inst,
-    pub near: f32,
-    pub far: f32,
-    pub main: f32,
-    pub block: Block,
-    pub last: Block,
-}
-
-// The space between two uses.
-fn space_between(side: Side, end: &[u32], n: usize, u: SplitUse, v: SplitUse, hint: Block) -> Space
-    requires { ⌜ Ordered (now end) n u v ⌝ }
-    ensures { λ r. ⌜ r ≡ spaceOf side (now (end .entry)) n u v ⌝ }
-{
-    let p = u.inst;
-    let q = v.inst;
-    if let Side::Previous = side {
-        let last = block_near(end, n, p, hint);
-        let block = block_near(end, n, Inst(q.0 - 1), last);
-        return Space {
-            edge: q,
-            end: p,
-            near: v.left_weight,
-            far: u.right_weight,
-            main: u.weight,
-            block,
-            last,
-        };
-    }
-    let edge = Inst(p.0 + 1);
-    let block = block_near(end, n, edge, hint);
-    let last = block_near(end, n, q, block);
-    Space {
-        edge,
-        end: Inst(q.0 + 1),
-        near: u.right_weight,
-        far: v.left_weight,
-        main: v.weight,
-        block,
-        last,
-    }
-}
-
-// The later of a space's two blocks: the next space on the right begins there.
-fn later_block(side: Side, s: Space) -> Block {
-    match side {
-        Side::Previous => s.block,
-        Side::Next => s.last,
-    }
-}
-
-// How many cuts there are: one at each lower link, as long as none leads beyond the farther use's block.
-fn count_cuts(side: Side, links: &[u32], b: Block, last: Block) -> usize
-    requires { ⌜ Leads side (now links) × (b .0 < length (now links)) ⌝ }
-    ensures { λ r. ⌜ r ≡ length (cutsIn side (now (links .entry)) (last .0) (b .0)) ⌝ }
-{
-    let mut b = b;
-    let mut n: usize = 0;
-    loop {
-        let MaybeBlock::At(lower) = link_at(links, b) else {
-            break;
-        };
-        if !reaches(side, last, lower) {
-            break;
-        }
-        b = lower;
-        n += 1;
-    }
-    n
-}
-
-// How many rows stand before that of the nearest gap: on the left one for each cut.
-fn rows_before(side: Side, links: &[u32], b: Block, last: Block) -> usize
-    requires { ⌜ Leads side (now links) × (b .0 < length (now links)) ⌝ }
-    ensures { λ r. ⌜ r ≡ onSide side (length (cutsIn side (now (links .entry)) (last .0) (b .0))) 0 ⌝ }
-{
-    if let Side::Next = side {
-        return 0;
-    }
-    count_cuts(side, links, b, last)
-}
-
-// The row of the next gap away from the best use.
-fn next_row(side: Side, at: usize) -> usize
-    requires { ⌜ (onSide side 1 0 ≤ at) × (at < 18446744073709551615) ⌝ }
-    ensures { λ r. ⌜ r ≡ onSide side (at - 1) (at + 1) ⌝ }
-{
-    match side {
-        Side::Previous => at - 1,
-        Side::Next => at + 1,
-    }
-}
-
-// The later of two rows.
-fn later(a: usize, b: usize) -> usize
-    ensures { λ r. ⌜ r ≡ max a b ⌝ }
-{
-    if a < b { b } else { a }
-}
-
-// Stores the gap from an edge to a farther one.
-fn put_gap(
-    from: &mut [u32],
-    to: &mut [u32],
-    weight: &mut [f32],
-    freq: &mut [f32],
-    at: usize,
-    side: Side,
-    edge: Inst,
-    farther: Inst,
-    w: f32,
-    f: f32,
-)
-    requires { ⌜ Rows (at + 1) (gapColumns (now from) (now to) (now weight) (now freq)) ⌝ }
-    ensures { λ _. ⌜
-        (let lent = gapColumns (now (from .entry)) (now (to .entry)) (now (weight .entry)) (now (freq .entry)) in
-        let after = gapColumns (now (from .exit)) (now (to .exit)) (now (weight .exit)) (now (freq .exit)) in
-        after ≡ withRow lent at (onSide side (farther .0) (edge .0)) (onSide side (edge .0) (farther .0)) w f) ⌝ }
-{
-    let a = on_side(side, farther, edge);
-    let e = on_side(side, edge, farther);
-    from[at] = a.0;
-    to[at] = e.0;
-    weight[at] = w;
-    freq[at] = f;
-}
-
-// The frequency of a block.
-fn block_frequency(freq: &[u32], b: Block) -> f32
-    requires { ⌜ b .0 < length (now freq) ⌝ }
-    ensures { λ r. ⌜ r ≡ freqIn (now (freq .entry)) (b .0) ⌝ }
-{
-    let i = b.0 as usize;
-    frequency_of(freq[i])
-}
-
-// Stores the gaps of the space between two uses from row n on, the nearest first. Answers how many rows are used then.
-fn cut_space(
-    side: Side,
-    freq: &[u32],
-    edges: &[u32],
-    links: &[u32],
-    from: &mut [u32],
-    to: &mut [u32],
-    weight: &mut [f32],
-    min_freq: &mut [f32],
-    n: usize,
-    s: Space,
-) -> usize
-    requires { ⌜ Leads side (now links) × Alike (now freq) (now edges) (now links) × (s .block .0 < length (now links)) ⌝ }
-    requires { ⌜
-        (let gaps = spaceGaps side (now freq) (now edges) (now links) s in
-        let lent = gapColumns (now from) (now to) (now weight) (now «min_freq») in
-        Rows (n + length gaps) lent) ⌝ }
-    ensures { λ r. ⌜
-        (let gaps = spaceGaps side (now (freq .entry)) (now (edges .entry)) (now (links .entry)) s in
-        let lent = gapColumns (now (from .entry)) (now (to .entry)) (now (weight .entry)) (now («min_freq» .entry)) in
-        let after = gapColumns (now (from .exit)) (now (to .exit)) (now (weight .exit)) (now («min_freq» .exit)) in
-        (r ≡ n + length gaps) × (after ≡ storedGaps n gaps lent)) ⌝ }
-{
-    let last = s.last;
-    let mut b = s.block;
-    let first = n + rows_before(side, links, b, last);
-    let mut at = first;
-    let mut edge = s.edge;
-    let mut w = s.near;
-    loop {
-        let MaybeBlock::At(lower) = link_at(links, b) else {
-            break;
-        };
-        if !reaches(side, last, lower) {
-            break;
-        }
-        let i = lower.0 as usize;
-        let place = edges[i];
-        let e = Inst(place);
-        let f = block_frequency(freq, b);
-        put_gap(from, to, weight, min_freq, at, side, edge, e, w, f);
-        at = next_row(side, at);
-        edge = e;
-        w = 0.0;
-        b = lower;
-    }
-    let far_freq = block_frequency(freq, b);
-    put_gap(
-        from,
-        to,
-        weight,
-        min_freq,
-        at,
-        side,
-        edge,
-        s.end,
-        w + s.far + s.main,
-        far_freq,
-    );
-    later(first, at) + 1
-}
-
-// Stores the gaps between the uses from the i-th to the last, all on one side of the best use. Answers how many rows are used then.
-fn cut_side(
-    side: Side,
-    inst: &[u32],
-    weight: &[f32],
-    left_weight: &[f32],
-    right_weight: &[f32],
-    freq: &[u32],
-    end: &[u32],
-    edges: &[u32],
-    links: &[u32],
-    from: &mut [u32],
-    to: &mut [u32],
-    out_weight: &mut [f32],
-    min_freq: &mut [f32],
-    i: usize,
-    last: usize,
-    n: usize,
-) -> usize
-    requires { ⌜ Leads side (now links) × Alike (now freq) (now edges) (now links) ⌝ }
-    requires { ⌜
-        (let uses = useColumns (now inst) (now weight) (now «left_weight») (now «right_weight») in
-        InOrder (now end) (length (now freq)) uses i last) ⌝ }
-    requires { ⌜
-        (let uses = useColumns (now inst) (now weight) (now «left_weight») (now «right_weight») in
-        let gaps = sideGaps side (now freq) (now end) (now edges) (now links) uses i (last - i) in
-        let lent = gapColumns (now from) (now to) (now «out_weight») (now «min_freq») in
-        Rows (n + length gaps) lent) ⌝ }
-    ensures { λ r. ⌜
-        (let uses = useColumns (now (inst .entry)) (now (weight .entry)) (now («left_weight» .entry)) (now («right_weight» .entry)) in
-        let gaps = sideGaps side (now (freq .entry)) (now (end .entry)) (now (edges .entry)) (now (links .entry)) uses i (last - i) in
-        let lent = gapColumns (now (from .entry)) (now (to .entry)) (now («out_weight» .entry)) (now («min_freq» .entry)) in
-        let after = gapColumns (now (from .exit)) (now (to .exit)) (now («out_weight» .exit)) (now («min_freq» .exit)) in
-        (r ≡ n + length gaps) × (after ≡ storedGaps n gaps lent)) ⌝ }
-{
-    let mut i = i;
-    let mut n = n;
-    let mut near = Block(0);
-    while i < last {
-        let u = use_at(inst, weight, left_weight, right_weight, i);
-        let v = use_at(inst, weight, left_weight, right_weight, i + 1);
-        let s = space_between(side, end, freq.len(), u, v, near);
-        n = cut_space(
-            side,
-            freq,
-            edges,
-            links,
-            from,
-            to,
-            out_weight,
-            min_freq,
-            n,
-            s,
-        );
-        near = later_block(side, s);
-        i += 1;
-    }
-    n
-}
-
-// Stores the best use's own gap: one instruction.
-fn put_own(
-    freq: &[u32],
-    end: &[u32],
-    from: &mut [u32],
-    to: &mut [u32],
-    weight: &mut [f32],
-    min_freq: &mut [f32],
-    n: usize,
-    u: SplitUse,
-)
-    requires { ⌜
-        (let lent = gapColumns (now from) (now to) (now weight) (now «min_freq») in
-        Ends (now end) (length (now freq)) (u .inst .0) × Rows (n + 1) lent) ⌝ }
-    ensures { λ _. ⌜
-        (let lent = gapColumns (now (from .entry)) (now (to .entry)) (now (weight .entry)) (now («min_freq» .entry)) in
-        let after = gapColumns (now (from .exit)) (now (to .exit)) (now (weight .exit)) (now («min_freq» .exit)) in
-        after ≡ withGap lent n (ownIn (now (freq .entry)) (now (end .entry)) u)) ⌝ }
-{
-    let p = u.inst;
-    let b = block_of(end, freq.len(), p);
-    let f = block_frequency(freq, b);
-    let w = u.weight;
-    let next = Inst(p.0 + 1);
-    put_gap(from, to, weight, min_freq, n, Side::Next, p, next, w, f);
-}
-
-// Nothing is counted yet in the first n rows.
-fn clear_live(live: &mut [u32], n: usize)
-    requires { ⌜ n ≤ length (now live) ⌝ }
-    ensures { λ _. ⌜ now (live .exit) ≡ filled (table (λ (k : ℕ). 0) n) (now (live .entry)) ⌝ }
-{
-    let mut i: usize = 0;
-    while i < n {
-        live[i] = 0;
-        i += 1;
-    }
-}
-
-// How many gaps there are, and which is the best use's own.
-pub struct GapsFound {
-    pub rows: usize,
+// How many gaps there are, which is the best use's own, and how many gap segments there are.
+pub struct GapCounts {
+    pub gaps: usize,
     pub initial: usize,
+    pub segments: usize,
 }
 
-// Fills the columns with the gaps of a use table around its best use; no live instructions are counted yet. The rows past them stay.
-pub fn collect_gaps(
+// Fills the gap table of a use table around its best use, and its gap segments. The rows past them stay.
+pub fn build_gaps(
     inst: &[u32],
     weight: &[f32],
     left_weight: &[f32],
@@ -351,71 +28,78 @@ pub fn collect_gaps(
     end: &[u32],
     prev_lower_freq: &[u32],
     next_lower_freq: &[u32],
-    from: &mut [u32],
-    to: &mut [u32],
-    out_weight: &mut [f32],
+    start: &[u32],
+    segment_end: &[u32],
+    value: &[u32],
+    gap_from: &mut [u32],
+    gap_to: &mut [u32],
+    gap_weight: &mut [f32],
     live: &mut [u32],
     min_freq: &mut [f32],
-) -> GapsFound
+    segment_from: &mut [u32],
+    segment_to: &mut [u32],
+    segment_value: &mut [u32],
+    segment_gap: &mut [u32],
+) -> GapCounts
     requires { ⌜
         (let uses = useColumns (now inst) (now weight) (now «left_weight») (now «right_weight») in
-        Cuttable (now freq) (now first) (now end) (now «prev_lower_freq») (now «next_lower_freq») uses best) ⌝ }
+        Cuttable (now freq) (now first) (now end) (now «prev_lower_freq») (now «next_lower_freq») uses best
+        × Valued (now start) (now «segment_end») (now value))
+        ⌝ }
     requires { ⌜
-        (let blocks = blocksOf (now freq) (now first) (now end) in
-        let uses = useColumns (now inst) (now weight) (now «left_weight») (now «right_weight») in
-        let gaps = gapsOf blocks (usesIn uses) best in
-        let lent = gapColumns (now from) (now to) (now «out_weight») (now «min_freq») in
-        Rows (length gaps) lent × (length gaps ≤ length (now live))) ⌝ }
+        (let uses = useColumns (now inst) (now weight) (now «left_weight») (now «right_weight») in
+        let gaps = gapsOf (blocksOf (now freq) (now first) (now end)) (usesIn uses) best in
+        let segments = gapSegmentsOf gaps (now start) (now «segment_end») (now value) in
+        Rows (length gaps) (gapColumns (now «gap_from») (now «gap_to») (now «gap_weight») (now live) (now «min_freq»))
+        × SegmentRoom (length segments) (segmentColumns (now «segment_from») (now «segment_to») (now «segment_value») (now «segment_gap») 0))
+        ⌝ }
     ensures { λ r. ⌜
-        (let blocks = blocksOf (now (freq .entry)) (now (first .entry)) (now (end .entry)) in
-        let uses = useColumns (now (inst .entry)) (now (weight .entry)) (now («left_weight» .entry)) (now («right_weight» .entry)) in
+        (let uses = useColumns (now (inst .entry)) (now (weight .entry)) (now («left_weight» .entry)) (now («right_weight» .entry)) in
+        let blocks = blocksOf (now (freq .entry)) (now (first .entry)) (now (end .entry)) in
         let gaps = gapsOf blocks (usesIn uses) best in
-        let lent = gapColumns (now (from .entry)) (now (to .entry)) (now («out_weight» .entry)) (now («min_freq» .entry)) in
-        let after = gapColumns (now (from .exit)) (now (to .exit)) (now («out_weight» .exit)) (now («min_freq» .exit)) in
-        GapsHeld gaps lent after (now (live .entry)) (now (live .exit)) (r .rows) ×
-        (r .initial ≡ initialGap blocks (usesIn uses) best)) ⌝ }
+        let segments = gapSegmentsOf gaps (now (start .entry)) (now («segment_end» .entry)) (now (value .entry)) in
+        GapsHeld gaps (now (start .entry)) (now («segment_end» .entry))
+        (gapColumns (now («gap_from» .entry)) (now («gap_to» .entry)) (now («gap_weight» .entry)) (now (live .entry)) (now («min_freq» .entry)))
+        (gapColumns (now («gap_from» .exit)) (now («gap_to» .exit)) (now («gap_weight» .exit)) (now (live .exit)) (now («min_freq» .exit)))
+        (r .gaps)
+        × Filled segments
+        (segmentColumns (now («segment_from» .entry)) (now («segment_to» .entry)) (now («segment_value» .entry)) (now («segment_gap» .entry)) 0)
+        (segmentColumns (now («segment_from» .exit)) (now («segment_to» .exit)) (now («segment_value» .exit)) (now («segment_gap» .exit)) (r .segments))
+        × (r .initial ≡ initialGap blocks (usesIn uses) best))
+        ⌝ }
 {
-    // Cuts stand at the ends of blocks on the left, at their starts on the right.
-    let left_edges = end;
-    let right_edges = first;
-    let initial = cut_side(
-        Side::Previous,
+    let cut = cut_gaps(
         inst,
         weight,
         left_weight,
         right_weight,
+        best,
         freq,
+        first,
         end,
-        left_edges,
         prev_lower_freq,
-        from,
-        to,
-        out_weight,
-        min_freq,
-        0,
-        best,
-        0,
-    );
-    let u = use_at(inst, weight, left_weight, right_weight, best);
-    put_own(freq, end, from, to, out_weight, min_freq, initial, u);
-    let rows = cut_side(
-        Side::Next,
-        inst,
-        weight,
-        left_weight,
-        right_weight,
-        freq,
-        end,
-        right_edges,
         next_lower_freq,
-        from,
-        to,
-        out_weight,
+        gap_from,
+        gap_to,
+        gap_weight,
         min_freq,
-        best,
-        inst.len() - 1,
-        initial + 1,
     );
-    clear_live(live, rows);
-    GapsFound { rows, initial }
+    let n = cut.rows;
+    let segments = fill_segments(
+        start,
+        segment_end,
+        value,
+        &gap_from[..n],
+        &gap_to[..n],
+        live,
+        segment_from,
+        segment_to,
+        segment_value,
+        segment_gap,
+    );
+    GapCounts {
+        gaps: n,
+        initial: cut.initial,
+        segments,
+    }
 }

@@ -73,21 +73,3 @@ pub record Reach (starts ends froms tos : List ℕ) : Type 0 where
   pub some : 0 < length froms
   pub first : (i : ℕ) → i < length starts → getD froms 0 0 ≤ liveFrom starts ends i
   pub last : (i : ℕ) → i < length starts → liveTo ends i ≤ getD tos (length froms - 1) 0
-
--- a column in which nothing is counted yet of n gaps
-pub record Uncounted (n : ℕ) (live : List ℕ) : Type 0 where
-  pub room : n ≤ length live
-  pub none : (g : ℕ) → g < n → getD live g 0 ≡ 0
-
--- ---- for contracts of private functions
--- a column in which instructions before a are counted of n gaps
-pub record CountedBefore (n a : ℕ) (live : List ℕ) : Type 0 where
-  pub room : n ≤ length live
-  pub few : (g : ℕ) → g < n → getD live g 0 ≤ a
-
--- the instructions from a to before e are counted in every gap, and the first n gaps hold none from e on
-pub record CountedIn (froms tos : List ℕ) (a e : ℕ) (lent now : List ℕ) (n : ℕ) : Type 0 where
-  pub long : length now ≡ length lent
-  pub rows : (g : ℕ) → getD now g 0 ≡ getD lent g 0 + overlap a e (getD froms g 0) (getD tos g 0)
-  pub some : n ≤ length froms
-  pub ended : (g : ℕ) → g < n → getD tos g 0 ≤ e

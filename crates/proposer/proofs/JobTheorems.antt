@@ -25,7 +25,7 @@ use Rattle.use_rows.specs.declared.row.BestUse.the-variants.{At, Nothing}
 use Rattle.uses.proofs.Best.{best-is, no-best-exactly, best-inside}
 use Rattle.uses.proofs.UseTable.{use-table-weights}
 use Rattle.walks.specs.Meeting.{spillWeight}
-use Rattle.filling.specs.GapTables.{fromsOf, tosOf}
+use Rattle.gaps.specs.GapColumns.{fromsOf, tosOf}
 use Rattle.growth.specs.Growth.{GapsSeen, Span, ownSpan, weightsIn, heaviestIn, usedUp, growth, endOfGrowth}
 use Rattle.growth.specs.Proposal.{regionOf, fromEnd, beforeEnd, covers, gapsCovered}
 use Rattle.growth.specs.Demand.{Around, Ended, In, FailedBefore, MeetsFixed, SoundGaps, Demand3, sumOver, addedTo, gapsBeside, gapsGrown}

@@ -9,7 +9,7 @@ use Rattle.numbers.specs.Weight.{zeroWeight}
 use Rattle.use_rows.specs.declared.row.SplitUse.{SplitUse}
 use Rattle.overlaps.specs.GapSegments.{Overlap}
 use Rattle.gaps.specs.Gaps.{Gap, gapWeight}
-use Rattle.filling.specs.GapTables.{fromsOf, tosOf}
+use Rattle.gaps.specs.GapColumns.{fromsOf, tosOf}
 use Rattle.filling.specs.SourceTables.{Tables, WorkColumns}
 use Rattle.filling.specs.declared.lent.Rooms.{Rooms}
 

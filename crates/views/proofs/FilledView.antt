@@ -11,7 +11,7 @@ use Rattle.columns.proofs.Fillings.{filled-cut, filled-long}
 use Rattle.use_rows.specs.declared.row.BestUse.the-variants as BestUse·is
 use Rattle.overlaps.specs.GapSegments.{Overlap, SegmentColumns, segmentColumns}
 use Rattle.gaps.specs.Gaps.{Gap, gapWeight}
-use Rattle.filling.specs.GapTables.{fromsOf}
+use Rattle.gaps.specs.GapColumns.{fromsOf}
 use Rattle.filling.specs.SourceTables.{tablesOfBest, WorkColumns, roomsOf, Roomy, FilledBy}
 use Rattle.filling.proofs.SourceTables.{source-gap-room}
 use Rattle.growth.specs.Growth.{GapsSeen}

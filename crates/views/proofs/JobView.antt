@@ -34,7 +34,7 @@ use Rattle.walks.proofs.Sets.{where-one, fixed-one, weight-one, all-weights}
 use Rattle.gaps.specs.Gaps.{Gap, gapWeight, useOf, gapsOn, gapsOf, ownGap, initialGap}
 use Rattle.gaps.proofs.GapWeights.{Weighed, Weighty, gaps-weighed}
 use Rattle.links.specs.declared.lower.Side.the-variants.{Previous, Next}
-use Rattle.filling.specs.GapTables.{fromsOf, tosOf}
+use Rattle.gaps.specs.GapColumns.{fromsOf, tosOf}
 use Rattle.growth.specs.Growth.{between}
 use Rattle.growth.specs.Demand.{sumOver, SoundGaps}
 use Rattle.walks.specs.Gaps.{Walkable}

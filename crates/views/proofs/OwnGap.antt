@@ -11,7 +11,7 @@ use Rattle.columns.proofs.Firsts.{split}
 use Rattle.overlaps.specs.Live.{Gaps}
 use Rattle.overlaps.proofs.LiveLaws.{gap-order}
 use Rattle.gaps.specs.Gaps.{Gap, gapWeight}
-use Rattle.filling.specs.GapTables.{fromsOf, tosOf}
+use Rattle.gaps.specs.GapColumns.{fromsOf, tosOf}
 use Rattle.filling.proofs.TableLaws.{own-at}
 use Rattle.refusals.specs.Job.{Job, sourceOfJob}
 use Rattle.refusals.proofs.Accepted.{Accepted}

@@ -4,7 +4,7 @@ use mathlib.Core.List.{List, map}
 use lib.ListN.{length}
 use Rattle.overlaps.specs.GapSegments.{Overlap, SegmentColumns, segmentColumns}
 use Rattle.gaps.specs.Gaps.{Gap, gapWeight}
-use Rattle.filling.specs.GapTables.{fromsOf}
+use Rattle.gaps.specs.GapColumns.{fromsOf}
 use Rattle.growth.specs.Growth.{GapsSeen}
 use Rattle.region.specs.Find.{seenBy}
 use Rattle.refusals.specs.Job.{Job, reservedOfJob, registerOf}

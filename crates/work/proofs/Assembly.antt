@@ -24,13 +24,14 @@ use Rattle.use_rows.specs.declared.row.BestUse.{BestUse}
 use Rattle.use_rows.specs.declared.row.BestUse.the-variants as BestUse·is
 use Rattle.uses.proofs.UseTable.{use-table-few, held-insts, held-mains, held-lefts, held-rights}
 use Rattle.uses.proofs.Best.{best-inside}
-use Rattle.overlaps.specs.GapSegments.{Valued}
+use Rattle.overlaps.specs.GapSegments.{SegmentColumns, Valued, SegmentRoom, Filled}
 use Rattle.gaps.specs.Gaps.{Gap, gapsOf, initialGap, usesIn, Cuttable}
+use Rattle.gaps.specs.GapColumns.{GapColumns, gapSegmentsOf, Rows, GapsHeld}
 use Rattle.gaps.proofs.JobGaps.{tableColumns, uses-in, job-cuttable}
 use Rattle.filling.specs.UseTables.{FromBits, bestOf, UsesFilled}
-use Rattle.filling.specs.GapTables.{GapTables, lentTables, GapRoom, GapsFilled, CutInside}
-use Rattle.filling.specs.SourceTables.{SourceColumns, blocksIn, sourceIn, startsOf, stopsOf, valuesOf, gapsFrom, freqsOf, Tables, tablesOfBest}
-use Rattle.filling.specs.SourceTables.{WorkColumns, workColumns, roomsOf, Roomy, FilledBy}
+use Rattle.filling.specs.GapTables.{CutInside}
+use Rattle.filling.specs.SourceTables.{SourceColumns, blocksIn, sourceIn, startsOf, stopsOf, valuesOf, gapsFrom, segmentsFrom, freqsOf, Tables, tablesOfBest}
+use Rattle.filling.specs.SourceTables.{WorkColumns, workColumns, gapTable, segmentTable, roomsOf, Roomy, FilledBy}
 use Rattle.filling.proofs.UseFilling.{scales-of}
 use Rattle.filling.proofs.SourceTables.{source-valued, source-gap-room}
 use Rattle.work.specs.FilledFrom.{filledOfBest, IsFilledFrom}
@@ -224,45 +225,42 @@ module _ (c : SourceColumns) (scales : RematScales) (lent : WorkColumns) (w : So
         pub cut-valued : Valued (take segments (c .starts)) (take segments (c .stops)) (take segments (c .values))
         cut-valued = subst (λ (X : Type 0). X) (same (λ g s e v. Valued s e v)) (source-valued source checked (w .sound))
 
-        abbrev lentGaps : GapTables
-        lentGaps =
-            lentTables (lent .froms) (lent .tos) (lent .weights) (lent .lives) (lent .freqs) (lent .segment-froms) (lent .segment-tos) (lent .segment-values)
-            (lent .segment-gaps)
-
-        pub cut-room : GapRoom
-            (gapsOf (blocksIn c) (usesIn (useColumns (take rows (cols .insts)) (take rows (cols .mains)) (take rows (cols .lefts)) (take rows (cols .rights))))
-            b) (take segments (c .starts)) (take segments (c .stops)) (take segments (c .values))
-            (lentTables (lent .froms) (lent .tos) (lent .weights) (lent .lives) (lent .freqs) (lent .segment-froms) (lent .segment-tos) (lent .segment-values)
-            (lent .segment-gaps))
-        cut-room = subst (λ (X : Type 0). X) (same (λ g s e v. GapRoom g s e v lentGaps)) (source-gap-room source checked (w .sound) b b-inside lent roomy)
+        pub cut-room :
+            let gaps = gapsOf (blocksIn c) (usesIn (useColumns (take rows (cols .insts)) (take rows (cols .mains)) (take rows (cols .lefts)) (take rows (cols .rights)))) b in
+            Rows (length gaps) (gapTable lent)
+            × SegmentRoom (length (gapSegmentsOf gaps (take segments (c .starts)) (take segments (c .stops)) (take segments (c .values)))) (segmentTable lent 0)
+        cut-room =
+            subst (λ (X : Type 0). X)
+            (same (λ g s e v. Rows (length g) (gapTable lent) × SegmentRoom (length (gapSegmentsOf g s e v)) (segmentTable lent 0)))
+            (source-gap-room source checked (w .sound) b b-inside lent roomy)
 
         -- ---- after it
-        pub all-filled : (now : GapTables) (n m initial : ℕ)
-            → GapsFilled (gapsOf (blocksIn c)
+        pub all-filled : (now : GapColumns) (now-segments : SegmentColumns) (n initial : ℕ) →
+            let gaps = gapsOf (blocksIn c) (usesIn (useColumns (take rows (cols .insts)) (take rows (cols .mains)) (take rows (cols .lefts)) (take rows (cols .rights)))) b in
+            GapsHeld gaps (take segments (c .starts)) (take segments (c .stops)) (gapTable lent) now n
+            × Filled (gapSegmentsOf gaps (take segments (c .starts)) (take segments (c .stops)) (take segments (c .values))) (segmentTable lent 0) now-segments
+            × (initial ≡ initialGap (blocksIn c)
             (usesIn (useColumns (take rows (cols .insts)) (take rows (cols .mains)) (take rows (cols .lefts)) (take rows (cols .rights)))) b)
-            (take segments (c .starts)) (take segments (c .stops)) (take segments (c .values))
-            (lentTables (lent .froms) (lent .tos) (lent .weights) (lent .lives) (lent .freqs) (lent .segment-froms) (lent .segment-tos) (lent .segment-values)
-            (lent .segment-gaps)) now n m
-            → initial ≡ initialGap (blocksIn c)
-            (usesIn (useColumns (take rows (cols .insts)) (take rows (cols .mains)) (take rows (cols .lefts)) (take rows (cols .rights)))) b
             → IsFilledFrom (sourceIn c scales) lent (workColumns prevs nexts (cols .insts) (cols .mains) (cols .lefts) (cols .rights) (now .froms) (now .tos)
-            (now .weights) (now .lives) (now .freqs) (now .segment-froms) (now .segment-tos) (now .segment-values) (now .segment-gaps))
-            (FilledTables·is.Ready (record { uses = rows; gaps = n; «gap_segments» = m; own = initial }))
-        all-filled now n m initial raw own-raw =
+            (now .weights) (now .lives) (now .freqs) (now-segments .from) (now-segments .to) (now-segments .value) (now-segments .gap))
+            (FilledTables·is.Ready (record { uses = rows; gaps = n; «gap_segments» = now-segments .used; own = initial }))
+        all-filled now now-segments n initial raw =
             let u = done .uses .cols in
-            let d : GapsFilled (gapsFrom source b) (startsOf source) (stopsOf source) (valuesOf source) lentGaps now n m =
-            subst (λ (X : Type 0). X) (sym (same (λ g s e v. GapsFilled g s e v lentGaps now n m))) raw in
-            let own : initial ≡ initialGap (source .blocks) (useTableOf source) b = own-raw
+            let d : GapsHeld (gapsFrom source b) (startsOf source) (stopsOf source) (gapTable lent) now n =
+            subst (λ (X : Type 0). X) (sym (same (λ g s e v. GapsHeld g s e (gapTable lent) now n))) (raw .0) in
+            let f : Filled (segmentsFrom source b) (segmentTable lent 0) now-segments =
+            subst (λ (X : Type 0). X) (sym (same (λ g s e v. Filled (gapSegmentsOf g s e v) (segmentTable lent 0) now-segments))) (raw .1) in
+            let own : initial ≡ initialGap (source .blocks) (useTableOf source) b = raw .2
             ∙ ap (λ (x : List SplitUse). initialGap (blocksIn c) x b) uses-cut in
             let rows-are = done .uses .count in
             let k : BestUse·is.At b ≡ bestOf source = sym best-is in
             record {
               answer =
-                  (λ i. FilledTables·is.Ready (record { uses = rows-are i; gaps = d .count i; «gap_segments» = d .segment-count i; own = own i }))
+                  (λ i. FilledTables·is.Ready (record { uses = rows-are i; gaps = d .count i; «gap_segments» = f .used i; own = own i }))
                   ∙ ap (filledOfBest source) k;
               tables =
                   subst (λ (t : Tables). FilledBy t lent (workColumns prevs nexts (cols .insts) (cols .mains) (cols .lefts) (cols .rights) (now .froms)
-                  (now .tos) (now .weights) (now .lives) (now .freqs) (now .segment-froms) (now .segment-tos) (now .segment-values) (now .segment-gaps)))
+                  (now .tos) (now .weights) (now .lives) (now .freqs) (now-segments .from) (now-segments .to) (now-segments .value) (now-segments .gap)))
                   (ap (tablesOfBest source) k)
                   (record {
                     prev = links-filled Previous (lent .prevs) (done .prev);
@@ -276,9 +274,9 @@ module _ (c : SourceColumns) (scales : RematScales) (lent : WorkColumns) (w : So
                     weight = d .weight;
                     live = d .live;
                     freq = d .freq;
-                    segment-from = d .segment-from;
-                    segment-to = d .segment-to;
-                    segment-value = d .segment-value;
-                    segment-gap = d .segment-gap;
+                    segment-from = f .from;
+                    segment-to = f .to;
+                    segment-value = f .value;
+                    segment-gap = f .gap;
                   });
             }

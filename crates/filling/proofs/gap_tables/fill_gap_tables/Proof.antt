@@ -6,73 +6,73 @@ use borrow.Author.Needs.{needs}
 use Rattle.filling.proofs.gap_tables.fill_gap_tables.Statement.{statement}
 use Rattle.filling.proofs.gap_tables.fill_gap_tables.Tie as tie
 
-slice-aggregate-fill-gaps : tie.Need-slice-aggregate-fill-gaps
-slice-aggregate-fill-gaps c =
+slice-aggregate-build-gaps : tie.Need-slice-aggregate-build-gaps
+slice-aggregate-build-gaps c =
     let a = c .before .before .before .before .before .before .before .before .before .before .before .before .before .before .before .before .before .before
     .before .before .before .before .args in sym (length-take-le (a .rows) (a .inst .now)
     (c .before .before .before .before .before .before .before .before .before .before .before .before .before .before .before .before .before .before .before
     .before .before .before .pre .0 .inst))
 
-slice-aggregate-fill-gaps-2 : tie.Need-slice-aggregate-fill-gaps-2
-slice-aggregate-fill-gaps-2 c =
+slice-aggregate-build-gaps-2 : tie.Need-slice-aggregate-build-gaps-2
+slice-aggregate-build-gaps-2 c =
     let a = c .before .before .before .before .before .before .before .before .before .before .before .before .before .before .before .before .before .before
     .before .before .before .before .before .args in sym (length-take-le (a .rows) (a .weight .now)
     (c .before .before .before .before .before .before .before .before .before .before .before .before .before .before .before .before .before .before .before
     .before .before .before .before .pre .0 .main))
 
-slice-aggregate-fill-gaps-3 : tie.Need-slice-aggregate-fill-gaps-3
-slice-aggregate-fill-gaps-3 c =
+slice-aggregate-build-gaps-3 : tie.Need-slice-aggregate-build-gaps-3
+slice-aggregate-build-gaps-3 c =
     let a = c .before .before .before .before .before .before .before .before .before .before .before .before .before .before .before .before .before .before
     .before .before .before .before .before .before .args in
     sym (length-take-le (a .rows) (a .left-weight .now) (c .before .before .before .before .before .before .before .before .before .before .before .before
     .before .before .before .before .before .before .before .before .before .before .before .before .pre .0 .left))
 
-slice-aggregate-fill-gaps-4 : tie.Need-slice-aggregate-fill-gaps-4
-slice-aggregate-fill-gaps-4 c =
+slice-aggregate-build-gaps-4 : tie.Need-slice-aggregate-build-gaps-4
+slice-aggregate-build-gaps-4 c =
     let a = c .before .before .before .before .before .before .before .before .before .before .before .before .before .before .before .before .before .before
     .before .before .before .before .before .before .before .args in sym
     (length-take-le (a .rows) (a .right-weight .now) (c .before .before .before .before .before .before .before .before .before .before .before .before .before
     .before .before .before .before .before .before .before .before .before .before .before .before .pre .0 .right))
 
-slice-aggregate-fill-gaps-5 : tie.Need-slice-aggregate-fill-gaps-5
-slice-aggregate-fill-gaps-5 c =
+slice-aggregate-build-gaps-5 : tie.Need-slice-aggregate-build-gaps-5
+slice-aggregate-build-gaps-5 c =
     let a = c .before .before .before .before .before .before .before .before .before .before .before .before .before .before .before .before .before .before
     .before .before .before .before .before .before .before .before .args in
     sym (length-take-le (length (a .freq .now)) (a .prev-lower-freq .now)
     (c .before .before .before .before .before .before .before .before .before .before .before .before .before .before .before .before .before .before .before
     .before .before .before .before .before .before .before .pre .0 .prev))
 
-slice-aggregate-fill-gaps-6 : tie.Need-slice-aggregate-fill-gaps-6
-slice-aggregate-fill-gaps-6 c =
+slice-aggregate-build-gaps-6 : tie.Need-slice-aggregate-build-gaps-6
+slice-aggregate-build-gaps-6 c =
     let a = c .before .before .before .before .before .before .before .before .before .before .before .before .before .before .before .before .before .before
     .before .before .before .before .before .before .before .before .before .args in
     sym (length-take-le (length (a .freq .now)) (a .next-lower-freq .now)
     (c .before .before .before .before .before .before .before .before .before .before .before .before .before .before .before .before .before .before .before
     .before .before .before .before .before .before .before .before .pre .0 .next))
 
-slice-aggregate-fill-gaps-7 : tie.Need-slice-aggregate-fill-gaps-7
-slice-aggregate-fill-gaps-7 c =
+slice-aggregate-build-gaps-7 : tie.Need-slice-aggregate-build-gaps-7
+slice-aggregate-build-gaps-7 c =
     let a = c .before .before .before .before .before .before .before .before .before .before .before .before .before .before .before .before .before .before
     .before .before .before .before .before .before .before .before .before .before .args in
     sym (length-take-le (a .segments) (a .start .now) (c .before .before .before .before .before .before .before .before .before .before .before .before .before
     .before .before .before .before .before .before .before .before .before .before .before .before .before .before .before .pre .0 .start))
 
-slice-aggregate-fill-gaps-8 : tie.Need-slice-aggregate-fill-gaps-8
-slice-aggregate-fill-gaps-8 c =
+slice-aggregate-build-gaps-8 : tie.Need-slice-aggregate-build-gaps-8
+slice-aggregate-build-gaps-8 c =
     let a = c .before .before .before .before .before .before .before .before .before .before .before .before .before .before .before .before .before .before
     .before .before .before .before .before .before .before .before .before .before .before .args in
     sym (length-take-le (a .segments) (a .segment-end .now) (c .before .before .before .before .before .before .before .before .before .before .before .before
     .before .before .before .before .before .before .before .before .before .before .before .before .before .before .before .before .before .pre .0 .end))
 
-slice-aggregate-fill-gaps-9 : tie.Need-slice-aggregate-fill-gaps-9
-slice-aggregate-fill-gaps-9 c =
+slice-aggregate-build-gaps-9 : tie.Need-slice-aggregate-build-gaps-9
+slice-aggregate-build-gaps-9 c =
     let a = c .before .before .before .before .before .before .before .before .before .before .before .before .before .before .before .before .before .before
     .before .before .before .before .before .before .before .before .before .before .before .before .args in
     sym (length-take-le (a .segments) (a .value .now) (c .before .before .before .before .before .before .before .before .before .before .before .before .before
     .before .before .before .before .before .before .before .before .before .before .before .before .before .before .before .before .before .pre .0 .value))
 
-fill-gaps-requires : tie.Need-fill-gaps-requires
-fill-gaps-requires c κs = search needs
+build-gaps-requires : tie.Need-build-gaps-requires
+build-gaps-requires c κs = search needs
 
 same-length : tie.Need-same-length
 same-length c = search needs
@@ -108,16 +108,16 @@ pub fill-gap-tables-spec : {M : Type 1} → statement M
 fill-gap-tables-spec =
     tie.close
     (tie.spec
-    slice-aggregate-fill-gaps
-    slice-aggregate-fill-gaps-2
-    slice-aggregate-fill-gaps-3
-    slice-aggregate-fill-gaps-4
-    slice-aggregate-fill-gaps-5
-    slice-aggregate-fill-gaps-6
-    slice-aggregate-fill-gaps-7
-    slice-aggregate-fill-gaps-8
-    slice-aggregate-fill-gaps-9
-    fill-gaps-requires
+    slice-aggregate-build-gaps
+    slice-aggregate-build-gaps-2
+    slice-aggregate-build-gaps-3
+    slice-aggregate-build-gaps-4
+    slice-aggregate-build-gaps-5
+    slice-aggregate-build-gaps-6
+    slice-aggregate-build-gaps-7
+    slice-aggregate-build-gaps-8
+    slice-aggregate-build-gaps-9
+    build-gaps-requires
     same-length
     same-length-2
     same-length-3

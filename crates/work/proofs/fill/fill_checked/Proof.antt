@@ -1,6 +1,7 @@
 -- `fill_checked` fills the uses, then the gaps: what each call relies on, and what is left in the end, is said in proofs/Assembly
 use Rattle.use_rows.specs.UseColumns.{UseColumns, useColumns}
-use Rattle.filling.specs.GapTables.{lentTables}
+use Rattle.overlaps.specs.GapSegments.{segmentColumns}
+use Rattle.gaps.specs.GapColumns.{gapColumns}
 use Rattle.filling.specs.SourceTables.{SourceColumns, sourceColumns, WorkColumns, workColumns}
 use Rattle.work.proofs.Assembly.{prevs-room, nexts-room, uses-room, none-filled, cut-inside, cut-cuttable, cut-valued, cut-room, all-filled}
 use borrow.Author.Needs.{needs}
@@ -265,14 +266,16 @@ same-length-21 c =
 
 returns-2 : tie.Need-returns-2
 returns-2 c =
-    let g =
+    let a =
     c .before .before .before .before .before .before .before .before .before .before .before .before .before .before
     .before .before .before .before in
-    let u = uses-at g in
+    let u = uses-at a in
     let s = begin u in
     let q = s .pre in
     let l = u .fill-uses .last in
-    let m = g .fill-gap-tables .last in
+    let d = a .fill-gap-tables in
+    let g = d .last .1 .1 .1 .1 .1 .1 .1 .1 .1 .1 .1 .1 .1 .1 .1 in
+    let t = g .1 .1 .1 .1 .1 in
     let f =
     c .before .before .before .before .before .before .before .before .before .before .before .before .before .before
     .before .before .before .before .before .before .before .before .before .before .before .before .before .before
@@ -285,13 +288,9 @@ returns-2 c =
     (l .1 .1 .1 .1 .1 .1 .1 .1 .1 .1 .1 .1 .1 .1 .0) (l .1 .1 .1 .1 .1 .1 .1 .1 .1 .1 .1 .1 .1 .1 .1 .0) (cols u) (u .fill-uses .result .rows)
     (u .fill-uses .result .best) (u .fill-uses .ensures)
     (f .0 .0) (f .1) (n .result) (n .ensures)
-    (lentTables (m .1 .1 .1 .1 .1 .1 .1 .1 .1 .1 .1 .1 .1 .1 .1 .0) (m .1 .1 .1 .1 .1 .1 .1 .1 .1 .1 .1 .1 .1 .1 .1 .1 .0)
-    (m .1 .1 .1 .1 .1 .1 .1 .1 .1 .1 .1 .1 .1 .1 .1 .1 .1 .0) (m .1 .1 .1 .1 .1 .1 .1 .1 .1 .1 .1 .1 .1 .1 .1 .1 .1 .1 .0)
-    (m .1 .1 .1 .1 .1 .1 .1 .1 .1 .1 .1 .1 .1 .1 .1 .1 .1 .1 .1 .0)
-    (m .1 .1 .1 .1 .1 .1 .1 .1 .1 .1 .1 .1 .1 .1 .1 .1 .1 .1 .1 .1 .0) (m .1 .1 .1 .1 .1 .1 .1 .1 .1 .1 .1 .1 .1 .1 .1 .1 .1 .1 .1 .1 .1 .0)
-    (m .1 .1 .1 .1 .1 .1 .1 .1 .1 .1 .1 .1 .1 .1 .1 .1 .1 .1 .1 .1 .1 .1 .0) (m .1 .1 .1 .1 .1 .1 .1 .1 .1 .1 .1 .1 .1 .1 .1 .1 .1 .1 .1 .1 .1 .1 .1 .0))
-    (g .fill-gap-tables .result .gaps) (g .fill-gap-tables .result .segments) (g .fill-gap-tables .result .initial) (g .fill-gap-tables .ensures .0)
-    (g .fill-gap-tables .ensures .1)
+    (gapColumns (g .0) (g .1 .0) (g .1 .1 .0) (g .1 .1 .1 .0) (g .1 .1 .1 .1 .0))
+    (segmentColumns (t .0) (t .1 .0) (t .1 .1 .0) (t .1 .1 .1 .0) (d .result .segments))
+    (d .result .gaps) (d .result .initial) (d .ensures)
 
 pub fill-checked-spec : {M : Type 1} → statement M
 fill-checked-spec =

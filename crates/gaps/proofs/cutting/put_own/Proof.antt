@@ -1,0 +1,67 @@
+-- `put_own` stores the gap of one instruction, with the frequency of its block
+use mathlib.Core.Path.{ap, _∙_}
+use native.Mathlib.Omega.{arith}
+use borrow.Author.Needs.{needs}
+use lib.ListN.{length}
+use Prim.Native.Nat.{_+_}
+use Rattle.links.proofs.Columns.{ends-inside}
+use Rattle.numbers.specs.Sum.{plus}
+use Rattle.gaps.specs.Cutting.{cutColumns, withRow}
+use Rattle.gaps.specs.Cutting.{freqIn}
+use Rattle.gaps.proofs.cutting.put_own.Statement.{statement}
+use Rattle.gaps.proofs.cutting.put_own.Tie as tie
+
+block-of-requires : tie.Need-block-of-requires
+block-of-requires c κs = search needs
+
+block-frequency-requires : tie.Need-block-frequency-requires
+block-frequency-requires c κs =
+    let a = c .before .before .before .before .before .before .before .before .args in
+    let h = ends-inside (a .end .now) (length (a .freq .now)) (a .u .inst .0) (c .before .before .before .before .before .before .before .before .pre .0) in
+    let e = c .block-of .ensures in
+    omega (arith, h, e)
+
+add-t15 : tie.Need-add-t15
+add-t15 c = search needs
+
+put-gap-requires : tie.Need-put-gap-requires
+put-gap-requires c κs = search needs
+
+same-length : tie.Need-same-length
+same-length c = search needs
+
+same-length-2 : tie.Need-same-length-2
+same-length-2 c = search needs
+
+same-length-3 : tie.Need-same-length-3
+same-length-3 c = search needs
+
+same-length-4 : tie.Need-same-length-4
+same-length-4 c = search needs
+
+returns : tie.Need-returns
+unfolding plus
+returns c =
+    let at-put-gap = c .before .before .before .before .before .before .before .before in
+    let at-block-frequency = at-put-gap .before .before .before .before .before .before in
+    let at-block-of = at-block-frequency .before in
+    let at-args = at-block-of .before .before .before .before .before .before .before .before in
+    let a = at-args .args in
+    let cols = cutColumns (a .from .now) (a .to .now) (a .weight .now) (a .min-freq .now) in
+    at-put-gap .put-gap .ensures
+    ∙ ap (withRow cols (a .n) (a .u .inst .0) (a .u .inst .0 + 1) (a .u .weight))
+    (at-block-frequency .block-frequency .ensures ∙ ap (freqIn (a .freq .now)) (at-block-of .block-of .ensures))
+
+pub put-own-spec : {M : Type 1} → statement M
+put-own-spec =
+    tie.close
+    (tie.spec
+    block-of-requires
+    block-frequency-requires
+    add-t15
+    put-gap-requires
+    same-length
+    same-length-2
+    same-length-3
+    same-length-4
+    returns)
