@@ -3,6 +3,7 @@ pub mod Cuts
 pub mod StoredGaps
 pub mod Passing
 pub mod Built
+pub mod InTurn
 pub mod Spaces
 pub mod Sides
 pub mod InColumns

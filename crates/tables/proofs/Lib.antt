@@ -1,2 +1,3 @@
--- What each answer says
+-- What each answer says, and that gaps are built and counted in turn
 pub mod Answers
+pub mod InTurn
