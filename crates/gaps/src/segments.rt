@@ -110,12 +110,12 @@ fn pass_gaps(
         × (after ≡ put overlaps lent)) ⌝ }
 {
     let mut g = gap;
-    let mut h = held;
+    let mut count = held;
     let mut n = used;
     while g < from.len() {
         let f = from[g];
         let t = to[g];
-        h += overlap(s.live_from, s.live_to, Inst(f), Inst(t));
+        count += overlap(s.live_from, s.live_to, Inst(f), Inst(t));
         let a = Point(most(s.start.0, 4 * f));
         let e = Point(least(s.end.0, 4 * t));
         n = put_overlap(
@@ -132,17 +132,17 @@ fn pass_gaps(
         if t >= s.live_to.0 {
             return Passed {
                 gap: g,
-                held: h,
+                held: count,
                 used: n,
             };
         }
-        live[g - gap] = h;
-        h = 0;
+        live[g - gap] = count;
+        count = 0;
         g += 1;
     }
     Passed {
         gap: g,
-        held: h,
+        held: count,
         used: n,
     }
 }
@@ -152,11 +152,11 @@ fn put_rest(live: &mut [u32], n: usize, held: u32)
     requires { ⌜ n ≤ length (now live) ⌝ }
     ensures { λ _. ⌜ RowsSet (heldAt held) n (now (live .entry)) (now (live .exit)) ⌝ }
 {
-    let mut h = held;
+    let mut row = held;
     let mut i: usize = 0;
     while i < n {
-        live[i] = h;
-        h = 0;
+        live[i] = row;
+        row = 0;
         i += 1;
     }
 }

@@ -100,25 +100,27 @@ module _ (job : Job) (accepted : Accepted job) (best : ℕ) (h : best < length (
       (now .segment-gaps)
   cut-rows =
       let r = source-gap-room (sourceOfJob job) (accepted .uses) (accepted .blocks) best h lent roomy in
+      let g = r .0 in
+      let t = r .1 in
       record {
         from =
             rows-of n (fromsOf gaps) (lent .froms) (f .from) (gap-count (λ g. g .from))
-            (le-trans (le-of-eq (length-map gaps (λ (g : Gap). g .from))) (r .from));
-        weight = rows-of n (map gapWeight gaps) (lent .weights) (f .weight) (gap-count gapWeight) (le-trans (le-of-eq (length-map gaps gapWeight)) (r .weight));
-        live = rows-of n (livesOfJob job best) (lent .lives) (f .live) lives-count (le-trans (le-of-eq (sym lives-count ∙ n-is)) (r .live));
+            (le-trans (le-of-eq (length-map gaps (λ (g : Gap). g .from))) (g .from));
+        weight = rows-of n (map gapWeight gaps) (lent .weights) (f .weight) (gap-count gapWeight) (le-trans (le-of-eq (length-map gaps gapWeight)) (g .weight));
+        live = rows-of n (livesOfJob job best) (lent .lives) (f .live) lives-count (le-trans (le-of-eq (sym lives-count ∙ n-is)) (g .live));
         freq =
             rows-of n (map (λ (g : Gap). g .freq) gaps) (lent .freqs) (f .freq) (gap-count (λ g. g .freq))
-            (le-trans (le-of-eq (length-map gaps (λ (g : Gap). g .freq))) (r .freq));
+            (le-trans (le-of-eq (length-map gaps (λ (g : Gap). g .freq))) (g .freq));
         segment-from =
             rows-of m (map (λ (s : Overlap). s .from) segments) (lent .segment-froms) (f .segment-from) (segment-count (λ s. s .from))
-            (le-trans (le-of-eq (length-map segments (λ (s : Overlap). s .from))) (r .segment-from));
+            (let e = length-map segments (λ (s : Overlap). s .from) in let a = t .from in omega (arith, e, a));
         segment-to =
             rows-of m (map (λ (s : Overlap). s .to) segments) (lent .segment-tos) (f .segment-to) (segment-count (λ s. s .to))
-            (le-trans (le-of-eq (length-map segments (λ (s : Overlap). s .to))) (r .segment-to));
+            (let e = length-map segments (λ (s : Overlap). s .to) in let a = t .to in omega (arith, e, a));
         segment-value =
             rows-of m (map (λ (s : Overlap). s .value) segments) (lent .segment-values) (f .segment-value) (segment-count (λ s. s .value))
-            (le-trans (le-of-eq (length-map segments (λ (s : Overlap). s .value))) (r .segment-value));
+            (let e = length-map segments (λ (s : Overlap). s .value) in let a = t .value in omega (arith, e, a));
         segment-gap =
             rows-of m (map (λ (s : Overlap). s .gap) segments) (lent .segment-gaps) (f .segment-gap) (segment-count (λ s. s .gap))
-            (le-trans (le-of-eq (length-map segments (λ (s : Overlap). s .gap))) (r .segment-gap));
+            (let e = length-map segments (λ (s : Overlap). s .gap) in let a = t .gap in omega (arith, e, a));
       }

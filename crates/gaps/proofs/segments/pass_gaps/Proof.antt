@@ -16,15 +16,15 @@ use Rattle.gaps.proofs.segments.pass_gaps.Statement.{statement}
 use Rattle.gaps.proofs.segments.pass_gaps.Tie as tie
 
 abbrev Inv-loop : tie.InvT-loop
-Inv-loop from to live₀ s segment-from₀ segment-to₀ segment-value₀ segment-gap₀ gap held used g₀ h₀ n₀ live segment-from segment-to segment-value segment-gap g h n =
+Inv-loop from to live₀ s segment-from₀ segment-to₀ segment-value₀ segment-gap₀ gap held used g₀ count₀ n₀ live segment-from segment-to segment-value segment-gap g count n =
     EndedBy from to (s .end .0) g
     × Left (fromOn (overlapWith from to (s .start .0) (s .end .0) (s .value .0)) (length from) g)
     (overlapsOf from to (s .start .0) (s .end .0) (s .value .0)) (segmentColumns segment-from₀ segment-to₀ segment-value₀ segment-gap₀ used)
     (segmentColumns segment-from segment-to segment-value segment-gap n)
-    × Come from to s gap held live₀ live g h
+    × Come from to s gap held live₀ live g count
 
 abbrev μ-loop : tie.MeasureT-loop
-μ-loop from to live₀ s segment-from₀ segment-to₀ segment-value₀ segment-gap₀ gap held used g₀ h₀ n₀ live segment-from segment-to segment-value segment-gap g h n =
+μ-loop from to live₀ s segment-from₀ segment-to₀ segment-value₀ segment-gap₀ gap held used g₀ count₀ n₀ live segment-from segment-to segment-value segment-gap g count n =
     length from - g
 
 abbrev begin : tie.In-loop Inv-loop μ-loop → tie.Start Inv-loop μ-loop
@@ -78,14 +78,14 @@ left c =
 come : (l : tie.In-loop Inv-loop μ-loop) →
     let a = begin l .args in
     let p = l .before .loop in
-    Come (a .from .now) (a .to .now) (a .s) (a .gap) (a .held) (a .live .now) (p .live) (p .g) (p .h)
+    Come (a .from .now) (a .to .now) (a .s) (a .gap) (a .held) (a .live .now) (p .live) (p .g) (p .count)
 come l = l .before .loop .inv .2
 
 counted : (c : tie.After-overlap Inv-loop μ-loop) →
     let l = c .before .before .before in
     let a = begin l .args in
-    l .before .loop .h + c .overlap .result ≡ l .before .loop .h + liveIn (a .s) (a .from .now) (a .to .now) (l .before .loop .g)
-counted c = ap (λ (x : ℕ). c .before .before .before .before .loop .h + x) (c .overlap .ensures)
+    l .before .loop .count + c .overlap .result ≡ l .before .loop .count + liveIn (a .s) (a .from .now) (a .to .now) (l .before .loop .g)
+counted c = ap (λ (x : ℕ). c .before .before .before .before .loop .count + x) (c .overlap .ensures)
 
 loop-holds : tie.Need-loop-holds Inv-loop μ-loop
 loop-holds c =
@@ -115,8 +115,8 @@ shared-slice-read-t c = let l = c .before .before in let e = begin l .pre .0 .0 
 overlap-requires : tie.Need-overlap-requires Inv-loop μ-loop
 overlap-requires c κs = tt
 
-add-h : tie.Need-add-h Inv-loop μ-loop
-add-h c =
+add-count : tie.Need-add-count Inv-loop μ-loop
+add-count c =
     let l = c .before .before .before in
     let a = begin l .args in
     let p = begin l .pre .0 .1 in
@@ -187,7 +187,7 @@ returns c =
     let e = s .pre .0 .1 .end in
     let t = c .if1 .taken in (
       p .inv .0,
-      come-ends (a .from .now) (a .to .now) (a .s) (a .gap) (a .held) (a .live .now) (p .live) (p .g) (p .h) (come l) _
+      come-ends (a .from .now) (a .to .now) (a .s) (a .gap) (a .held) (a .live .now) (p .live) (p .g) (p .count) (come l) _
           (counted (d .before .before))
           (λ k h. none-later (a .from .now) (a .to .now) gaps (a .s .«live_from» .0) (a .s .«live_to» .0) (p .g) t k (omega (arith, h))),
       left-none
@@ -236,7 +236,7 @@ loop-again c =
         ended = below-more _ _ (p .inv .0 .ended) (let t = c .if1 .left in omega (arith, t, e));
       },
       left (passed c),
-      come-next (a .from .now) (a .to .now) (a .s) (a .gap) (a .held) (a .live .now) (p .live) (p .g) (p .h) (come l) _ (row-inside l)
+      come-next (a .from .now) (a .to .now) (a .s) (a .gap) (a .held) (a .live .now) (p .live) (p .g) (p .count) (come l) _ (row-inside l)
           (counted (d .before .before)),
     )
 
@@ -261,7 +261,7 @@ returns-2 c =
     let a = s .args in
     let p = c .before .loop in (
       p .inv .0,
-      come-through (a .from .now) (a .to .now) (a .s) (a .gap) (a .held) (a .live .now) (p .live) (p .g) (p .h) (p .inv .2) (s .pre .0 .0) (c .loop-test .left),
+      come-through (a .from .now) (a .to .now) (a .s) (a .gap) (a .held) (a .live .now) (p .live) (p .g) (p .count) (p .inv .2) (s .pre .0 .0) (c .loop-test .left),
       left-none (fromOn (lists s) (length (a .from .now)) (p .g)) (all s) (lent s) _
           (fromOn-end (lists s) (length (a .from .now)) (p .g) (c .loop-test .left)) (p .inv .1),
     )
@@ -278,7 +278,7 @@ pass-gaps-spec =
     mul-t
     shared-slice-read-t
     overlap-requires
-    add-h
+    add-count
     mul-most
     most-requires
     mul-least

@@ -10,10 +10,10 @@ use Rattle.gaps.proofs.segments.put_rest.Statement.{statement}
 use Rattle.gaps.proofs.segments.put_rest.Tie as tie
 
 abbrev Inv-loop : tie.InvT-loop
-Inv-loop live₀ n held h₀ i₀ live h i = RowsSet (heldAt held) i live₀ live × (h ≡ heldAt held i) × (i ≤ n)
+Inv-loop live₀ n held row₀ i₀ live row i = RowsSet (heldAt held) i live₀ live × (row ≡ heldAt held i) × (i ≤ n)
 
 abbrev μ-loop : tie.MeasureT-loop
-μ-loop live₀ n held h₀ i₀ live h i = n - i
+μ-loop live₀ n held row₀ i₀ live row i = n - i
 
 loop-holds : tie.Need-loop-holds Inv-loop μ-loop
 loop-holds c = (set-none _ _, refl, omega arith)
@@ -39,7 +39,7 @@ loop-again c =
     let p = c .before .loop in
     let h = c .loop-test .taken in
     let n : p .i + 1 ≡ suc (p .i) = omega arith in
-    (set-next _ (a .live .now) (p .i) (p .live) (p .h) (p .inv .0) (inside c) (p .inv .1), ap (heldAt (a .held)) (sym n), omega (arith, h))
+    (set-next _ (a .live .now) (p .i) (p .live) (p .row) (p .inv .0) (inside c) (p .inv .1), ap (heldAt (a .held)) (sym n), omega (arith, h))
 
 same-length : tie.Need-same-length Inv-loop μ-loop
 same-length c = c .before .loop .inv .0 .long
