@@ -121,8 +121,7 @@ module _ (source : Source) (checked : CheckedUses source) (sound : SoundBlocks (
         let gap-lengths = length (lent .froms) ∷ length (lent .tos) ∷ length (lent .weights) ∷ length (lent .lives) ∷ length (lent .freqs) ∷ [] in
         let segment-lengths = length (lent .segment-froms) ∷ length (lent .segment-tos) ∷ length (lent .segment-values) ∷ length (lent .segment-gaps) ∷ [] in
         let g = le-trans source-gaps-few (roomy .gaps) in
-        let s = le-trans source-segments-few (roomy .gap-segments) in
-        (
+        let s = le-trans source-segments-few (roomy .gap-segments) in (
           record {
             from = le-trans g (shortest-at-most gap-lengths 0 (omega arith));
             to = le-trans g (shortest-at-most gap-lengths 1 (omega arith));

@@ -1,7 +1,6 @@
 -- Why the gaps are right
 pub mod Cuts
 pub mod StoredGaps
-pub mod Passing
 pub mod Built
 pub mod InTurn
 pub mod Spaces

@@ -2,6 +2,7 @@
 pub mod CheckedSegments
 pub mod LiveLaws
 pub mod GapRows
+pub mod PassingLaws
 pub mod GapCount
 pub mod LiveCases
 pub mod LiveTotal

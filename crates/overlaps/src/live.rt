@@ -7,20 +7,20 @@ ghost use Rattle.numbers.specs.Point.{instOf, roundUp};
 ghost use Rattle.overlaps.specs.Live.{Segments, liveInsts, overlap};
 
 // The larger of two numbers, and the smaller.
-pub fn most(a: u32, b: u32) -> u32
+pub(crate) fn most(a: u32, b: u32) -> u32
     ensures { λ r. ⌜ r ≡ max a b ⌝ }
 {
     if a < b { b } else { a }
 }
 
-pub fn least(a: u32, b: u32) -> u32
+pub(crate) fn least(a: u32, b: u32) -> u32
     ensures { λ r. ⌜ r ≡ min a b ⌝ }
 {
     if b < a { b } else { a }
 }
 
 // Where the live instructions of a segment begin. An instruction that it shares with the segment before counts there alone.
-pub fn live_from(last: Inst, start: Point) -> Inst
+pub(crate) fn live_from(last: Inst, start: Point) -> Inst
     ensures { λ r. ⌜ r .0 ≡ max (last .0) (instOf (start .0)) ⌝ }
 {
     let first = start.inst();
@@ -28,7 +28,7 @@ pub fn live_from(last: Inst, start: Point) -> Inst
 }
 
 // Where they end.
-pub fn live_to(end: Point) -> Inst
+pub(crate) fn live_to(end: Point) -> Inst
     ensures { λ r. ⌜ r .0 ≡ roundUp (end .0) ⌝ }
 {
     end.round_to_next_inst()
@@ -53,7 +53,7 @@ pub fn live_insts(start: &[u32], end: &[u32]) -> u32
 }
 
 // How many of the instructions from a to before e lie from `from` to before `to`.
-pub fn overlap(a: Inst, e: Inst, from: Inst, to: Inst) -> u32
+pub(crate) fn overlap(a: Inst, e: Inst, from: Inst, to: Inst) -> u32
     ensures { λ r. ⌜ r ≡ overlap (a .0) (e .0) (from .0) (to .0) ⌝ }
 {
     let first = most(a.0, from.0);

@@ -2,42 +2,40 @@
 use mathlib.Core.Path.{ap₂}
 use Prim.Native.Nat.{ℕ}
 use Rattle.gaps.specs.Cutting.{cutColumns, withRow}
+use native.Mathlib.Omega.{arith}
 use borrow.Author.Needs.{needs}
 use Rattle.gaps.proofs.cutting.put_gap.Statement.{statement}
 use Rattle.gaps.proofs.cutting.put_gap.Tie as tie
-use Rattle.gaps.proofs.cutting.put_gap.Reads as reads
-use Rattle.gaps.proofs.cutting.put_gap.Lts as lts
-use Rattle.gaps.proofs.cutting.on_side.Reads as on-side-reads
 
 on-side-requires : tie.Need-on-side-requires
-on-side-requires c κs = search needs
+on-side-requires c κs = tt
 
 on-side-requires-2 : tie.Need-on-side-requires-2
-on-side-requires-2 c κs = search needs
+on-side-requires-2 c κs = tt
 
 mul-from : tie.Need-mul-from
-mul-from c = search needs
+mul-from c = omega arith
 
 slice-write-from : tie.Need-slice-write-from
-slice-write-from c = search needs
+slice-write-from c = omega arith
 
 mul-to : tie.Need-mul-to
-mul-to c = search needs
+mul-to c = omega arith
 
 slice-write-to : tie.Need-slice-write-to
-slice-write-to c = search needs
+slice-write-to c = omega arith
 
 mul-weight : tie.Need-mul-weight
-mul-weight c = search needs
+mul-weight c = omega arith
 
 slice-write-weight : tie.Need-slice-write-weight
-slice-write-weight c = search needs
+slice-write-weight c = omega arith
 
 mul-freq : tie.Need-mul-freq
-mul-freq c = search needs
+mul-freq c = omega arith
 
 slice-write-freq : tie.Need-slice-write-freq
-slice-write-freq c = search needs
+slice-write-freq c = omega arith
 
 same-length : tie.Need-same-length
 same-length c = search needs

@@ -13,9 +13,9 @@ use Rattle.overlaps.specs.Live.{liveColumn}
 use Rattle.overlaps.specs.GapSegments.{Overlap, overlapsOf, gapSegments, EndedBy, SegmentColumns, segmentColumns, put, SegmentRoom, Filled}
 use Rattle.overlaps.proofs.LiveLaws.{lastOf, last-next}
 use Rattle.overlaps.proofs.GapRows.{Left, left-all, left-none, next-room, next-left, all-filled}
-use Rattle.gaps.specs.Passing.{segmentOf, Passing, CountedIn}
-use Rattle.gaps.proofs.Passing.{Sofar, sofar-none, sofar-room, rest-room, comes, sofar-next, sofar-all, rest, back, back-long}
-use Rattle.gaps.specs.declared.segments.LiveSegment.{LiveSegment}
+use Rattle.overlaps.specs.Passing.{segmentOf, Passing, CountedIn}
+use Rattle.overlaps.proofs.PassingLaws.{Sofar, sofar-none, sofar-room, rest-room, comes, sofar-next, sofar-all, rest, back, back-long}
+use Rattle.overlaps.specs.declared.passing.LiveSegment.{LiveSegment}
 use Rattle.gaps.proofs.segments.fill_segments.Statement.{statement}
 use Rattle.gaps.proofs.segments.fill_segments.Tie as tie
 

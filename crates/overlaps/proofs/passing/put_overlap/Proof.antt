@@ -1,10 +1,10 @@
 -- `put_overlap` stores one row or none
 use native.Mathlib.Omega.{arith}
 use borrow.Author.Needs.{needs}
 use Rattle.overlaps.specs.GapSegments.{segmentColumns, SegmentRoom}
 use Rattle.overlaps.proofs.GapRows.{put-some, put-none, room-one}
-use Rattle.gaps.proofs.segments.put_overlap.Statement.{statement}
-use Rattle.gaps.proofs.segments.put_overlap.Tie as tie
+use Rattle.overlaps.proofs.passing.put_overlap.Statement.{statement}
+use Rattle.overlaps.proofs.passing.put_overlap.Tie as tie
 
 room : (c : tie.Else1) → let a =
     c .before .before .before .args in
@@ -22,25 +22,25 @@ returns c =
     (segmentColumns (a .segment-from .now) (a .segment-to .now) (a .segment-value .now) (a .segment-gap .now) (a .used)) (c .if1 .taken)
 
 mul-segment-from : tie.Need-mul-segment-from
-mul-segment-from c = search needs
+mul-segment-from c = omega arith
 
 slice-write-segment-from : tie.Need-slice-write-segment-from
 slice-write-segment-from c = let h = room c .from in omega (arith, h)
 
 mul-segment-to : tie.Need-mul-segment-to
-mul-segment-to c = search needs
+mul-segment-to c = omega arith
 
 slice-write-segment-to : tie.Need-slice-write-segment-to
 slice-write-segment-to c = let h = room c .to in omega (arith, h)
 
 mul-segment-value : tie.Need-mul-segment-value
-mul-segment-value c = search needs
+mul-segment-value c = omega arith
 
 slice-write-segment-value : tie.Need-slice-write-segment-value
 slice-write-segment-value c = let h = room c .value in omega (arith, h)
 
 mul-segment-gap : tie.Need-mul-segment-gap
-mul-segment-gap c = search needs
+mul-segment-gap c = omega arith
 
 slice-write-segment-gap : tie.Need-slice-write-segment-gap
 slice-write-segment-gap c = let h = room c .gap in omega (arith, h)

@@ -1,12 +1,12 @@
 -- `segment_at` reads a row of the segments, and gives it its live instructions
 use lib.ListN.{getD}
 use borrow.Author.Needs.{needs}
-use Rattle.gaps.proofs.segments.segment_at.Statement.{statement}
-use Rattle.gaps.proofs.segments.segment_at.Tie as tie
-use Rattle.gaps.proofs.segments.segment_at.Reads as reads
-use Rattle.gaps.proofs.segments.segment_at.Lts as lts
+use Rattle.overlaps.proofs.passing.segment_at.Statement.{statement}
+use Rattle.overlaps.proofs.passing.segment_at.Tie as tie
+use Rattle.overlaps.proofs.passing.segment_at.Reads as reads
+use Rattle.overlaps.proofs.passing.segment_at.Lts as lts
 use Rattle.overlaps.proofs.live.live_from.Reads as live-from-reads
 use Rattle.overlaps.proofs.live.live_to.Reads as live-to-reads
 
 -- src/segments.rt:62:19
 mul-t11 : tie.Need-mul-t11

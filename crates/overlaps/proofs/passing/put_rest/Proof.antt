@@ -4,10 +4,10 @@ use Prim.Native.Nat.{ℕ, suc, _+_, _-_, _≤_, _<_}
 use native.Mathlib.Omega.{arith}
 use borrow.Author.Needs.{needs}
 use lib.ListN.{length}
-use Rattle.gaps.specs.Passing.{heldAt, RowsSet}
-use Rattle.gaps.proofs.Passing.{set-none, set-next}
-use Rattle.gaps.proofs.segments.put_rest.Statement.{statement}
-use Rattle.gaps.proofs.segments.put_rest.Tie as tie
+use Rattle.overlaps.specs.Passing.{heldAt, RowsSet}
+use Rattle.overlaps.proofs.PassingLaws.{set-none, set-next}
+use Rattle.overlaps.proofs.passing.put_rest.Statement.{statement}
+use Rattle.overlaps.proofs.passing.put_rest.Tie as tie
 
 abbrev Inv-loop : tie.InvT-loop
 Inv-loop live₀ n held row₀ i₀ live row i = RowsSet (heldAt held) i live₀ live × (row ≡ heldAt held i) × (i ≤ n)

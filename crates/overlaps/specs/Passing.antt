@@ -1,13 +1,13 @@
--- For contracts of private functions: segments that pass the gaps, in which their live instructions are counted
+-- Segments that pass the gaps, in which their live instructions are counted
 use mathlib.Core.Path.{_≡_}
 use Prim.Native.Nat.{ℕ, zero, suc, _+_, _-_, _≤_, _<_, max}
 use mathlib.Core.List.{List}
 use lib.ListN.{length, getD}
 use Rattle.numbers.specs.Point.{instOf, roundUp}
 use Rattle.links.specs.Blocks.{endLimit}
 use Rattle.overlaps.specs.Live.{overlap}
 use Rattle.overlaps.specs.GapSegments.{EndedBy}
-use Rattle.gaps.specs.declared.segments.LiveSegment.{LiveSegment}
+use Rattle.overlaps.specs.declared.passing.LiveSegment.{LiveSegment}
 
 -- segment i, behind live instructions that end at `last`
 abbrev pub segmentOf : List ℕ → List ℕ → List ℕ → ℕ → ℕ → LiveSegment

@@ -14,13 +14,13 @@ use Rattle.columns.specs.Below.{sumBelow}
 use Rattle.columns.proofs.Firsts.{split}
 use Rattle.columns.proofs.Tables.{filled-is}
 use Rattle.jobs.proofs.Walk.{before-next}
 use Rattle.overlaps.specs.Live.{liveFrom, liveTo, liveOf, Segments, liveAdded, liveInGap, liveColumn, Gaps}
 use Rattle.overlaps.specs.GapSegments.{EndedBy}
 use Rattle.overlaps.proofs.LiveLaws.{sum-next, sum-at-most, sum-none, lastOf, last-next, live-order, live-inside, live-before}
 use Rattle.overlaps.proofs.LiveLaws.{overlap-few, none-before, none-there, none-later}
 use Rattle.overlaps.proofs.GapRows.{behind-later}
-use Rattle.gaps.specs.Passing.{segmentOf, Passing, liveIn, heldAt, RowsSet, CountedIn}
-use Rattle.gaps.specs.declared.segments.LiveSegment.{LiveSegment}
+use Rattle.overlaps.specs.Passing.{segmentOf, Passing, liveIn, heldAt, RowsSet, CountedIn}
+use Rattle.overlaps.specs.declared.passing.LiveSegment.{LiveSegment}
 
 -- ---- rows set one after the other
 module _ (row : ℕ → ℕ) (lent : List ℕ) where

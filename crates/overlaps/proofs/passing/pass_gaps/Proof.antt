@@ -6,14 +6,14 @@ use mathlib.Core.List.{List}
 use borrow.Author.Count.{below-more}
 use borrow.Author.Needs.{needs}
 use lib.ListN.{length, getD}
 use Rattle.overlaps.specs.GapSegments.{Overlap, nonempty, overlapWith, overlapsOf, EndedBy, SegmentColumns, segmentColumns, put, SegmentRoom}
 use Rattle.overlaps.proofs.GapRows.{Left, left-all, left-none, next-room, next-left, overlaps-from, overlaps-end, gap-number, behind-later}
 use Rattle.overlaps.proofs.LiveLaws.{overlap-few, none-later}
 use Rattle.columns.proofs.Joining.{fromOn, fromOn-end}
-use Rattle.gaps.specs.Passing.{liveIn}
-use Rattle.gaps.proofs.Passing.{Come, come-first, come-next, come-ends, come-through, held-few}
-use Rattle.gaps.proofs.segments.pass_gaps.Statement.{statement}
-use Rattle.gaps.proofs.segments.pass_gaps.Tie as tie
+use Rattle.overlaps.specs.Passing.{liveIn}
+use Rattle.overlaps.proofs.PassingLaws.{Come, come-first, come-next, come-ends, come-through, held-few}
+use Rattle.overlaps.proofs.passing.pass_gaps.Statement.{statement}
+use Rattle.overlaps.proofs.passing.pass_gaps.Tie as tie
 
 abbrev Inv-loop : tie.InvT-loop
 Inv-loop from to live₀ s segment-from₀ segment-to₀ segment-value₀ segment-gap₀ gap held used g₀ count₀ n₀ live segment-from segment-to segment-value segment-gap g count n =
