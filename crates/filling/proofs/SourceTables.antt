@@ -23,7 +23,8 @@ use Rattle.overlaps.proofs.GapCount.{gap-segments-few}
 use Rattle.gaps.specs.Gaps.{Gap}
 use Rattle.gaps.proofs.JobGaps.{job-gaps-few, job-gaps-tile, job-live-total}
 use Rattle.gaps.specs.GapColumns.{fromsOf, tosOf, Rows}
-use Rattle.filling.specs.SourceTables.{startsOf, stopsOf, valuesOf, gapsFrom, livesFrom, segmentsFrom, WorkColumns, gapTable, segmentTable, roomsOf, Roomy}
+use Rattle.filling.specs.SourceTables.{startsOf, stopsOf, valuesOf, gapsFrom, livesFrom, segmentsFrom}
+use Rattle.filling.specs.SourceTables.{WorkColumns, gapTable, segmentTable, roomsOf, Roomy}
 
 module _ (source : Source) (checked : CheckedUses source) (sound : SoundBlocks (source .blocks)) where
   -- ---- its segments

@@ -16,11 +16,11 @@ use Rattle.columns.proofs.Tables.{filled-is}
 use Rattle.jobs.proofs.Walk.{before-next}
 use Rattle.overlaps.specs.Live.{liveFrom, liveTo, liveOf, Segments, liveAdded, liveInGap, liveColumn, Gaps}
 use Rattle.overlaps.specs.GapSegments.{EndedBy}
-use Rattle.overlaps.proofs.LiveLaws.{sum-next, sum-at-most, sum-none, lastOf, last-next, live-order, live-inside, live-before}
-use Rattle.overlaps.proofs.LiveLaws.{overlap-few, none-before, none-there, none-later}
+use Rattle.overlaps.proofs.LiveLaws.{sum-next, sum-at-most, lastOf, live-order, live-inside, live-before}
+use Rattle.overlaps.proofs.LiveLaws.{overlap-few, none-before, none-there}
 use Rattle.overlaps.proofs.GapRows.{behind-later}
-use Rattle.overlaps.specs.Passing.{segmentOf, Passing, liveIn, heldAt, RowsSet, CountedIn}
-use Rattle.overlaps.specs.declared.passing.LiveSegment.{LiveSegment}
+use Rattle.overlaps.specs.Passing.{passingSegment, Passing, liveIn, heldAt, RowsSet, CountedIn}
+use Rattle.overlaps.specs.declared.passing.PassingSegment.{PassingSegment}
 
 -- ---- rows set one after the other
 module _ (row : ℕ → ℕ) (lent : List ℕ) where
@@ -44,7 +44,7 @@ held-few held zero = le-refl held
 held-few held (suc k) = zero-le
 
 -- ---- a segment in the gaps, from one on
-module _ (froms tos : List ℕ) (s : LiveSegment) (gap held : ℕ) (lent : List ℕ) where
+module _ (froms tos : List ℕ) (s : PassingSegment) (gap held : ℕ) (lent : List ℕ) where
   abbrev row : ℕ → ℕ
   row k = heldAt held k + liveIn s froms tos (gap + k)
 
@@ -151,6 +151,15 @@ module _ (starts ends values froms tos lent now : List ℕ) (at held i : ℕ) (s
   pub rest-room : length froms ≤ at + length (rest at now)
   rest-room = let r = rest-long at now in let c = w .passed .long in omega (arith, r, c, room)
 
+  -- a row of the rest is one of the column, when it is lent on and when it is back
+  rest-of : (g : ℕ) → at ≤ g → getD (rest at now) (g - at) 0 ≡ getD now g 0
+  rest-of g l = let e : at + (g - at) ≡ g = omega (arith, l) in rest-at at now (g - at) ∙ ap (λ (k : ℕ). getD now k 0) e
+
+  back-at : (after : List ℕ) → length after ≡ length (rest at now) → (g : ℕ) → at ≤ g → getD (back at now after) g 0 ≡ getD after (g - at) 0
+  back-at after long g l =
+      let e : at + (g - at) ≡ g = omega (arith, l) in
+      ap (λ (k : ℕ). getD (back at now after) k 0) (sym e) ∙ back-from at now after sofar-room long (g - at)
+
   -- what is counted of a gap from `at` on before the next segment comes
   held-is : (k : ℕ) → heldAt held k ≡ sumBelow (adds (at + k)) i
   held-is zero = let z : at ≡ at + 0 = omega arith in w .holds ∙ ap (λ (g : ℕ). sumBelow (adds g) i) z
@@ -160,8 +169,8 @@ module _ (starts ends values froms tos lent now : List ℕ) (at held i : ℕ) (s
   held-at g l = let e : at + (g - at) ≡ g = omega (arith, l) in held-is (g - at) ∙ ap (λ (k : ℕ). sumBelow (adds k) i) e
 
   module _ (h : i < length starts) where
-    abbrev s : LiveSegment
-    s = segmentOf starts ends values i (lastOf ends i)
+    abbrev s : PassingSegment
+    s = passingSegment starts ends values i (lastOf ends i)
 
     from-last : lastOf ends i ≤ liveFrom starts ends i
     from-last = later (lastOf ends i) (instOf (getD starts i 0))
@@ -170,7 +179,7 @@ module _ (starts ends values froms tos lent now : List ℕ) (at held i : ℕ) (s
         later x y = omega arith
 
     -- the next segment comes to that gap
-    pub comes : Passing froms tos (segmentOf starts ends values i (lastOf ends i)) at held
+    pub comes : Passing froms tos (passingSegment starts ends values i (lastOf ends i)) at held
     comes =
         record {
           nonempty = segments .nonempty i h;
@@ -180,22 +189,19 @@ module _ (starts ends values froms tos lent now : List ℕ) (at held i : ℕ) (s
           ended = behind-later froms tos (rowBefore ends 0 i) (getD starts i 0) at (segments .after i h) (w .ended);
           before =
               let a = w .holds in
-              let m = sum-at-most (adds at) (liveOf starts ends) i (λ j _. overlap-few (liveFrom starts ends j) (liveTo ends j) (getD froms at 0) (getD tos at 0)) in
+              let m = sum-at-most (adds at) (liveOf starts ends) i
+              (λ j _. overlap-few (liveFrom starts ends j) (liveTo ends j) (getD froms at 0) (getD tos at 0)) in
               let b = live-before starts ends segments i (omega (arith, h)) in
               let f = from-last in
               omega (arith, a, m, b, f);
         }
 
     -- and is counted in all gaps as it is in the rest of them
-    module _ (at' held' : ℕ) (after : List ℕ) (c : CountedIn froms tos (segmentOf starts ends values i (lastOf ends i)) at held (rest at now) after at' held')
+    module _ (at' held' : ℕ) (after : List ℕ) (c : CountedIn froms tos (passingSegment starts ends values i (lastOf ends i))
+        at held (rest at now) after at' held')
         (ended : EndedBy froms tos (getD ends i 0) at') where
       next-sum : (g : ℕ) → sumBelow (adds g) (i + 1) ≡ sumBelow (adds g) i + liveIn s froms tos g
       next-sum g = sum-next (adds g) i
-
-      whole-at : (g : ℕ) → at ≤ g → getD (back at now after) g 0 ≡ getD after (g - at) 0
-      whole-at g l =
-          let e : at + (g - at) ≡ g = omega (arith, l) in
-          ap (λ (k : ℕ). getD (back at now after) k 0) (sym e) ∙ back-from at now after sofar-room (c .passed .long) (g - at)
 
       row-at : (g : ℕ) → g < at' → getD (back at now after) g 0 ≡ sumBelow (adds g) (i + 1)
       row-at g l =
@@ -206,11 +212,13 @@ module _ (starts ends values froms tos lent now : List ℕ) (at held i : ℕ) (s
           let z = next-sum g in
           let p = w .ended .ended g m in
           let f = from-last in
-          let t = none-before (liveFrom starts ends i) (liveTo ends i) (getD froms g 0) (getD tos g 0) (le-trans (rounded (getD tos g 0) (rowBefore ends 0 i) p) f) in
+          let t = none-before (liveFrom starts ends i) (liveTo ends i) (getD froms g 0) (getD tos g 0)
+          (le-trans (rounded (getD tos g 0) (rowBefore ends 0 i) p) f) in
           omega (arith, x, y, z, t))
           (λ m.
           let e : at + (g - at) ≡ g = omega (arith, m) in
-          whole-at g m ∙ c .passed .rows (g - at) (omega (arith, l, m)) ∙ ap₂ (λ (a b : ℕ). a + liveIn s froms tos b) (held-at g m) e ∙ sym (next-sum g))
+          back-at after (c .passed .long) g m ∙ c .passed .rows (g - at) (omega (arith, l, m))
+          ∙ ap₂ (λ (a b : ℕ). a + liveIn s froms tos b) (held-at g m) e ∙ sym (next-sum g))
           (split g at)
         where
           rounded : (t p : ℕ) → 4 * t ≤ p → t ≤ roundUp p
@@ -224,16 +232,13 @@ module _ (starts ends values froms tos lent now : List ℕ) (at held i : ℕ) (s
                 record {
                   long = back-long at now after sofar-room (c .passed .long) ∙ w .passed .long;
                   rows = row-at;
-                  others = λ g l. whole-at g (le-trans o l) ∙ c .passed .others (g - at) (omega (arith, l, o))
+                  others = λ g l. back-at after (c .passed .long) g (le-trans o l) ∙ c .passed .others (g - at) (omega (arith, l, o))
                       ∙ rest-of g (le-trans o l) ∙ w .passed .others g (le-trans o l);
                 };
             holds = c .holds ∙ ap (λ (a : ℕ). a + liveIn s froms tos at') (held-at at' o) ∙ sym (next-sum at');
             none = λ g l. let a = w .none g (omega (arith, l, o)) in let b = c .none g l in let z = next-sum g in omega (arith, a, b, z);
             ended = behind-later froms tos (getD ends i 0) (rowBefore ends 0 (i + 1)) at' (le-of-eq (before-next ends 0 i)) ended;
           }
-        where
-          rest-of : (g : ℕ) → at ≤ g → getD (rest at now) (g - at) 0 ≡ getD now g 0
-          rest-of g l = let e : at + (g - at) ≡ g = omega (arith, l) in rest-at at now (g - at) ∙ ap (λ (k : ℕ). getD now k 0) e
 
   -- after all segments and with the rest set, the column holds the live instructions of each gap
   pub sofar-all : i ≡ length starts → (after : List ℕ) → RowsSet (heldAt held) (length froms - at) (rest at now) after
@@ -243,20 +248,12 @@ module _ (starts ends values froms tos lent now : List ℕ) (at held i : ℕ) (s
       (back-long at now after sofar-room (r .long) ∙ w .passed .long)
       (λ g h. ⊎-elim
       (λ m. back-before at now after sofar-room (r .long) g m ∙ w .passed .rows g m ∙ whole g)
-      (λ m. back-at g m ∙ r .rows (g - at) (omega (arith, h, m)) ∙ held-at g m ∙ whole g)
+      (λ m. back-at after (r .long) g m ∙ r .rows (g - at) (omega (arith, h, m)) ∙ held-at g m ∙ whole g)
       (split g at))
       (λ g h.
       let a = w .ended .inside in
       let m : at ≤ g = omega (arith, a, h) in
-      back-at g m ∙ r .others (g - at) (omega (arith, h, a)) ∙ rest-of g m ∙ w .passed .others g m)
+      back-at after (r .long) g m ∙ r .others (g - at) (omega (arith, h, a)) ∙ rest-of g m ∙ w .passed .others g m)
     where
       whole : (g : ℕ) → sumBelow (adds g) i ≡ sumBelow (adds g) (length starts)
       whole g = ap (sumBelow (adds g)) e
-
-      back-at : (g : ℕ) → at ≤ g → getD (back at now after) g 0 ≡ getD after (g - at) 0
-      back-at g l =
-          let e : at + (g - at) ≡ g = omega (arith, l) in
-          ap (λ (k : ℕ). getD (back at now after) k 0) (sym e) ∙ back-from at now after sofar-room (r .long) (g - at)
-
-      rest-of : (g : ℕ) → at ≤ g → getD (rest at now) (g - at) 0 ≡ getD now g 0
-      rest-of g l = let e : at + (g - at) ≡ g = omega (arith, l) in rest-at at now (g - at) ∙ ap (λ (k : ℕ). getD now k 0) e

@@ -90,7 +90,7 @@ pub record Filled (rows : List Overlap) (lent now : SegmentColumns) : Type 0 whe
   pub value : now .value ≡ filled (map (λ (r : Overlap). r .value) rows) (lent .value)
   pub gap : now .gap ≡ filled (map (λ (r : Overlap). r .gap) rows) (lent .gap)
 
--- ---- for contracts of private functions
+-- ---- for functions on the way
 -- the gaps before gap g end by a point
 pub record EndedBy (froms tos : List ℕ) (point g : ℕ) : Type 0 where
   pub inside : g ≤ length froms

@@ -12,7 +12,7 @@ ghost use Prim.Native.Nat.{_+_, _≤_, _<_};
 ghost use lib.ListN.{length};
 ghost use Rattle.overlaps.specs.Live.{Gaps};
 ghost use Rattle.overlaps.specs.GapSegments.{nonempty, overlapsOf, Valued, EndedBy, segmentColumns, put, SegmentRoom};
-ghost use Rattle.overlaps.specs.Passing.{segmentOf, Passing, heldAt, RowsSet, CountedIn};
+ghost use Rattle.overlaps.specs.Passing.{passingSegment, Passing, heldAt, RowsSet, CountedIn};
 
 // Stores a gap segment behind the rows used, if it has any points. Answers how many rows are used then.
 fn put_overlap(
@@ -44,8 +44,8 @@ fn put_overlap(
     used + 1
 }
 
-// A segment: its points, its value, and its live instructions, from one to before another.
-pub struct LiveSegment {
+// A segment on its way through the gaps: its points, its value, and its live instructions, from one to before another.
+pub struct PassingSegment {
     pub start: Point,
     pub end: Point,
     pub value: Value,
@@ -54,16 +54,16 @@ pub struct LiveSegment {
 }
 
 // The i-th segment. The live instructions of those before it end at `last`.
-pub fn segment_at(start: &[u32], end: &[u32], value: &[u32], i: usize, last: Inst) -> LiveSegment
+pub fn segment_at(start: &[u32], end: &[u32], value: &[u32], i: usize, last: Inst) -> PassingSegment
     requires { ⌜ Valued (now start) (now end) (now value) × (i < length (now start)) ⌝ }
-    ensures { λ r. ⌜ r ≡ segmentOf (now (start .entry)) (now (end .entry)) (now (value .entry)) i (last .0) ⌝ }
+    ensures { λ r. ⌜ r ≡ passingSegment (now (start .entry)) (now (end .entry)) (now (value .entry)) i (last .0) ⌝ }
 {
     let s = Point(start[i]);
     let e = Point(end[i]);
     let v = Value(value[i]);
     let a = live_from(last, s);
     let z = live_to(e);
-    LiveSegment {
+    PassingSegment {
         start: s,
         end: e,
         value: v,
@@ -85,7 +85,7 @@ pub fn pass_gaps(
     from: &[u32],
     to: &[u32],
     live: &mut [u32],
-    s: LiveSegment,
+    s: PassingSegment,
     segment_from: &mut [u32],
     segment_to: &mut [u32],
     segment_value: &mut [u32],

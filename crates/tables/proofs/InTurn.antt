@@ -8,7 +8,7 @@ use Rattle.use_rows.specs.Uses.{Source}
 use Rattle.use_rows.specs.declared.row.BestUse.{BestUse}
 use Rattle.use_rows.specs.declared.row.BestUse.the-variants as BestUse·is
 use Rattle.gaps.specs.GapColumns.{GapsHeld}
-use Rattle.gaps.specs.InTurn.{built, counted}
+use Rattle.gaps.specs.InTurn.{gapsBuilt, livesCounted}
 use Rattle.gaps.proofs.InTurn.{built-then-counted}
 use Rattle.filling.specs.UseTables.{bestOf}
 use Rattle.filling.specs.SourceTables.{startsOf, stopsOf, tablesOfBest, WorkColumns, gapTable, FilledBy}
@@ -32,7 +32,7 @@ gaps-held source (Checked·is.Refused r) b lent now f =
 -- gaps first, then counts
 pub gaps-in-turn : (job : Job) (rooms : Rooms) (lent now : WorkColumns) → FilledBy (tablesOf job rooms) lent now →
     let gaps = tablesOf job rooms .gaps in
-    gapTable now ≡ counted (startsOf (sourceOfJob job)) (stopsOf (sourceOfJob job)) (length gaps) (built gaps (gapTable lent))
+    gapTable now ≡ livesCounted (startsOf (sourceOfJob job)) (stopsOf (sourceOfJob job)) (length gaps) (gapsBuilt gaps (gapTable lent))
 gaps-in-turn job rooms lent now f =
     built-then-counted (tablesOf job rooms .gaps) (startsOf (sourceOfJob job)) (stopsOf (sourceOfJob job)) (gapTable lent) (gapTable now)
     (length (tablesOf job rooms .gaps)) (gaps-held (sourceOfJob job) (refusalOf job rooms) (bestOf (sourceOfJob job)) lent now f)

@@ -226,7 +226,8 @@ module _ (c : SourceColumns) (scales : RematScales) (lent : WorkColumns) (w : So
         cut-valued = subst (λ (X : Type 0). X) (same (λ g s e v. Valued s e v)) (source-valued source checked (w .sound))
 
         pub cut-room :
-            let gaps = gapsOf (blocksIn c) (usesIn (useColumns (take rows (cols .insts)) (take rows (cols .mains)) (take rows (cols .lefts)) (take rows (cols .rights)))) b in
+            let gaps = gapsOf (blocksIn c)
+            (usesIn (useColumns (take rows (cols .insts)) (take rows (cols .mains)) (take rows (cols .lefts)) (take rows (cols .rights)))) b in
             Rows (length gaps) (gapTable lent)
             × SegmentRoom (length (gapSegmentsOf gaps (take segments (c .starts)) (take segments (c .stops)) (take segments (c .values)))) (segmentTable lent 0)
         cut-room =
@@ -236,7 +237,8 @@ module _ (c : SourceColumns) (scales : RematScales) (lent : WorkColumns) (w : So
 
         -- ---- after it
         pub all-filled : (now : GapColumns) (now-segments : SegmentColumns) (n initial : ℕ) →
-            let gaps = gapsOf (blocksIn c) (usesIn (useColumns (take rows (cols .insts)) (take rows (cols .mains)) (take rows (cols .lefts)) (take rows (cols .rights)))) b in
+            let gaps = gapsOf (blocksIn c)
+            (usesIn (useColumns (take rows (cols .insts)) (take rows (cols .mains)) (take rows (cols .lefts)) (take rows (cols .rights)))) b in
             GapsHeld gaps (take segments (c .starts)) (take segments (c .stops)) (gapTable lent) now n
             × Filled (gapSegmentsOf gaps (take segments (c .starts)) (take segments (c .stops)) (take segments (c .values))) (segmentTable lent 0) now-segments
             × (initial ≡ initialGap (blocksIn c)

@@ -2,7 +2,6 @@
 use mathlib.Core.Path.{_≡_, sym, ap, _∙_, subst}
 use Prim.Native.Nat.{_-_}
 use native.Mathlib.Omega.{arith}
-use borrow.Author.Needs.{needs}
 use lib.ListN.{length}
 use Rattle.links.specs.Blocks.{Ends}
 use Rattle.links.specs.declared.lower.Side.the-variants.{Previous, Next}
@@ -43,7 +42,8 @@ cut-side-requires c κs =
 use-at-requires : tie.Need-use-at-requires
 use-at-requires c κs =
     let at-args =
-    c .before .before .before .before .before .before .before .before .before .before .before .before .before .before .before .before .before .before .before .before .before .before .before .before .before .before in
+    c .before .before .before .before .before .before .before .before .before .before .before .before .before .before .before .before .before
+    .before .before .before .before .before .before .before .before .before in
     let a = at-args .args in
     own-inside (a .freq .now) (a .first .now) (a .end .now) (a .prev-lower-freq .now) (a .next-lower-freq .now)
     (useColumns (a .inst .now) (a .weight .now) (a .left-weight .now) (a .right-weight .now)) (a .best) (at-args .pre .0)
@@ -53,7 +53,8 @@ put-own-requires c κs =
     let at-use-at = c .before .before .before .before in
     let at-cut-side = at-use-at .before .before .before .before .before .before .before .before .before in
     let at-pre =
-    at-cut-side .before .before .before .before .before .before .before .before .before .before .before .before .before .before .before .before .before .before in
+    at-cut-side .before .before .before .before .before .before .before .before .before .before .before .before .before .before .before .before
+    .before .before in
     let a = at-pre .args in
     let p = at-pre .pre in (
       subst (λ (u : SplitUse). Ends (a .end .now) (length (a .freq .now)) (u .inst .0)) (sym (at-use-at .use-at .ensures))
@@ -67,29 +68,37 @@ put-own-requires c κs =
 sub-cut-side : tie.Need-sub-cut-side
 sub-cut-side c =
     let at-pre =
-    c .before .before .before .before .before .before .before .before .before .before .before .before .before .before .before .before .before .before .before .before .before .before .before .before .before .before .before .before .before .before .before .before .before .before .before .before .before .before .before .before .before .before .before .before in
+    c .before .before .before .before .before .before .before .before .before .before .before .before .before .before .before .before .before
+    .before .before .before .before .before .before .before .before .before .before .before .before .before .before .before .before .before
+    .before .before .before .before .before .before .before .before .before .before in
     let h = at-pre .pre .0 .best-inside in omega (arith, h)
 
 own-same : (c : tie.After-cut-side-arg8) →
     let a =
-    c .before .before .before .before .before .before .before .before .before .before .before .before .before .before .before .before .before .before .before .before .before .before .before .before .before .before .before .before .before .before .before .before .before .before .before .before .before .before .before .before .before .before .before .before
+    c .before .before .before .before .before .before .before .before .before .before .before .before .before .before .before .before .before
+    .before .before .before .before .before .before .before .before .before .before .before .before .before .before .before .before .before
+    .before .before .before .before .before .before .before .before .before .before
     .args in
     ownIn (a .freq .now) (a .end .now)
-    (c .before .before .before .before .before .before .before .before .before .before .before .before .before .before .before .before .before .use-at .result) ≡ ownIn (a .freq .now) (a .end .now)
+    (c .before .before .before .before .before .before .before .before .before .before .before .before .before .before .before .before
+    .before .use-at .result) ≡ ownIn (a .freq .now) (a .end .now)
     (useIn (useColumns (a .inst .now) (a .weight .now) (a .left-weight .now) (a .right-weight .now)) (a .best))
 own-same c =
     let at-use-at =
     c .before .before .before .before .before .before .before .before .before .before .before .before .before .before .before .before .before in
     let at-args =
-    at-use-at .before .before .before .before .before .before .before .before .before .before .before .before .before .before .before .before .before .before .before .before .before .before .before .before .before .before .before in
+    at-use-at .before .before .before .before .before .before .before .before .before .before .before .before .before .before .before .before
+    .before .before .before .before .before .before .before .before .before .before .before in
     let a = at-args .args in ap (ownIn (a .freq .now) (a .end .now)) (at-use-at .use-at .ensures)
 
 add-cut-side : tie.Need-add-cut-side
 add-cut-side c =
     let at-cut-side =
-    c .before .before .before .before .before .before .before .before .before .before .before .before .before .before .before .before .before .before .before .before .before .before .before .before .before .before in
+    c .before .before .before .before .before .before .before .before .before .before .before .before .before .before .before .before .before
+    .before .before .before .before .before .before .before .before .before in
     let at-pre =
-    at-cut-side .before .before .before .before .before .before .before .before .before .before .before .before .before .before .before .before .before .before in
+    at-cut-side .before .before .before .before .before .before .before .before .before .before .before .before .before .before .before .before
+    .before .before in
     let a = at-pre .args in
     let b = own-below (a .freq .now) (a .first .now) (a .end .now) (a .prev-lower-freq .now) (a .next-lower-freq .now)
     (useColumns (a .inst .now) (a .weight .now) (a .left-weight .now) (a .right-weight .now)) (a .best) (at-pre .pre .0)
@@ -105,7 +114,8 @@ cut-side-requires-2 c κs =
     let at-cut-side =
     at-put-own .before .before .before .before .before .before .before .before .before .before .before .before .before .before in
     let at-pre =
-    at-cut-side .before .before .before .before .before .before .before .before .before .before .before .before .before .before .before .before .before .before in
+    at-cut-side .before .before .before .before .before .before .before .before .before .before .before .before .before .before .before .before
+    .before .before in
     let a = at-pre .args in
     let p = at-pre .pre in
     let b = p .0 .best-inside in (
@@ -178,7 +188,8 @@ returns c =
     let at-cut-side =
     at-put-own .before .before .before .before .before .before .before .before .before .before .before .before .before .before in
     let at-pre =
-    at-cut-side .before .before .before .before .before .before .before .before .before .before .before .before .before .before .before .before .before .before in
+    at-cut-side .before .before .before .before .before .before .before .before .before .before .before .before .before .before .before .before
+    .before .before in
     let a = at-pre .args in
     let s = all-stored (a .freq .now) (a .first .now) (a .end .now) (a .prev-lower-freq .now) (a .next-lower-freq .now)
     (useColumns (a .inst .now) (a .weight .now) (a .left-weight .now) (a .right-weight .now)) (a .best) (at-pre .pre .0)

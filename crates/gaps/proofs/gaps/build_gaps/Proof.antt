@@ -2,7 +2,6 @@
 use mathlib.Core.Path.{sym, subst}
 use mathlib.Core.List.{List}
 use Prim.Native.Nat.{ℕ, _≤_, _<_}
-use borrow.Author.Needs.{needs}
 use lib.ListN.{length, take}
 use lib.Seq.{length-take-le}
 use Rattle.links.specs.Blocks.{BlockRow, blocksOf}
@@ -21,7 +20,8 @@ use Rattle.gaps.proofs.gaps.build_gaps.Tie as tie
 
 -- ---- places: the start
 abbrev begin : tie.After-cut-gaps → tie.Start
-begin f = f .before .before .before .before .before .before .before .before .before .before .before .before .before .before .before .before .before .before .before .before .before .before .before .before .before .before
+begin f = f .before .before .before .before .before .before .before .before .before .before .before .before .before .before .before .before
+    .before .before .before .before .before .before .before .before .before .before
 
 -- ---- the uses, their gaps, and the lent gap table
 abbrev uses : tie.Start → UseColumns
@@ -64,19 +64,26 @@ gaps-held f =
     subst (λ (l : List ℕ). Gaps l (take (rows f) (cut f .tos))) (sym froms) (subst (λ (l : List ℕ). Gaps (fromsOf (gaps s)) l) (sym tos) tile)
 
 cut-gaps-requires : tie.Need-cut-gaps-requires
-cut-gaps-requires c κs = let s = c .before .before .before .before .before .before .before .before .before .before .before .before .before .before .before .before .before .before .before .before .before .before .before .before .before in (s .pre .0 .0, cut-rows (length (gaps s)) (lent s) (s .pre .1 .0))
+cut-gaps-requires c κs = let s = c .before .before .before .before .before .before .before .before .before .before .before .before .before
+    .before .before .before .before .before .before .before .before .before .before .before .before in (
+      s .pre .0 .0,
+      cut-rows (length (gaps s))
+          (lent s) (s .pre .1 .0),
+    )
 
 slice-reshare-prefix-fill-segments : tie.Need-slice-reshare-prefix-fill-segments
 slice-reshare-prefix-fill-segments c = froms-fit (c .before .before .before .before .before .before .before .before)
 
 slice-aggregate-fill-segments : tie.Need-slice-aggregate-fill-segments
-slice-aggregate-fill-segments c = let f = c .before .before .before .before .before .before .before .before .before in sym (length-take-le (rows f) (cut f .froms) (froms-fit f))
+slice-aggregate-fill-segments c = let f = c .before .before .before .before .before .before .before .before .before in sym (length-take-le (rows f)
+    (cut f .froms) (froms-fit f))
 
 slice-reshare-prefix-fill-segments-2 : tie.Need-slice-reshare-prefix-fill-segments-2
 slice-reshare-prefix-fill-segments-2 c = tos-fit (c .before .before .before .before .before .before .before .before .before)
 
 slice-aggregate-fill-segments-2 : tie.Need-slice-aggregate-fill-segments-2
-slice-aggregate-fill-segments-2 c = let f = c .before .before .before .before .before .before .before .before .before .before in sym (length-take-le (rows f) (cut f .tos) (tos-fit f))
+slice-aggregate-fill-segments-2 c = let f = c .before .before .before .before .before .before .before .before .before .before in sym (length-take-le
+    (rows f) (cut f .tos) (tos-fit f))
 
 fill-segments-requires : tie.Need-fill-segments-requires
 fill-segments-requires c κs =
@@ -90,19 +97,23 @@ fill-segments-requires c κs =
     )
 
 same-length : tie.Need-same-length
-same-length c = c .before .before .before .before .before .before .before .before .before .before .before .before .before .before .before .before .before .before .before .before .before .before .before .before .before .before .cut-gaps .kept .1 .1 .1 .1 .1 .1 .1 .1 .1 .1 .0
+same-length c = c .before .before .before .before .before .before .before .before .before .before .before .before .before .before .before
+    .before .before .before .before .before .before .before .before .before .before .before .cut-gaps .kept .1 .1 .1 .1 .1 .1 .1 .1 .1 .1 .0
 
 same-length-2 : tie.Need-same-length-2
-same-length-2 c = c .before .before .before .before .before .before .before .before .before .before .before .before .before .before .before .before .before .before .before .before .before .before .before .before .before .before .cut-gaps .kept .1 .1 .1 .1 .1 .1 .1 .1 .1 .1 .1 .0
+same-length-2 c = c .before .before .before .before .before .before .before .before .before .before .before .before .before .before .before
+    .before .before .before .before .before .before .before .before .before .before .before .cut-gaps .kept .1 .1 .1 .1 .1 .1 .1 .1 .1 .1 .1 .0
 
 same-length-3 : tie.Need-same-length-3
-same-length-3 c = c .before .before .before .before .before .before .before .before .before .before .before .before .before .before .before .before .before .before .before .before .before .before .before .before .before .before .cut-gaps .kept .1 .1 .1 .1 .1 .1 .1 .1 .1 .1 .1 .1 .0
+same-length-3 c = c .before .before .before .before .before .before .before .before .before .before .before .before .before .before .before
+    .before .before .before .before .before .before .before .before .before .before .before .cut-gaps .kept .1 .1 .1 .1 .1 .1 .1 .1 .1 .1 .1 .1 .0
 
 same-length-4 : tie.Need-same-length-4
 same-length-4 c = c .before .before .before .before .before .before .before .before .before .before .fill-segments .kept .1 .1 .1 .1 .1 .0
 
 same-length-5 : tie.Need-same-length-5
-same-length-5 c = c .before .before .before .before .before .before .before .before .before .before .before .before .before .before .before .before .before .before .before .before .before .before .before .before .before .before .cut-gaps .kept .1 .1 .1 .1 .1 .1 .1 .1 .1 .1 .1 .1 .1 .0
+same-length-5 c = c .before .before .before .before .before .before .before .before .before .before .before .before .before .before .before
+    .before .before .before .before .before .before .before .before .before .before .before .cut-gaps .kept .1 .1 .1 .1 .1 .1 .1 .1 .1 .1 .1 .1 .1 .0
 
 same-length-6 : tie.Need-same-length-6
 same-length-6 c = c .before .before .before .before .before .before .before .before .before .before .fill-segments .kept .1 .1 .1 .1 .1 .1 .0
@@ -118,7 +129,8 @@ same-length-9 c = c .before .before .before .before .before .before .before .bef
 
 returns : tie.Need-returns
 returns c =
-    let f = c .before .before .before .before .before .before .before .before .before .before .before .before .before .before .before .before .before .before .before .before .before .before .before .before .before .before in
+    let f = c .before .before .before .before .before .before .before .before .before .before .before .before .before .before .before .before
+    .before .before .before .before .before .before .before .before .before .before in
     let s = begin f in
     let a = s .args in
     let e = f .cut-gaps .ensures in

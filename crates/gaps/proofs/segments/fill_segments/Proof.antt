@@ -13,21 +13,23 @@ use Rattle.overlaps.specs.Live.{liveColumn}
 use Rattle.overlaps.specs.GapSegments.{Overlap, overlapsOf, gapSegments, EndedBy, SegmentColumns, segmentColumns, put, SegmentRoom, Filled}
 use Rattle.overlaps.proofs.LiveLaws.{lastOf, last-next}
 use Rattle.overlaps.proofs.GapRows.{Left, left-all, left-none, next-room, next-left, all-filled}
-use Rattle.overlaps.specs.Passing.{segmentOf, Passing, CountedIn}
+use Rattle.overlaps.specs.Passing.{passingSegment, Passing, CountedIn}
 use Rattle.overlaps.proofs.PassingLaws.{Sofar, sofar-none, sofar-room, rest-room, comes, sofar-next, sofar-all, rest, back, back-long}
-use Rattle.overlaps.specs.declared.passing.LiveSegment.{LiveSegment}
+use Rattle.overlaps.specs.declared.passing.PassingSegment.{PassingSegment}
 use Rattle.gaps.proofs.segments.fill_segments.Statement.{statement}
 use Rattle.gaps.proofs.segments.fill_segments.Tie as tie
 
 abbrev Inv-loop : tie.InvT-loop
-Inv-loop start end value from to live₀ segment-from₀ segment-to₀ segment-value₀ segment-gap₀ gap₀ held₀ used₀ last₀ i₀ live segment-from segment-to segment-value segment-gap gap held used last i =
+Inv-loop start end value from to live₀ segment-from₀ segment-to₀ segment-value₀ segment-gap₀ gap₀ held₀ used₀ last₀ i₀ live segment-from segment-to
+    segment-value segment-gap gap held used last i =
     (i ≤ length start) × (last .0 ≡ lastOf end i) × Sofar start end from to live₀ live gap held i
     × Left (fromOn (λ (k : ℕ). overlapsOf from to (getD start k 0) (getD end k 0) (getD value k 0)) (length start) i)
     (gapSegments from to start end value) (segmentColumns segment-from₀ segment-to₀ segment-value₀ segment-gap₀ 0)
     (segmentColumns segment-from segment-to segment-value segment-gap used)
 
 abbrev μ-loop : tie.MeasureT-loop
-μ-loop start end value from to live₀ segment-from₀ segment-to₀ segment-value₀ segment-gap₀ gap₀ held₀ used₀ last₀ i₀ live segment-from segment-to segment-value segment-gap gap held used last i =
+μ-loop start end value from to live₀ segment-from₀ segment-to₀ segment-value₀ segment-gap₀ gap₀ held₀ used₀ last₀ i₀ live segment-from segment-to
+    segment-value segment-gap gap held used last i =
     length start - i
 
 abbrev begin : tie.In-loop Inv-loop μ-loop → tie.Start Inv-loop μ-loop
@@ -47,17 +49,17 @@ abbrev all : tie.Start Inv-loop μ-loop → List Overlap
 all s = let a = s .args in gapSegments (a .from .now) (a .to .now) (a .start .now) (a .end .now) (a .value .now)
 
 -- the segment of a turn
-abbrev segment : tie.In-loop Inv-loop μ-loop → LiveSegment
+abbrev segment : tie.In-loop Inv-loop μ-loop → PassingSegment
 segment l =
     let a = begin l .args in
     let i = l .before .loop .i in
-    segmentOf (a .start .now) (a .end .now) (a .value .now) i (lastOf (a .end .now) i)
+    passingSegment (a .start .now) (a .end .now) (a .value .now) i (lastOf (a .end .now) i)
 
 segment-is : (c : tie.After-segment-at Inv-loop μ-loop) → c .segment-at .result ≡ segment (c .before)
 segment-is c =
     let l = c .before in
     let a = begin l .args in
-    c .segment-at .ensures ∙ ap (segmentOf (a .start .now) (a .end .now) (a .value .now) (l .before .loop .i)) (l .before .loop .inv .1)
+    c .segment-at .ensures ∙ ap (passingSegment (a .start .now) (a .end .now) (a .value .now) (l .before .loop .i)) (l .before .loop .inv .1)
 
 -- what the segments so far gave
 sofar : (l : tie.In-loop Inv-loop μ-loop) →
@@ -82,9 +84,9 @@ counted c =
     let r = c .pass-gaps .result in
     sofar-next (a .start .now) (a .end .now) (a .value .now) (a .from .now) (a .to .now) (a .live .now) (p .live) (p .gap) (p .held) (p .i)
     (s .pre .0 .0 .bounds) (s .pre .0 .1) (s .pre .0 .2) (sofar l) (l .loop-test .taken) (r .gap) (r .held) (c .pass-gaps .last .1 .1 .0)
-    (subst (λ (s : LiveSegment). CountedIn (a .from .now) (a .to .now) s (p .gap) (p .held) (rest (p .gap) (p .live)) (c .pass-gaps .last .1 .1 .0)
+    (subst (λ (s : PassingSegment). CountedIn (a .from .now) (a .to .now) s (p .gap) (p .held) (rest (p .gap) (p .live)) (c .pass-gaps .last .1 .1 .0)
     (r .gap) (r .held)) (segment-is d) (c .pass-gaps .ensures .1))
-    (subst (λ (s : LiveSegment). EndedBy (a .from .now) (a .to .now) (s .end .0) (r .gap)) (segment-is d) (c .pass-gaps .ensures .0))
+    (subst (λ (s : PassingSegment). EndedBy (a .from .now) (a .to .now) (s .end .0) (r .gap)) (segment-is d) (c .pass-gaps .ensures .0))
 
 left : (c : tie.After-pass-gaps Inv-loop μ-loop) →
     let l = c .before .before .before .before .before .before .before in
@@ -101,7 +103,7 @@ left c =
     next-left (lists s) (length (a .start .now)) (l .before .loop .i) (l .loop-test .taken) (all s) (lent s) (found l) (l .before .loop .inv .3)
     (segmentColumns (n .0) (n .1 .0) (n .1 .1 .0) (n .1 .1 .1 .0) (c .pass-gaps .result .used))
     (c .pass-gaps .ensures .2
-    ∙ ap (λ (s : LiveSegment). put (overlapsOf (a .from .now) (a .to .now) (s .start .0) (s .end .0) (s .value .0)) (found l)) (segment-is d))
+    ∙ ap (λ (s : PassingSegment). put (overlapsOf (a .from .now) (a .to .now) (s .start .0) (s .end .0) (s .value .0)) (found l)) (segment-is d))
 
 loop-holds : tie.Need-loop-holds Inv-loop μ-loop
 loop-holds c =
@@ -153,22 +155,24 @@ pass-gaps-requires c κs =
     let e = sym (segment-is d) in (
       (
         s .pre .0 .1,
-        subst (λ (s : LiveSegment). Passing (a .from .now) (a .to .now) s (p .gap) (p .held)) e
+        subst (λ (s : PassingSegment). Passing (a .from .now) (a .to .now) s (p .gap) (p .held)) e
             (comes (a .start .now) (a .end .now) (a .value .now) (a .from .now) (a .to .now) (a .live .now) (p .live) (p .gap) (p .held) (p .i)
             (s .pre .0 .0 .bounds) (s .pre .0 .1) (s .pre .0 .2) (sofar l) (l .loop-test .taken)),
         rest-room (a .start .now) (a .end .now) (a .value .now) (a .from .now) (a .to .now) (a .live .now) (p .live) (p .gap) (p .held) (p .i)
             (s .pre .0 .0 .bounds) (s .pre .0 .1) (s .pre .0 .2) (sofar l),
       ),
       subst
-          (λ (s : LiveSegment). SegmentRoom (length (overlapsOf (a .from .now) (a .to .now) (s .start .0) (s .end .0) (s .value .0))) (found l)) e
+          (λ (s : PassingSegment). SegmentRoom (length (overlapsOf (a .from .now) (a .to .now) (s .start .0) (s .end .0) (s .value .0))) (found l)) e
           (next-room (lists s) (length (a .start .now)) (p .i) (l .loop-test .taken) (all s) (lent s) (found l) (p .inv .3)),
     )
 
 add-i : tie.Need-add-i Inv-loop μ-loop
-add-i c = let l = c .before .before .before .before .before .before .before .before .before .before .before .before .before .before .before .before .before .before in let h = l .loop-test .taken in let g = begin l .good .0 .0 in omega (arith, h, g)
+add-i c = let l = c .before .before .before .before .before .before .before .before .before .before .before .before .before .before .before
+    .before .before .before in let h = l .loop-test .taken in let g = begin l .good .0 .0 in omega (arith, h, g)
 
 loop-less : tie.Need-loop-less Inv-loop μ-loop
-loop-less c = let h = c .before .before .before .before .before .before .before .before .before .before .before .before .before .before .before .before .before .before .loop-test .taken in omega (arith, h)
+loop-less c = let h = c .before .before .before .before .before .before .before .before .before .before .before .before .before .before .before
+    .before .before .before .loop-test .taken in omega (arith, h)
 
 loop-again : tie.Need-loop-again Inv-loop μ-loop
 loop-again c =
@@ -177,7 +181,7 @@ loop-again c =
     let l = e .before in
     let h = l .loop-test .taken in (
       omega (arith, h),
-      ap (λ (s : LiveSegment). s .«live_to» .0) (segment-is e) ∙ last-next (begin l .args .end .now) (l .before .loop .i),
+      ap (λ (s : PassingSegment). s .«live_to» .0) (segment-is e) ∙ last-next (begin l .args .end .now) (l .before .loop .i),
       counted d,
       left d,
     )
@@ -236,7 +240,8 @@ same-length : tie.Need-same-length Inv-loop μ-loop
 same-length c =
     let s = start (c .before .before .before .before) in
     let p = c .before .before .before .before .before .loop in
-    back-long (p .gap) (p .live) (c .before .before .put-rest .last .0) (rest-inside (c .before .before .before .before)) (c .before .before .put-rest .ensures .long) ∙ p .inv .2 .passed .long
+    back-long (p .gap) (p .live) (c .before .before .put-rest .last .0) (rest-inside (c .before .before .before .before)) (c .before
+    .before .put-rest .ensures .long) ∙ p .inv .2 .passed .long
 
 same-length-2 : tie.Need-same-length-2 Inv-loop μ-loop
 same-length-2 c = c .before .before .before .before .before .loop .inv .3 .same .from

@@ -4,7 +4,6 @@ use Prim.Native.Nat.{ℕ, _+_, _-_, _<_}
 use native.Mathlib.Omega.{arith}
 use mathlib.Core.List.{List}
 use borrow.Author.Count.{below-more}
-use borrow.Author.Needs.{needs}
 use lib.ListN.{length, getD}
 use Rattle.overlaps.specs.GapSegments.{Overlap, nonempty, overlapWith, overlapsOf, EndedBy, SegmentColumns, segmentColumns, put, SegmentRoom}
 use Rattle.overlaps.proofs.GapRows.{Left, left-all, left-none, next-room, next-left, overlaps-from, overlaps-end, gap-number, behind-later}
@@ -16,7 +15,8 @@ use Rattle.overlaps.proofs.passing.pass_gaps.Statement.{statement}
 use Rattle.overlaps.proofs.passing.pass_gaps.Tie as tie
 
 abbrev Inv-loop : tie.InvT-loop
-Inv-loop from to live₀ s segment-from₀ segment-to₀ segment-value₀ segment-gap₀ gap held used g₀ count₀ n₀ live segment-from segment-to segment-value segment-gap g count n =
+Inv-loop from to live₀ s segment-from₀ segment-to₀ segment-value₀ segment-gap₀ gap held used g₀ count₀ n₀ live segment-from segment-to segment-value
+    segment-gap g count n =
     EndedBy from to (s .end .0) g
     × Left (fromOn (overlapWith from to (s .start .0) (s .end .0) (s .value .0)) (length from) g)
     (overlapsOf from to (s .start .0) (s .end .0) (s .value .0)) (segmentColumns segment-from₀ segment-to₀ segment-value₀ segment-gap₀ used)
@@ -24,7 +24,8 @@ Inv-loop from to live₀ s segment-from₀ segment-to₀ segment-value₀ segmen
     × Come from to s gap held live₀ live g count
 
 abbrev μ-loop : tie.MeasureT-loop
-μ-loop from to live₀ s segment-from₀ segment-to₀ segment-value₀ segment-gap₀ gap held used g₀ count₀ n₀ live segment-from segment-to segment-value segment-gap g count n =
+μ-loop from to live₀ s segment-from₀ segment-to₀ segment-value₀ segment-gap₀ gap held used g₀ count₀ n₀ live segment-from segment-to segment-value
+    segment-gap g count n =
     length from - g
 
 abbrev begin : tie.In-loop Inv-loop μ-loop → tie.Start Inv-loop μ-loop
@@ -58,7 +59,8 @@ overlap-is : (c : tie.After-least Inv-loop μ-loop) →
     let l = head c in
     nonempty (c .before .most .result) (c .least .result) (begin l .args .s .value .0) (l .before .loop .g) ≡ lists (begin l) (l .before .loop .g)
 unfolding overlapWith
-overlap-is c = let l = head c in ap₂ (λ (a e : ℕ). nonempty a e (begin l .args .s .value .0) (l .before .loop .g)) (c .before .most .ensures) (c .least .ensures)
+overlap-is c = let l = head c in ap₂ (λ (a e : ℕ). nonempty a e (begin l .args .s .value .0) (l .before .loop .g)) (c .before .most .ensures)
+    (c .least .ensures)
 
 -- after the turn the gaps from the next on are left
 left : (c : tie.After-put-overlap Inv-loop μ-loop) →
@@ -261,7 +263,8 @@ returns-2 c =
     let a = s .args in
     let p = c .before .loop in (
       p .inv .0,
-      come-through (a .from .now) (a .to .now) (a .s) (a .gap) (a .held) (a .live .now) (p .live) (p .g) (p .count) (p .inv .2) (s .pre .0 .0) (c .loop-test .left),
+      come-through (a .from .now) (a .to .now) (a .s) (a .gap) (a .held) (a .live .now) (p .live) (p .g) (p .count) (p .inv .2) (s .pre .0 .0)
+          (c .loop-test .left),
       left-none (fromOn (lists s) (length (a .from .now)) (p .g)) (all s) (lent s) _
           (fromOn-end (lists s) (length (a .from .now)) (p .g) (c .loop-test .left)) (p .inv .1),
     )
