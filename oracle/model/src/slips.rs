@@ -45,6 +45,8 @@ slips! {
     ChainOne: "one cut only";
     LiveTwice: "a shared instruction counted live twice";
     LiveWhole: "a gap's live instructions are all its instructions";
+    LiveNeighbour: "a gap's live instructions are those of the gap before it";
+    LiveLeftBehind: "a gap in which a segment ends gets no live instructions of the next one";
     BestLatest: "best use latest on ties";
     BestOneRow: "a best use in a table of one row";
     BestAnySide: "best use by the sum of all three weights";

@@ -267,6 +267,7 @@ impl Reading<'_> {
 
     /// An instruction is live if a segment covers part of it; each counts once.
     fn count_live(&self, gaps: &mut [Gap]) {
+        let mut before = 0;
         let mut covered: Vec<(u32, u32)> = vec![];
         for s in &self.job.segments {
             let counted_to = match covered.last() {
@@ -278,9 +279,13 @@ impl Reading<'_> {
         for g in gaps {
             let first = covered.partition_point(|c| c.1 <= g.from);
             let met = covered[first..].iter().take_while(|c| c.0 < g.to);
+            let met = met.take(if self.slips(Slip::LiveLeftBehind) { 1 } else { usize::MAX });
             g.live_insts = met.map(|c| c.1.min(g.to).saturating_sub(c.0.max(g.from))).sum();
             if self.slips(Slip::LiveWhole) {
                 g.live_insts = g.to - g.from;
+            }
+            if self.slips(Slip::LiveNeighbour) {
+                std::mem::swap(&mut g.live_insts, &mut before);
             }
         }
     }
