@@ -51,9 +51,9 @@ pub fn fill_gap_tables(
     requires { ⌜
         (let uses = useColumns (take rows (now inst)) (take rows (now weight)) (take rows (now «left_weight»)) (take rows (now «right_weight»)) in
         let gaps = gapsOf (blocksOf (now freq) (now first) (now end)) (usesIn uses) best in
-        let segments = gapSegmentsOf gaps (take segments (now start)) (take segments (now «segment_end»)) (take segments (now value)) in
+        let found = gapSegmentsOf gaps (take segments (now start)) (take segments (now «segment_end»)) (take segments (now value)) in
         Rows (length gaps) (gapColumns (now «gap_from») (now «gap_to») (now «gap_weight») (now live) (now «min_freq»))
-        × SegmentRoom (length segments) (segmentColumns (now «segment_from») (now «segment_to») (now «segment_value») (now «segment_gap») 0))
+        × SegmentRoom (length found) (segmentColumns (now «segment_from») (now «segment_to») (now «segment_value») (now «segment_gap») 0))
         ⌝ }
     ensures { λ r. ⌜
         (let uses = useColumns

@@ -1,5 +1,5 @@
 -- The gap table built: gaps that are cut, and the live instructions that are counted in them
-use mathlib.Core.Path.{_≡_, sym, ap, ap₂, _∙_, subst}
+use mathlib.Core.Path.{_≡_, refl, sym, ap, ap₂, _∙_, subst}
 use mathlib.Core.List.{List}
 use Prim.Native.Nat.{ℕ, _≤_}
 use native.Mathlib.Nat.{le-trans, le-of-eq}
@@ -9,18 +9,24 @@ use Rattle.columns.specs.Table.{filled}
 use Rattle.columns.proofs.Fillings.{filled-cut, filled-long}
 use Rattle.overlaps.specs.Live.{liveColumn}
 use Rattle.overlaps.specs.GapSegments.{gapSegments, SegmentColumns, SegmentRoom, Filled}
-use Rattle.gaps.specs.Gaps.{Gap}
+use Rattle.gaps.specs.Gaps.{Gap, gapWeight}
 use Rattle.gaps.specs.GapColumns.{GapColumns, gapColumns, fromsOf, tosOf, gapSegmentsOf, Rows, GapsHeld}
 use Rattle.gaps.specs.Cutting.{CutColumns, cutColumns, storedGaps, CutRows}
-use Rattle.gaps.proofs.StoredGaps.{CutHeld, stored-held}
+use Rattle.gaps.proofs.StoredGaps.{field-filled}
 
 pub cut-rows : (n : ℕ) (lent : GapColumns) → Rows n lent → CutRows n (cutColumns (lent .froms) (lent .tos) (lent .weights) (lent .freqs))
 cut-rows n lent r = record { from = r .from; to = r .to; weight = r .weight; freq = r .freq }
 
 module _ (gaps : List Gap) (lent : GapColumns) (rows : Rows (length gaps) lent) (now : CutColumns) (n : ℕ) (count : n ≡ length gaps)
     (stored : now ≡ storedGaps 0 gaps (cutColumns (lent .froms) (lent .tos) (lent .weights) (lent .freqs))) where
-  held : CutHeld gaps (cutColumns (lent .froms) (lent .tos) (lent .weights) (lent .freqs)) now
-  held = stored-held gaps (cutColumns (lent .froms) (lent .tos) (lent .weights) (lent .freqs)) now (cut-rows (length gaps) lent rows) stored
+  abbrev columns : CutColumns
+  columns = cutColumns (lent .froms) (lent .tos) (lent .weights) (lent .freqs)
+
+  froms-are : now .froms ≡ filled (fromsOf gaps) (lent .froms)
+  froms-are = field-filled (λ c. c .froms) (λ g. g .from) (λ at g c. refl) gaps columns now (rows .from) stored
+
+  tos-are : now .tos ≡ filled (tosOf gaps) (lent .tos)
+  tos-are = field-filled (λ c. c .tos) (λ g. g .to) (λ at g c. refl) gaps columns now (rows .to) stored
 
   froms-long : length (fromsOf gaps) ≡ length gaps
   froms-long = length-map gaps (λ (g : Gap). g .from)
@@ -30,21 +36,21 @@ module _ (gaps : List Gap) (lent : GapColumns) (rows : Rows (length gaps) lent) 
 
   -- cut to their rows the columns are those of the gaps
   pub froms-cut : take n (now .froms) ≡ fromsOf gaps
-  froms-cut = filled-cut (fromsOf gaps) (lent .froms) (held .from) (count ∙ sym froms-long)
+  froms-cut = filled-cut (fromsOf gaps) (lent .froms) froms-are (count ∙ sym froms-long)
 
   pub tos-cut : take n (now .tos) ≡ tosOf gaps
-  tos-cut = filled-cut (tosOf gaps) (lent .tos) (held .to) (count ∙ sym tos-long)
+  tos-cut = filled-cut (tosOf gaps) (lent .tos) tos-are (count ∙ sym tos-long)
 
   pub froms-inside : n ≤ length (now .froms)
   froms-inside =
-      let a = ap length (held .from) in
+      let a = ap length froms-are in
       let r = rows .from in
       let b = filled-long (fromsOf gaps) (lent .froms) (le-trans (le-of-eq froms-long) r) in
       omega (arith, a, b, count, r)
 
   pub tos-inside : n ≤ length (now .tos)
   tos-inside =
-      let a = ap length (held .to) in
+      let a = ap length tos-are in
       let r = rows .to in
       let b = filled-long (tosOf gaps) (lent .tos) (le-trans (le-of-eq tos-long) r) in
       omega (arith, a, b, count, r)
@@ -73,9 +79,9 @@ module _ (gaps : List Gap) (lent : GapColumns) (rows : Rows (length gaps) lent) 
   table-held starts ends live l =
       record {
         count = count;
-        from = held .from;
-        to = held .to;
-        weight = held .weight;
+        from = froms-are;
+        to = tos-are;
+        weight = field-filled (λ c. c .weights) gapWeight (λ at g c. refl) gaps columns now (rows .weight) stored;
         live = l ∙ ap₂ (λ (a b : List ℕ). filled (liveColumn starts ends a b) (lent .lives)) froms-cut tos-cut;
-        freq = held .freq;
+        freq = field-filled (λ c. c .freqs) (λ g. g .freq) (λ at g c. refl) gaps columns now (rows .freq) stored;
       }

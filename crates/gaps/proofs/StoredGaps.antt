@@ -59,27 +59,13 @@ stored-last at (x ∷ gs) g cols =
     stored-last (suc at) gs g (withGap cols at x) ∙ ap (storedGaps (suc at) gs) (e ∙ ap (λ (n : ℕ). withGap (withGap cols n g) at x) z)
 
 -- ---- a column of stored gaps: filled with a field of the gaps
-field-filled : {B : Type 0} (column : CutColumns → List B) (field : Gap → B)
+pub field-filled : {B : Type 0} (column : CutColumns → List B) (field : Gap → B)
     → ((at : ℕ) (g : Gap) (c : CutColumns) → column (withGap c at g) ≡ set (column c) at (field g))
-    → (gs : List Gap) (c : CutColumns) → length gs ≤ length (column c) → column (storedGaps 0 gs c) ≡ filled (map field gs) (column c)
-field-filled column field one gs c h =
-    stored-filled withNext (λ s. s .at) (λ r s. refl) (λ s. column (s .cols)) field (λ r s. one (s .at) r (s .cols)) gs (record { at = 0; cols = c }) refl h
-
--- the columns that hold the gaps, and past them what was there
-pub record CutHeld (gs : List Gap) (lent now : CutColumns) : Type 0 where
-  pub from : now .froms ≡ filled (map (λ (g : Gap). g .from) gs) (lent .froms)
-  pub to : now .tos ≡ filled (map (λ (g : Gap). g .to) gs) (lent .tos)
-  pub weight : now .weights ≡ filled (map gapWeight gs) (lent .weights)
-  pub freq : now .freqs ≡ filled (map (λ (g : Gap). g .freq) gs) (lent .freqs)
-
-pub stored-held : (gs : List Gap) (lent now : CutColumns) → CutRows (length gs) lent → now ≡ storedGaps 0 gs lent → CutHeld gs lent now
-stored-held gs lent now r e =
-    record {
-      from = ap (λ (c : CutColumns). c .froms) e ∙ field-filled (λ c. c .froms) (λ g. g .from) (λ at g c. refl) gs lent (r .from);
-      to = ap (λ (c : CutColumns). c .tos) e ∙ field-filled (λ c. c .tos) (λ g. g .to) (λ at g c. refl) gs lent (r .to);
-      weight = ap (λ (c : CutColumns). c .weights) e ∙ field-filled (λ c. c .weights) gapWeight (λ at g c. refl) gs lent (r .weight);
-      freq = ap (λ (c : CutColumns). c .freqs) e ∙ field-filled (λ c. c .freqs) (λ g. g .freq) (λ at g c. refl) gs lent (r .freq);
-    }
+    → (gs : List Gap) (lent now : CutColumns) → length gs ≤ length (column lent) → now ≡ storedGaps 0 gs lent → column now ≡ filled (map field gs) (column lent)
+field-filled column field one gs lent now h e =
+    ap column e
+    ∙ stored-filled withNext (λ s. s .at) (λ r s. refl) (λ s. column (s .cols)) field (λ r s. one (s .at) r (s .cols)) gs
+    (record { at = 0; cols = lent }) refl h
 
 -- the gaps on the left, the own one and those on the right, stored one after the other
 pub stored-three : (ls rs : List Gap) (own : Gap) (lent : CutColumns) → storedGaps (length ls + 1) rs (withGap (storedGaps 0 ls lent) (length ls) own)

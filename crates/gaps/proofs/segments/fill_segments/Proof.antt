@@ -32,8 +32,9 @@ abbrev μ-loop : tie.MeasureT-loop
     segment-value segment-gap gap held used last i =
     length start - i
 
-abbrev begin : tie.In-loop Inv-loop μ-loop → tie.Start Inv-loop μ-loop
-begin c = c .before .before .before .before .before .before .before .before .before .before .before .before
+-- where a turn begins, and where the last one has ended
+abbrev begin : tie.At-loop Inv-loop μ-loop → tie.Start Inv-loop μ-loop
+begin l = l .before .before .before .before .before .before .before .before .before .before .before
 
 -- the columns as lent, and as a turn finds them
 abbrev lent : tie.Start Inv-loop μ-loop → SegmentColumns
@@ -51,19 +52,19 @@ all s = let a = s .args in gapSegments (a .from .now) (a .to .now) (a .start .no
 -- the segment of a turn
 abbrev segment : tie.In-loop Inv-loop μ-loop → PassingSegment
 segment l =
-    let a = begin l .args in
+    let a = begin (l .before) .args in
     let i = l .before .loop .i in
     passingSegment (a .start .now) (a .end .now) (a .value .now) i (lastOf (a .end .now) i)
 
 segment-is : (c : tie.After-segment-at Inv-loop μ-loop) → c .segment-at .result ≡ segment (c .before)
 segment-is c =
     let l = c .before in
-    let a = begin l .args in
+    let a = begin (l .before) .args in
     c .segment-at .ensures ∙ ap (passingSegment (a .start .now) (a .end .now) (a .value .now) (l .before .loop .i)) (l .before .loop .inv .1)
 
 -- what the segments so far gave
 sofar : (l : tie.In-loop Inv-loop μ-loop) →
-    let a = begin l .args in
+    let a = begin (l .before) .args in
     let p = l .before .loop in
     Sofar (a .start .now) (a .end .now) (a .from .now) (a .to .now) (a .live .now) (p .live) (p .gap) (p .held) (p .i)
 sofar l = l .before .loop .inv .2
@@ -71,14 +72,14 @@ sofar l = l .before .loop .inv .2
 -- and what they give with this one
 counted : (c : tie.After-pass-gaps Inv-loop μ-loop) →
     let l = c .before .before .before .before .before .before .before in
-    let a = begin l .args in
+    let a = begin (l .before) .args in
     let p = l .before .loop in
     Sofar (a .start .now) (a .end .now) (a .from .now) (a .to .now) (a .live .now)
     (back (p .gap) (p .live) (c .pass-gaps .last .1 .1 .0)) (c .pass-gaps .result .gap) (c .pass-gaps .result .held) (p .i + 1)
 counted c =
     let d = c .before .before .before .before .before .before in
     let l = d .before in
-    let s = begin l in
+    let s = begin (l .before) in
     let a = s .args in
     let p = l .before .loop in
     let r = c .pass-gaps .result in
@@ -90,14 +91,14 @@ counted c =
 
 left : (c : tie.After-pass-gaps Inv-loop μ-loop) →
     let l = c .before .before .before .before .before .before .before in
-    let s = begin l in
+    let s = begin (l .before) in
     let n = c .pass-gaps .last .1 .1 .1 .1 in
     Left (fromOn (lists s) (length (s .args .start .now)) (l .before .loop .i + 1)) (all s) (lent s)
     (segmentColumns (n .0) (n .1 .0) (n .1 .1 .0) (n .1 .1 .1 .0) (c .pass-gaps .result .used))
 left c =
     let d = c .before .before .before .before .before .before in
     let l = d .before in
-    let s = begin l in
+    let s = begin (l .before) in
     let a = s .args in
     let n = c .pass-gaps .last .1 .1 .1 .1 in
     next-left (lists s) (length (a .start .now)) (l .before .loop .i) (l .loop-test .taken) (all s) (lent s) (found l) (l .before .loop .inv .3)
@@ -117,30 +118,38 @@ loop-holds c =
     )
 
 segment-at-requires : tie.Need-segment-at-requires Inv-loop μ-loop
-segment-at-requires c κs = (begin c .pre .0 .0, c .loop-test .taken)
+segment-at-requires c κs = (begin (c .before) .pre .0 .0, c .loop-test .taken)
 
 -- the live column has rows for the gaps that are left
-gap-inside : (c : tie.In-loop Inv-loop μ-loop) → c .before .loop .gap ≤ length (c .before .loop .live)
-gap-inside c =
-    let s = begin c in
+gap-inside : (l : tie.At-loop Inv-loop μ-loop) → l .loop .gap ≤ length (l .loop .live)
+gap-inside l =
+    let s = begin l in
     let a = s .args in
-    let p = c .before .loop in
+    let p = l .loop in
     sofar-room (a .start .now) (a .end .now) (a .value .now) (a .from .now) (a .to .now) (a .live .now) (p .live) (p .gap) (p .held) (p .i)
-    (s .pre .0 .0 .bounds) (s .pre .0 .1) (s .pre .0 .2) (sofar c)
+    (s .pre .0 .0 .bounds) (s .pre .0 .1) (s .pre .0 .2) (p .inv .2)
+
+rest-fits : (l : tie.At-loop Inv-loop μ-loop) → length (begin l .args .from .now) ≤ l .loop .gap + length (rest (l .loop .gap) (l .loop .live))
+rest-fits l =
+    let s = begin l in
+    let a = s .args in
+    let p = l .loop in
+    rest-room (a .start .now) (a .end .now) (a .value .now) (a .from .now) (a .to .now) (a .live .now) (p .live) (p .gap) (p .held) (p .i)
+    (s .pre .0 .0 .bounds) (s .pre .0 .1) (s .pre .0 .2) (p .inv .2)
 
 mul-pass-gaps : tie.Need-mul-pass-gaps Inv-loop μ-loop
 mul-pass-gaps c =
     let l = c .before in
-    let i = gap-inside l in
+    let i = gap-inside (l .before) in
     let e = sofar l .passed .long in
-    let g = begin l .good .1 .1 .1 .1 .1 .0 .1 in
+    let g = begin (l .before) .good .1 .1 .1 .1 .1 .0 .1 in
     omega (arith, i, e, g)
 
 sub-pass-gaps : tie.Need-sub-pass-gaps Inv-loop μ-loop
-sub-pass-gaps c = gap-inside (c .before)
+sub-pass-gaps c = gap-inside (c .before .before)
 
 part-pass-gaps-start : tie.Need-part-pass-gaps-start Inv-loop μ-loop
-part-pass-gaps-start c = gap-inside (c .before)
+part-pass-gaps-start c = gap-inside (c .before .before)
 
 part-pass-gaps-end : tie.Need-part-pass-gaps-end Inv-loop μ-loop
 part-pass-gaps-end c = search needs
@@ -149,7 +158,7 @@ pass-gaps-requires : tie.Need-pass-gaps-requires Inv-loop μ-loop
 pass-gaps-requires c κs =
     let d = c .before .before .before .before .before in
     let l = d .before in
-    let s = begin l in
+    let s = begin (l .before) in
     let a = s .args in
     let p = l .before .loop in
     let e = sym (segment-is d) in (
@@ -158,8 +167,7 @@ pass-gaps-requires c κs =
         subst (λ (s : PassingSegment). Passing (a .from .now) (a .to .now) s (p .gap) (p .held)) e
             (comes (a .start .now) (a .end .now) (a .value .now) (a .from .now) (a .to .now) (a .live .now) (p .live) (p .gap) (p .held) (p .i)
             (s .pre .0 .0 .bounds) (s .pre .0 .1) (s .pre .0 .2) (sofar l) (l .loop-test .taken)),
-        rest-room (a .start .now) (a .end .now) (a .value .now) (a .from .now) (a .to .now) (a .live .now) (p .live) (p .gap) (p .held) (p .i)
-            (s .pre .0 .0 .bounds) (s .pre .0 .1) (s .pre .0 .2) (sofar l),
+        rest-fits (l .before),
       ),
       subst
           (λ (s : PassingSegment). SegmentRoom (length (overlapsOf (a .from .now) (a .to .now) (s .start .0) (s .end .0) (s .value .0))) (found l)) e
@@ -168,7 +176,7 @@ pass-gaps-requires c κs =
 
 add-i : tie.Need-add-i Inv-loop μ-loop
 add-i c = let l = c .before .before .before .before .before .before .before .before .before .before .before .before .before .before .before
-    .before .before .before in let h = l .loop-test .taken in let g = begin l .good .0 .0 in omega (arith, h, g)
+    .before .before .before in let h = l .loop-test .taken in let g = begin (l .before) .good .0 .0 in omega (arith, h, g)
 
 loop-less : tie.Need-loop-less Inv-loop μ-loop
 loop-less c = let h = c .before .before .before .before .before .before .before .before .before .before .before .before .before .before .before
@@ -181,31 +189,20 @@ loop-again c =
     let l = e .before in
     let h = l .loop-test .taken in (
       omega (arith, h),
-      ap (λ (s : PassingSegment). s .«live_to» .0) (segment-is e) ∙ last-next (begin l .args .end .now) (l .before .loop .i),
+      ap (λ (s : PassingSegment). s .«live_to» .0) (segment-is e) ∙ last-next (begin (l .before) .args .end .now) (l .before .loop .i),
       counted d,
       left d,
     )
 
 -- ---- behind the last segment
-abbrev start : tie.After-loop Inv-loop μ-loop → tie.Start Inv-loop μ-loop
-start c = c .before .before .before .before .before .before .before .before .before .before .before .before
-
-rest-inside : (c : tie.After-loop Inv-loop μ-loop) → c .before .loop .gap ≤ length (c .before .loop .live)
-rest-inside c =
-    let s = start c in
-    let a = s .args in
-    let p = c .before .loop in
-    sofar-room (a .start .now) (a .end .now) (a .value .now) (a .from .now) (a .to .now) (a .live .now) (p .live) (p .gap) (p .held) (p .i)
-    (s .pre .0 .0 .bounds) (s .pre .0 .1) (s .pre .0 .2) (p .inv .2)
-
 mul-put-rest : tie.Need-mul-put-rest Inv-loop μ-loop
 mul-put-rest c = search needs
 
 sub-put-rest : tie.Need-sub-put-rest Inv-loop μ-loop
-sub-put-rest c = rest-inside c
+sub-put-rest c = gap-inside (c .before)
 
 part-put-rest-start : tie.Need-part-put-rest-start Inv-loop μ-loop
-part-put-rest-start c = rest-inside c
+part-put-rest-start c = gap-inside (c .before)
 
 part-put-rest-end : tie.Need-part-put-rest-end Inv-loop μ-loop
 part-put-rest-end c = search needs
@@ -214,22 +211,16 @@ sub-put-rest-2 : tie.Need-sub-put-rest-2 Inv-loop μ-loop
 sub-put-rest-2 c = c .before .before .loop .inv .2 .ended .inside
 
 put-rest-requires : tie.Need-put-rest-requires Inv-loop μ-loop
-put-rest-requires c κs =
-    let s = start (c .before) in
-    let a = s .args in
-    let p = c .before .before .loop in
-    let r = rest-room (a .start .now) (a .end .now) (a .value .now) (a .from .now) (a .to .now) (a .live .now) (p .live) (p .gap) (p .held) (p .i)
-    (s .pre .0 .0 .bounds) (s .pre .0 .1) (s .pre .0 .2) (p .inv .2) in
-    omega (arith, r)
+put-rest-requires c κs = let r = rest-fits (c .before .before) in omega (arith, r)
 
 -- the live column holds the live instructions of each gap
 live-is : (c : tie.After-put-rest Inv-loop μ-loop) →
-    let s = start (c .before .before) in
+    let s = begin (c .before .before .before) in
     let a = s .args in
     let p = c .before .before .before .loop in
     back (p .gap) (p .live) (c .put-rest .last .0) ≡ filled (liveColumn (a .start .now) (a .end .now) (a .from .now) (a .to .now)) (a .live .now)
 live-is c =
-    let s = start (c .before .before) in
+    let s = begin (c .before .before .before) in
     let a = s .args in
     let p = c .before .before .before .loop in
     sofar-all (a .start .now) (a .end .now) (a .value .now) (a .from .now) (a .to .now) (a .live .now) (p .live) (p .gap) (p .held) (p .i)
@@ -238,10 +229,9 @@ live-is c =
 
 same-length : tie.Need-same-length Inv-loop μ-loop
 same-length c =
-    let s = start (c .before .before .before .before) in
     let p = c .before .before .before .before .before .loop in
-    back-long (p .gap) (p .live) (c .before .before .put-rest .last .0) (rest-inside (c .before .before .before .before)) (c .before
-    .before .put-rest .ensures .long) ∙ p .inv .2 .passed .long
+    back-long (p .gap) (p .live) (c .before .before .put-rest .last .0) (gap-inside (c .before .before .before .before .before))
+    (c .before .before .put-rest .ensures .long) ∙ p .inv .2 .passed .long
 
 same-length-2 : tie.Need-same-length-2 Inv-loop μ-loop
 same-length-2 c = c .before .before .before .before .before .loop .inv .3 .same .from
@@ -257,7 +247,7 @@ same-length-5 c = c .before .before .before .before .before .loop .inv .3 .same 
 
 returns : tie.Need-returns Inv-loop μ-loop
 returns c =
-    let s = start (c .before .before .before .before) in
+    let s = begin (c .before .before .before .before .before) in
     let p = c .before .before .before .before .before .loop in (
       live-is (c .before .before),
       subst (λ (now : SegmentColumns). Filled (all s) (lent s) now)
