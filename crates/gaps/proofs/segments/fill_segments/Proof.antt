@@ -32,7 +32,7 @@ abbrev μ-loop : tie.MeasureT-loop
     segment-value segment-gap gap held used last i =
     length start - i
 
--- where a turn begins, and where the last one has ended
+-- the start, from the loop's head
 abbrev begin : tie.At-loop Inv-loop μ-loop → tie.Start Inv-loop μ-loop
 begin l = l .before .before .before .before .before .before .before .before .before .before .before
 

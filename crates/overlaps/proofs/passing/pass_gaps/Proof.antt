@@ -34,9 +34,9 @@ begin c = c .before .before .before .before .before .before .before .before .bef
 abbrev head : tie.After-least Inv-loop μ-loop → tie.In-loop Inv-loop μ-loop
 head c = c .before .before .before .before .before
 
--- a gap's row is stored, or the segment ends in it
-abbrev stored : tie.Then1 Inv-loop μ-loop → tie.After-put-overlap Inv-loop μ-loop
-stored c = c .before .before .before .before .before .before .before .before .before .before
+-- where the overlap is stored: of the gap in which the segment ends, and of a gap that it passes
+abbrev ended : tie.Then1 Inv-loop μ-loop → tie.After-put-overlap Inv-loop μ-loop
+ended c = c .before .before .before .before .before .before .before .before .before .before
 
 abbrev passed : tie.Else1 Inv-loop μ-loop → tie.After-put-overlap Inv-loop μ-loop
 passed c = c .before .before .before .before .before .before .before .before .before .before
@@ -164,23 +164,23 @@ put-overlap-requires c κs =
     (lent (begin l)) (found l) (l .before .loop .inv .1))
 
 same-length : tie.Need-same-length Inv-loop μ-loop
-same-length c = come (head (stored c .before .before .before .before .before)) .passed .long
+same-length c = come (head (ended c .before .before .before .before .before)) .passed .long
 
 same-length-2 : tie.Need-same-length-2 Inv-loop μ-loop
-same-length-2 c = left (stored c) .same .from
+same-length-2 c = left (ended c) .same .from
 
 same-length-3 : tie.Need-same-length-3 Inv-loop μ-loop
-same-length-3 c = left (stored c) .same .to
+same-length-3 c = left (ended c) .same .to
 
 same-length-4 : tie.Need-same-length-4 Inv-loop μ-loop
-same-length-4 c = left (stored c) .same .value
+same-length-4 c = left (ended c) .same .value
 
 same-length-5 : tie.Need-same-length-5 Inv-loop μ-loop
-same-length-5 c = left (stored c) .same .gap
+same-length-5 c = left (ended c) .same .gap
 
 returns : tie.Need-returns Inv-loop μ-loop
 returns c =
-    let d = stored c .before .before .before .before .before in
+    let d = ended c .before .before .before .before .before in
     let l = head d in
     let s = begin l in
     let a = s .args in
@@ -195,7 +195,7 @@ returns c =
       left-none
           (fromOn (lists s) (length (a .from .now)) (p .g + 1)) (all s) (lent s) _
           (overlaps-end (a .from .now) (a .to .now) gaps (a .s .start .0) (a .s .end .0) (a .s .value .0) (p .g) (omega (arith, t, e)))
-          (left (stored c)),
+          (left (ended c)),
     )
 
 sub-live : tie.Need-sub-live Inv-loop μ-loop
