@@ -18,7 +18,7 @@ extern "C" {
 
 /* The symbols of the functions end in the version of this interface and in what to do, so that an archive of another version does not
  * link, and the linker's own message says how to get one that does. Programs use the plain names. */
-#define GELDUVRA_VERSIONED(name) name##_v2_else_run_rt_staticlib_exports
+#define GELDUVRA_VERSIONED(name) name##_v3_else_run_rt_staticlib_exports
 #define gelduvra_propose_split GELDUVRA_VERSIONED(gelduvra_propose_split)
 #define gelduvra_find_optimal_split_point GELDUVRA_VERSIONED(gelduvra_find_optimal_split_point)
 #define gelduvra_normalised_weight GELDUVRA_VERSIONED(gelduvra_normalised_weight)
@@ -30,9 +30,29 @@ enum gelduvra_answer { GELDUVRA_PROPOSAL = 0, GELDUVRA_NO_BEST_USE = 1, GELDUVRA
 
 #define GELDUVRA_ABSENT 4294967295u
 
-/* The answer to a job, and its tables in the columns that are written. They need U+2, U+B+2, U+B+S+2 and B rows, for U uses, B blocks
+/* The answer to a job, and its tables in the columns that are written, which come first. They need U+2, U+B+2, U+B+S+2 and B rows, for U uses, B blocks
  * and S segments; later rows are left as they were. */
 void gelduvra_propose_split(
+    /* links of each block: previous, next; 4294967295 if absent */
+    uint32_t *prev_lower_freq, size_t prev_lower_freq_len,
+    uint32_t *next_lower_freq, size_t next_lower_freq_len,
+    /* use table: instruction, main, left and right weight */
+    uint32_t *inst, size_t inst_len,
+    float *weight, size_t weight_len,
+    float *left_weight, size_t left_weight_len,
+    float *right_weight, size_t right_weight_len,
+    /* gaps: from, to, weight, live instructions, frequency, the block that carries it */
+    uint32_t *gap_from, size_t gap_from_len,
+    uint32_t *gap_to, size_t gap_to_len,
+    float *gap_weight, size_t gap_weight_len,
+    uint32_t *live, size_t live_len,
+    float *min_freq, size_t min_freq_len,
+    uint32_t *gap_block, size_t gap_block_len,
+    /* gap segments: from and to point, value, gap */
+    uint32_t *segment_from, size_t segment_from_len,
+    uint32_t *segment_to, size_t segment_to_len,
+    uint32_t *segment_value, size_t segment_value_len,
+    uint32_t *segment_gap, size_t segment_gap_len,
     /* blocks: frequency bits, first instruction, end */
     const uint32_t *freq, size_t freq_len,
     const uint32_t *first, size_t first_len,
@@ -65,25 +85,6 @@ void gelduvra_propose_split(
     const uint32_t *f_value, size_t f_value_len,
     /* the adjustment k, the bits of the three scales, the units */
     uint32_t k, uint32_t cheaper_than_move, uint32_t cheaper_than_load, uint32_t indirect, uint32_t units,
-    /* links of each block: previous, next; 4294967295 if absent */
-    uint32_t *prev_lower_freq, size_t prev_lower_freq_len,
-    uint32_t *next_lower_freq, size_t next_lower_freq_len,
-    /* use table: instruction, main, left and right weight */
-    uint32_t *inst, size_t inst_len,
-    float *weight, size_t weight_len,
-    float *left_weight, size_t left_weight_len,
-    float *right_weight, size_t right_weight_len,
-    /* gaps: from, to, weight, live instructions, frequency */
-    uint32_t *gap_from, size_t gap_from_len,
-    uint32_t *gap_to, size_t gap_to_len,
-    float *gap_weight, size_t gap_weight_len,
-    uint32_t *live, size_t live_len,
-    float *min_freq, size_t min_freq_len,
-    /* gap segments: from and to point, value, gap */
-    uint32_t *segment_from, size_t segment_from_len,
-    uint32_t *segment_to, size_t segment_to_len,
-    uint32_t *segment_value, size_t segment_value_len,
-    uint32_t *segment_gap, size_t segment_gap_len,
     uint64_t answer[10]);
 
 /* The lower-cost split point between two instructions. The words: 0 and the instruction, or 1 and a refusal's number and place. */

@@ -1,5 +1,5 @@
-/* Record 95 of recorded/answers.txt through the library: a job whose ten words all differ, so that no two of them can be exchanged unseen.
- * Prints them and the normalised weight, and answers 0 if they are the ones recorded. */
+/* A job through the library whose ten words all differ, so that no two of them can be exchanged unseen; of its seven gaps no two name the
+ * same block. Prints the words, the normalised weight and the blocks, and answers 0 if they are those of `oracle/run tables`. */
 #include "gelduvra.h"
 
 #include <inttypes.h>
@@ -31,11 +31,16 @@ int main(void)
     const uint32_t r_index[] = {0, 0};
     const uint32_t r_fixed[] = {4294967295u, 4294967295u};
     const uint32_t none[1] = {0};
-    uint32_t prev[11], next[11], inst[6], gap_from[17], gap_to[17], live[17], segment_from[23], segment_to[23], segment_value[23], segment_gap[23];
+    uint32_t prev[11], next[11], inst[6], gap_from[17], gap_to[17], live[17], gap_block[17];
+    uint32_t segment_from[23], segment_to[23], segment_value[23], segment_gap[23];
     float weight[6], left[6], right[6], gap_weight[17], min_freq[17];
     uint64_t answer[10];
 
     gelduvra_propose_split(
+        COLUMN(prev), COLUMN(next),
+        COLUMN(inst), COLUMN(weight), COLUMN(left), COLUMN(right),
+        COLUMN(gap_from), COLUMN(gap_to), COLUMN(gap_weight), COLUMN(live), COLUMN(min_freq), COLUMN(gap_block),
+        COLUMN(segment_from), COLUMN(segment_to), COLUMN(segment_value), COLUMN(segment_gap),
         COLUMN(freq), COLUMN(first), COLUMN(end), COLUMN(code),
         COLUMN(s_start), COLUMN(s_end), COLUMN(s_value), COLUMN(s_first_use),
         COLUMN(s_end_use), COLUMN(s_flags), COLUMN(position), COLUMN(u_kind),
@@ -43,10 +48,6 @@ int main(void)
         COLUMN(r_end), COLUMN(r_kind), COLUMN(r_index), COLUMN(r_fixed),
         EMPTY, EMPTY, EMPTY,
         1, 1065353216, 1056964608, 1199570944, 1,
-        COLUMN(prev), COLUMN(next),
-        COLUMN(inst), COLUMN(weight), COLUMN(left), COLUMN(right),
-        COLUMN(gap_from), COLUMN(gap_to), COLUMN(gap_weight), COLUMN(live), COLUMN(min_freq),
-        COLUMN(segment_from), COLUMN(segment_to), COLUMN(segment_value), COLUMN(segment_gap),
         answer);
 
     const uint64_t expected[10] = {GELDUVRA_PROPOSAL, 1, 4, 6291456, 3, 1233101, 1065353216, 5, 7, 9};
@@ -58,5 +59,11 @@ int main(void)
     /* What is entered for the register if the proposal is taken. */
     uint32_t entered = gelduvra_normalised_weight((uint32_t)answer[3], (uint32_t)answer[4], 1);
     printf("%" PRIu32 "\n", entered);
+    /* The block behind each gap's frequency. */
+    const uint32_t blocks[7] = {0, 1, 2, 3, 4, 5, 8};
+    for (int i = 0; i < 7; i++) {
+        printf("%" PRIu32 "\n", gap_block[i]);
+        differ |= gap_block[i] != blocks[i];
+    }
     return differ | (entered != 1572864);
 }

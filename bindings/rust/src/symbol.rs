@@ -3,6 +3,6 @@
 // build.rs reads this file too. `bin/raise-version` raises the version here, in the C header and in crates/exports.
 macro_rules! symbol {
     ($name:literal) => {
-        concat!($name, "_v2_else_run_rt_staticlib_exports")
+        concat!($name, "_v3_else_run_rt_staticlib_exports")
     };
 }

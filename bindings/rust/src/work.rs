@@ -33,6 +33,8 @@ pub struct WorkTables<'a> {
     pub live: &'a mut [u32],
     /// The gaps: the least frequency of the blocks met.
     pub min_freq: &'a mut [f32],
+    /// The gaps: the block that carries it.
+    pub gap_block: &'a mut [u32],
     /// The gap segments: the first point.
     pub segment_from: &'a mut [u32],
     /// The gap segments: the point after the last.
@@ -48,8 +50,14 @@ impl WorkTables<'_> {
         same_length(Table::Links, [self.prev_lower_freq.len(), self.next_lower_freq.len()])?;
         let uses = [self.inst.len(), self.weight.len(), self.left_weight.len(), self.right_weight.len()];
         same_length(Table::UseTable, uses)?;
-        let gaps =
-            [self.gap_from.len(), self.gap_to.len(), self.gap_weight.len(), self.live.len(), self.min_freq.len()];
+        let gaps = [
+            self.gap_from.len(),
+            self.gap_to.len(),
+            self.gap_weight.len(),
+            self.live.len(),
+            self.min_freq.len(),
+            self.gap_block.len(),
+        ];
         same_length(Table::Gaps, gaps)?;
         let segments =
             [self.segment_from.len(), self.segment_to.len(), self.segment_value.len(), self.segment_gap.len()];
@@ -92,6 +100,8 @@ pub struct Gaps<'a> {
     pub live: &'a [u32],
     /// The least frequency of the blocks met.
     pub min_freq: &'a [f32],
+    /// The block that carries it: the gap's last left of the best use, the first right of it, and the best use's own for its gap.
+    pub block: &'a [u32],
 }
 
 /// All nonempty overlaps of a gap and a segment, in order.
@@ -125,6 +135,7 @@ pub struct Scratch {
     gap_weight: Vec<f32>,
     live: Vec<u32>,
     min_freq: Vec<f32>,
+    gap_block: Vec<u32>,
     segment_from: Vec<u32>,
     segment_to: Vec<u32>,
     segment_value: Vec<u32>,
@@ -139,7 +150,7 @@ impl Scratch {
         Self::default()
     }
 
-    /// Tables large enough for every job, some 450 kilobytes, so that none allocates.
+    /// Tables large enough for every job, some 490 kilobytes, so that none allocates.
     pub fn for_any_job() -> Self {
         let mut scratch = Self::default();
         scratch.grow(MOST_ITEMS, MOST_ITEMS, MOST_ITEMS);
@@ -188,6 +199,7 @@ impl Scratch {
             weight: &self.gap_weight[..n],
             live: &self.live[..n],
             min_freq: &self.min_freq[..n],
+            block: &self.gap_block[..n],
         }
     }
 
@@ -215,7 +227,7 @@ impl Scratch {
             resize([&mut self.weight, &mut self.left_weight, &mut self.right_weight], uses);
         }
         if self.gap_from.len() < gaps {
-            resize([&mut self.gap_from, &mut self.gap_to, &mut self.live], gaps);
+            resize([&mut self.gap_from, &mut self.gap_to, &mut self.live, &mut self.gap_block], gaps);
             resize([&mut self.gap_weight, &mut self.min_freq], gaps);
         }
         if self.segment_from.len() < gap_segments {
@@ -239,6 +251,7 @@ impl Scratch {
             gap_weight: &mut self.gap_weight,
             live: &mut self.live,
             min_freq: &mut self.min_freq,
+            gap_block: &mut self.gap_block,
             segment_from: &mut self.segment_from,
             segment_to: &mut self.segment_to,
             segment_value: &mut self.segment_value,

@@ -82,11 +82,11 @@ fn rooms() {
         let floats = |rows: usize| vec![f32::from_bits(PATTERN); rows];
         let mut links = [numbers(l), numbers(l)];
         let (mut inst, mut uses) = (numbers(u), [floats(u), floats(u), floats(u)]);
-        let (mut gaps, mut gap_floats) = ([numbers(g), numbers(g), numbers(g)], [floats(g), floats(g)]);
+        let (mut gaps, mut gap_floats) = ([0, 1, 2, 3].map(|_| numbers(g)), [floats(g), floats(g)]);
         let mut segments = [numbers(o), numbers(o), numbers(o), numbers(o)];
         let [prev_lower_freq, next_lower_freq] = &mut links;
         let [weight, left_weight, right_weight] = &mut uses;
-        let [gap_from, gap_to, live] = &mut gaps;
+        let [gap_from, gap_to, live, gap_block] = &mut gaps;
         let [gap_weight, min_freq] = &mut gap_floats;
         let [segment_from, segment_to, segment_value, segment_gap] = &mut segments;
         let mut work = WorkTables {
@@ -101,6 +101,7 @@ fn rooms() {
             gap_weight,
             live,
             min_freq,
+            gap_block,
             segment_from,
             segment_to,
             segment_value,

@@ -142,12 +142,12 @@ fn columns_of_different_lengths() {
 fn lent_columns_of_different_lengths() {
     let sheet = case("A");
     let mut tried = 0;
-    for short in 0..=15 {
-        let mut columns: Vec<Vec<u32>> = (0..10).map(|_| vec![0; 9]).collect();
+    for short in 0..=16 {
+        let mut columns: Vec<Vec<u32>> = (0..11).map(|_| vec![0; 9]).collect();
         let mut floats: Vec<Vec<f32>> = (0..5).map(|_| vec![0.0; 9]).collect();
         match short {
-            0..10 => columns[short].truncate(8),
-            10..15 => floats[short - 10].truncate(8),
+            0..11 => columns[short].truncate(8),
+            11..16 => floats[short - 11].truncate(8),
             _ => {}
         }
         let mut columns = columns.iter_mut().map(|column| &mut column[..]);
@@ -160,6 +160,7 @@ fn lent_columns_of_different_lengths() {
             gap_from: column(),
             gap_to: column(),
             live: column(),
+            gap_block: column(),
             segment_from: column(),
             segment_to: column(),
             segment_value: column(),
@@ -172,7 +173,7 @@ fn lent_columns_of_different_lengths() {
         };
         let answer = propose_split(&sheet.job(), &mut work);
         match short {
-            15 => assert!(answer.is_ok()),
+            16 => assert!(answer.is_ok()),
             _ => {
                 let Err(Error::Lengths(error)) = answer else { panic!("column {short} was taken") };
                 assert_eq!((error.shortest, error.longest), (8, 9));
@@ -180,7 +181,7 @@ fn lent_columns_of_different_lengths() {
             }
         }
     }
-    assert_eq!(tried, 15);
+    assert_eq!(tried, 16);
 }
 
 /// Each refusal is a sentence of its own and names what it is about.

@@ -24,7 +24,7 @@ partOf part part-of-weights r =
     let gaps : List ℕ = part (r .gaps) (replicate (sheetRooms .gaps) 0) in
     let gap-weights : List Float = part-of-weights (r .gaps) (replicate (sheetRooms .gaps) none) in
     let segments : List ℕ = part (r .«gap_segments») (replicate (sheetRooms .«gap_segments») 0) in
-    workColumns links links uses use-weights use-weights use-weights gaps gaps gap-weights gaps gap-weights segments segments segments segments
+    workColumns links links uses use-weights use-weights use-weights gaps gaps gap-weights gaps gap-weights gaps segments segments segments segments
 
 abbrev pub lentOf : Rooms → WorkColumns
 lentOf r = partOf take take r
@@ -64,8 +64,8 @@ module _ (asked : Rooms) {r : Rooms} (e : r ≡ roomsWithin asked) where
   four : (n : ℕ) → shortest (n ∷ n ∷ n ∷ n ∷ []) ≡ n
   four n = ap (λ (m : ℕ). min n (min n m)) (same n) ∙ ap (min n) (same n) ∙ same n
 
-  five : (n : ℕ) → shortest (n ∷ n ∷ n ∷ n ∷ n ∷ []) ≡ n
-  five n = ap (min n) (four n) ∙ same n
+  six : (n : ℕ) → shortest (n ∷ n ∷ n ∷ n ∷ n ∷ n ∷ []) ≡ n
+  six n = ap (λ (m : ℕ). min n (min n m)) (four n) ∙ ap (min n) (same n) ∙ same n
 
   rooms-own : roomsOf (lentOf r) ≡ r
   rooms-own =
@@ -77,7 +77,7 @@ module _ (asked : Rooms) {r : Rooms} (e : r ≡ roomsWithin asked) where
       let s = sym (lent-long {A = ℕ} (sheetRooms .«gap_segments») (r .«gap_segments») 0 segments-few) in
       let links : roomsOf (lentOf r) .links ≡ r .links = (λ i. min (l i) (l i)) ∙ same (r .links) in
       let uses : roomsOf (lentOf r) .uses ≡ r .uses = (λ i. shortest (u i ∷ v i ∷ v i ∷ v i ∷ [])) ∙ four (r .uses) in
-      let gaps : roomsOf (lentOf r) .gaps ≡ r .gaps = (λ i. shortest (g i ∷ g i ∷ w i ∷ g i ∷ w i ∷ [])) ∙ five (r .gaps) in
+      let gaps : roomsOf (lentOf r) .gaps ≡ r .gaps = (λ i. shortest (g i ∷ g i ∷ w i ∷ g i ∷ w i ∷ g i ∷ [])) ∙ six (r .gaps) in
       let segments : roomsOf (lentOf r) .«gap_segments» ≡ r .«gap_segments» = (λ i. shortest (s i ∷ s i ∷ s i ∷ s i ∷ [])) ∙ four (r .«gap_segments») in
       λ i. record { uses = uses i; gaps = gaps i; «gap_segments» = segments i; links = links i }
 

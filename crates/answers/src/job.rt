@@ -80,6 +80,7 @@ pub fn answer_job<'a>(
     let mut gap_weight = [0f32; GAP_ROWS];
     let mut live = [0u32; GAP_ROWS];
     let mut freq = [0f32; GAP_ROWS];
+    let mut gap_block = [0u32; GAP_ROWS];
     let mut segment_from = [0u32; GAP_SEGMENT_ROWS];
     let mut segment_to = [0u32; GAP_SEGMENT_ROWS];
     let mut segment_value = [0u32; GAP_SEGMENT_ROWS];
@@ -98,6 +99,7 @@ pub fn answer_job<'a>(
         &mut gap_weight[..gaps],
         &mut live[..gaps],
         &mut freq[..gaps],
+        &mut gap_block[..gaps],
         &mut segment_from[..gap_segments],
         &mut segment_to[..gap_segments],
         &mut segment_value[..gap_segments],
@@ -122,6 +124,7 @@ pub fn answer_job<'a>(
             &gap_weight,
             &live,
             &freq,
+            &gap_block,
             &segment_from,
             &segment_to,
             &segment_value,

@@ -20,9 +20,16 @@ pub fn shortest_of_four(a: usize, b: usize, c: usize, d: usize) -> usize
     shorter(a, m)
 }
 
-pub fn shortest_of_five(a: usize, b: usize, c: usize, d: usize, e: usize) -> usize
+fn shortest_of_five(a: usize, b: usize, c: usize, d: usize, e: usize) -> usize
     ensures { λ r. ⌜ r ≡ shortest (a ∷ b ∷ c ∷ d ∷ e ∷ []) ⌝ }
 {
     let n = shortest_of_four(b, c, d, e);
+    shorter(a, n)
+}
+
+pub fn shortest_of_six(a: usize, b: usize, c: usize, d: usize, e: usize, f: usize) -> usize
+    ensures { λ r. ⌜ r ≡ shortest (a ∷ b ∷ c ∷ d ∷ e ∷ f ∷ []) ⌝ }
+{
+    let n = shortest_of_five(b, c, d, e, f);
     shorter(a, n)
 }

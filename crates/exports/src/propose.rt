@@ -6,9 +6,25 @@ ghost use Rattle.refusals.specs.Job.{jobOf, jobColumns};
 ghost use Rattle.filling.specs.SourceTables.{workColumns};
 ghost use Rattle.words.specs.Words.{IsExported};
 
-// The answer to a job, and its tables in the lent columns: `propose_split`, with its answer in ten words.
+// The answer to a job, and its tables in the lent columns, which come first: `propose_split`, with its answer in ten words.
 #[no_mangle]
-pub extern "C" fn gelduvra_propose_split_v2_else_run_rt_staticlib_exports<'a>(
+pub extern "C" fn gelduvra_propose_split_v3_else_run_rt_staticlib_exports<'a>(
+    prev_lower_freq: &mut [u32],
+    next_lower_freq: &mut [u32],
+    inst: &mut [u32],
+    weight: &mut [f32],
+    left_weight: &mut [f32],
+    right_weight: &mut [f32],
+    gap_from: &mut [u32],
+    gap_to: &mut [u32],
+    gap_weight: &mut [f32],
+    live: &mut [u32],
+    min_freq: &mut [f32],
+    gap_block: &mut [u32],
+    segment_from: &mut [u32],
+    segment_to: &mut [u32],
+    segment_value: &mut [u32],
+    segment_gap: &mut [u32],
     freq: &'a [u32],
     first: &'a [u32],
     end: &'a [u32],
@@ -37,21 +53,6 @@ pub extern "C" fn gelduvra_propose_split_v2_else_run_rt_staticlib_exports<'a>(
     cheaper_than_load: u32,
     indirect: u32,
     units: u32,
-    prev_lower_freq: &mut [u32],
-    next_lower_freq: &mut [u32],
-    inst: &mut [u32],
-    weight: &mut [f32],
-    left_weight: &mut [f32],
-    right_weight: &mut [f32],
-    gap_from: &mut [u32],
-    gap_to: &mut [u32],
-    gap_weight: &mut [f32],
-    live: &mut [u32],
-    min_freq: &mut [f32],
-    segment_from: &mut [u32],
-    segment_to: &mut [u32],
-    segment_value: &mut [u32],
-    segment_gap: &mut [u32],
     answer: &mut [u64; 10],
 )
     ensures { λ _. ⌜
@@ -73,12 +74,12 @@ pub extern "C" fn gelduvra_propose_split_v2_else_run_rt_staticlib_exports<'a>(
         let lent = workColumns
         (now («prev_lower_freq» .entry)) (now («next_lower_freq» .entry))
         (now (inst .entry)) (now (weight .entry)) (now («left_weight» .entry)) (now («right_weight» .entry))
-        (now («gap_from» .entry)) (now («gap_to» .entry)) (now («gap_weight» .entry)) (now (live .entry)) (now («min_freq» .entry))
+        (now («gap_from» .entry)) (now («gap_to» .entry)) (now («gap_weight» .entry)) (now (live .entry)) (now («min_freq» .entry)) (now («gap_block» .entry))
         (now («segment_from» .entry)) (now («segment_to» .entry)) (now («segment_value» .entry)) (now («segment_gap» .entry)) in
         let after = workColumns
         (now («prev_lower_freq» .exit)) (now («next_lower_freq» .exit))
         (now (inst .exit)) (now (weight .exit)) (now («left_weight» .exit)) (now («right_weight» .exit))
-        (now («gap_from» .exit)) (now («gap_to» .exit)) (now («gap_weight» .exit)) (now (live .exit)) (now («min_freq» .exit))
+        (now («gap_from» .exit)) (now («gap_to» .exit)) (now («gap_weight» .exit)) (now (live .exit)) (now («min_freq» .exit)) (now («gap_block» .exit))
         (now («segment_from» .exit)) (now («segment_to» .exit)) (now («segment_value» .exit)) (now («segment_gap» .exit)) in
         IsExported job lent after (now (answer .exit))) ⌝ }
 {
@@ -127,6 +128,7 @@ pub extern "C" fn gelduvra_propose_split_v2_else_run_rt_staticlib_exports<'a>(
         gap_weight,
         live,
         min_freq,
+        gap_block,
         segment_from,
         segment_to,
         segment_value,

@@ -9,7 +9,7 @@ ghost use Rattle.words.specs.Words.{splitPointWords};
 
 // The lower-cost split point, or its refusal: `find_optimal_split_point`, with its answer in three words.
 #[no_mangle]
-pub extern "C" fn gelduvra_find_optimal_split_point_v2_else_run_rt_staticlib_exports(
+pub extern "C" fn gelduvra_find_optimal_split_point_v3_else_run_rt_staticlib_exports(
     freq: &[u32],
     first: &[u32],
     end: &[u32],

@@ -6,7 +6,7 @@ ghost use Rattle.words.specs.Words.{normalisedBits};
 // What whoever evicts enters for a proposal: its use weight over its live instructions and the job's k, at most the largest finite f32.
 // The use weight and the answer are bits.
 #[no_mangle]
-pub extern "C" fn gelduvra_normalised_weight_v2_else_run_rt_staticlib_exports(
+pub extern "C" fn gelduvra_normalised_weight_v3_else_run_rt_staticlib_exports(
     use_weight: u32,
     live_insts: u32,
     k: u32,

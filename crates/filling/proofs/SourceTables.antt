@@ -119,7 +119,8 @@ module _ (source : Source) (checked : CheckedUses source) (sound : SoundBlocks (
     pub source-gap-room : (lent : WorkColumns) → Roomy (length (source .uses)) (length (source .blocks)) (length (source .segments)) (roomsOf lent)
         → Rows (length (gapsFrom source best)) (gapTable lent) × SegmentRoom (length (segmentsFrom source best)) (segmentTable lent 0)
     source-gap-room lent roomy =
-        let gap-lengths = length (lent .froms) ∷ length (lent .tos) ∷ length (lent .weights) ∷ length (lent .lives) ∷ length (lent .freqs) ∷ [] in
+        let gap-lengths = length (lent .froms) ∷ length (lent .tos) ∷ length (lent .weights) ∷ length (lent .lives) ∷ length (lent .freqs)
+        ∷ length (lent .blocks) ∷ [] in
         let segment-lengths = length (lent .segment-froms) ∷ length (lent .segment-tos) ∷ length (lent .segment-values) ∷ length (lent .segment-gaps) ∷ [] in
         let g = le-trans source-gaps-few (roomy .gaps) in
         let s = le-trans source-segments-few (roomy .gap-segments) in (
@@ -129,6 +130,7 @@ module _ (source : Source) (checked : CheckedUses source) (sound : SoundBlocks (
             weight = le-trans g (shortest-at-most gap-lengths 2 (omega arith));
             live = le-trans g (shortest-at-most gap-lengths 3 (omega arith));
             freq = le-trans g (shortest-at-most gap-lengths 4 (omega arith));
+            block = le-trans g (shortest-at-most gap-lengths 5 (omega arith));
           },
           record {
             from = from-none (le-trans s (shortest-at-most segment-lengths 0 (omega arith)));

@@ -25,7 +25,7 @@ use Rattle.overlaps.specs.Live.{liveInGap}
 use Rattle.overlaps.proofs.LiveCovered.{gap-covered, live-covered}
 use Rattle.overlaps.proofs.AllOverlaps.{all-overlaps}
 use Rattle.gaps.specs.Gaps.{Gap, useOf, ownGap, gapsOn, gapsOf, initialGap}
-use Rattle.gaps.proofs.JobGaps.{job-gaps-run, job-gaps-least, job-weights-once}
+use Rattle.gaps.proofs.JobGaps.{job-gaps-run, job-gaps-least, job-gaps-nearest, job-weights-once}
 use Rattle.gaps.specs.GapColumns.{fromsOf, tosOf}
 use Rattle.filling.specs.SourceTables.{freqsOf, startsOf, stopsOf, valuesOf, gapsFrom, livesFrom, tablesOfBest}
 use Rattle.filling.specs.TableLaws.{TableLaws}
@@ -48,7 +48,7 @@ own-at source best f d =
 
 -- no gap
 abbrev noGap : Gap
-noGap = record { from = 0; to = 0; weights = []; freq = zeroWeight }
+noGap = record { from = 0; to = 0; weights = []; freq = zeroWeight; block = 0 }
 
 -- the links that are stored are lower links
 stored-links : (source : Source) → SoundBlocks (source .blocks) → (side : Side) (b : ℕ) → b < length (freqsOf source)
@@ -76,6 +76,7 @@ table-laws source checked sound best h =
       own-from = own-at source best (λ (g : Gap). g .from) noGap;
       own-to = own-at source best (λ (g : Gap). g .to) noGap;
       least = job-gaps-least source checked sound best h;
+      nearest = job-gaps-nearest source checked sound best h;
       weights = job-weights-once source checked sound best h;
       live = λ g l.
           let e = length-map (gapsFrom source best) (λ (g : Gap). g .from) in

@@ -1,4 +1,4 @@
--- The work tables of a job that has passed its checks: their rows, and the fifteen lent columns
+-- The work tables of a job that has passed its checks: their rows, and the sixteen lent columns
 use mathlib.Core.Path.{_≡_}
 use Prim.Native.Nat.{ℕ, _+_, _≤_}
 use mathlib.Core.List.{List, [], _∷_, map}
@@ -17,7 +17,7 @@ use Rattle.use_rows.specs.declared.row.BestUse.{BestUse}
 use Rattle.use_rows.specs.declared.row.BestUse.the-variants as BestUse·is
 use Rattle.overlaps.specs.GapSegments.{Overlap, SegmentColumns, segmentColumns}
 use Rattle.gaps.specs.Gaps.{Gap, gapWeight, gapsOf}
-use Rattle.gaps.specs.GapColumns.{fromsOf, tosOf, livesOf, gapSegmentsOf, GapColumns, gapColumns}
+use Rattle.gaps.specs.GapColumns.{fromsOf, tosOf, livesOf, minFreqsOf, gapBlocksOf, gapSegmentsOf, GapColumns, gapColumns}
 use Rattle.filling.specs.declared.lent.Rooms.{Rooms}
 
 -- the thirteen columns that the work tables are made of, table by table: B (3), V (1), S (6), U (3)
@@ -118,7 +118,7 @@ tablesOfBest source BestUse·is.Nothing =
       segments = [];
     }
 
--- the fifteen lent columns
+-- the sixteen lent columns
 pub record WorkColumns : Type 0 where
   pub prevs : List ℕ
   pub nexts : List ℕ
@@ -131,15 +131,16 @@ pub record WorkColumns : Type 0 where
   pub weights : List Float
   pub lives : List ℕ
   pub freqs : List Float
+  pub blocks : List ℕ
   pub segment-froms : List ℕ
   pub segment-tos : List ℕ
   pub segment-values : List ℕ
   pub segment-gaps : List ℕ
 
--- the fifteen as one
+-- the sixteen as one
 abbrev pub workColumns : List ℕ → List ℕ → List ℕ → List Float → List Float → List Float
-    → List ℕ → List ℕ → List Float → List ℕ → List Float → List ℕ → List ℕ → List ℕ → List ℕ → WorkColumns
-workColumns prevs nexts insts mains lefts rights froms tos weights lives freqs segment-froms segment-tos segment-values segment-gaps =
+    → List ℕ → List ℕ → List Float → List ℕ → List Float → List ℕ → List ℕ → List ℕ → List ℕ → List ℕ → WorkColumns
+workColumns prevs nexts insts mains lefts rights froms tos weights lives freqs blocks segment-froms segment-tos segment-values segment-gaps =
     record {
       prevs = prevs;
       nexts = nexts;
@@ -152,6 +153,7 @@ workColumns prevs nexts insts mains lefts rights froms tos weights lives freqs s
       weights = weights;
       lives = lives;
       freqs = freqs;
+      blocks = blocks;
       segment-froms = segment-froms;
       segment-tos = segment-tos;
       segment-values = segment-values;
@@ -160,7 +162,7 @@ workColumns prevs nexts insts mains lefts rights froms tos weights lives freqs s
 
 -- of them the gap table's, and those of the gap segments with so many rows used
 abbrev pub gapTable : WorkColumns → GapColumns
-gapTable c = gapColumns (c .froms) (c .tos) (c .weights) (c .lives) (c .freqs)
+gapTable c = gapColumns (c .froms) (c .tos) (c .weights) (c .lives) (c .freqs) (c .blocks)
 
 abbrev pub segmentTable : WorkColumns → ℕ → SegmentColumns
 segmentTable c used = segmentColumns (c .segment-froms) (c .segment-tos) (c .segment-values) (c .segment-gaps) used
@@ -170,7 +172,7 @@ abbrev pub roomsOf : WorkColumns → Rooms
 roomsOf c =
     record {
       uses = shortest (length (c .insts) ∷ length (c .mains) ∷ length (c .lefts) ∷ length (c .rights) ∷ []);
-      gaps = shortest (length (c .froms) ∷ length (c .tos) ∷ length (c .weights) ∷ length (c .lives) ∷ length (c .freqs) ∷ []);
+      gaps = shortest (length (c .froms) ∷ length (c .tos) ∷ length (c .weights) ∷ length (c .lives) ∷ length (c .freqs) ∷ length (c .blocks) ∷ []);
       «gap_segments» = shortest (length (c .segment-froms) ∷ length (c .segment-tos) ∷ length (c .segment-values) ∷ length (c .segment-gaps) ∷ []);
       links = shortest (length (c .prevs) ∷ length (c .nexts) ∷ []);
     }
@@ -194,7 +196,8 @@ pub record FilledBy (t : Tables) (lent now : WorkColumns) : Type 0 where
   pub to : now .tos ≡ filled (tosOf (t .gaps)) (lent .tos)
   pub weight : now .weights ≡ filled (map gapWeight (t .gaps)) (lent .weights)
   pub live : now .lives ≡ filled (t .lives) (lent .lives)
-  pub freq : now .freqs ≡ filled (map (λ (g : Gap). g .freq) (t .gaps)) (lent .freqs)
+  pub freq : now .freqs ≡ filled (minFreqsOf (t .gaps)) (lent .freqs)
+  pub block : now .blocks ≡ filled (gapBlocksOf (t .gaps)) (lent .blocks)
   pub segment-from : now .segment-froms ≡ filled (map (λ (s : Overlap). s .from) (t .segments)) (lent .segment-froms)
   pub segment-to : now .segment-tos ≡ filled (map (λ (s : Overlap). s .to) (t .segments)) (lent .segment-tos)
   pub segment-value : now .segment-values ≡ filled (map (λ (s : Overlap). s .value) (t .segments)) (lent .segment-values)

@@ -11,9 +11,9 @@ use Rattle.links.specs.declared.lower.Side.{Side}
 use Rattle.use_rows.specs.Uses.{Source, firstInst, lastInst}
 use Rattle.overlaps.specs.Live.{liveInsts, covered, coveredIn}
 use Rattle.overlaps.specs.GapSegments.{AllOverlaps}
-use Rattle.gaps.specs.Gaps.{useOf, initialGap}
+use Rattle.gaps.specs.Gaps.{Gap, useOf, initialGap}
 use Rattle.columns.specs.Table.{Each}
-use Rattle.gaps.specs.Laws.{Run, Least, placed, rowMeasure}
+use Rattle.gaps.specs.Laws.{Run, Least, nearestBlock, placed, rowMeasure}
 use Rattle.gaps.specs.GapColumns.{fromsOf, tosOf}
 use Rattle.filling.specs.SourceTables.{freqsOf, startsOf, stopsOf, valuesOf, Tables}
 
@@ -29,8 +29,10 @@ pub record TableLaws (source : Source) (best : ℕ) (t : Tables) : Type 0 where
   -- the best use has a gap of one instruction
   pub own-from : getD (fromsOf (t .gaps)) (initialGap (source .blocks) (t .uses) best) 0 ≡ useOf (t .uses) best .inst .0
   pub own-to : getD (tosOf (t .gaps)) (initialGap (source .blocks) (t .uses) best) 0 ≡ useOf (t .uses) best .inst .0 + 1
-  -- a gap's frequency is the least among blocks it meets
+  -- a gap's block carries its frequency, which is the least among blocks it meets
   pub least : Each (Least (source .blocks)) (t .gaps)
+  -- it is the gap's last block left of the best use, the first right of it, and the best use's own for its gap
+  pub nearest : Each (λ (g : Gap). g .block ≡ nearestBlock (source .blocks) (useOf (t .uses) best .inst .0) g) (t .gaps)
   -- each counted left, main and right weight is placed in one gap: whatever measures weights, with nothing for zero, measures as much in the
   -- gaps as in all rows of the use table
   pub weights : (f : Float → ℕ) → f zeroWeight ≡ 0 → placed f (t .gaps) ≡ sumBelow (λ (k : ℕ). rowMeasure f (useOf (t .uses) k)) (length (t .uses))

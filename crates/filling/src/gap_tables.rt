@@ -33,6 +33,7 @@ pub fn fill_gap_tables(
     gap_weight: &mut [f32],
     live: &mut [u32],
     min_freq: &mut [f32],
+    gap_block: &mut [u32],
     segment_from: &mut [u32],
     segment_to: &mut [u32],
     segment_value: &mut [u32],
@@ -52,7 +53,7 @@ pub fn fill_gap_tables(
         (let uses = useColumns (take rows (now inst)) (take rows (now weight)) (take rows (now «left_weight»)) (take rows (now «right_weight»)) in
         let gaps = gapsOf (blocksOf (now freq) (now first) (now end)) (usesIn uses) best in
         let found = gapSegmentsOf gaps (take segments (now start)) (take segments (now «segment_end»)) (take segments (now value)) in
-        Rows (length gaps) (gapColumns (now «gap_from») (now «gap_to») (now «gap_weight») (now live) (now «min_freq»))
+        Rows (length gaps) (gapColumns (now «gap_from») (now «gap_to») (now «gap_weight») (now live) (now «min_freq») (now «gap_block»))
         × SegmentRoom (length found) (segmentColumns (now «segment_from») (now «segment_to») (now «segment_value») (now «segment_gap») 0))
         ⌝ }
     ensures { λ r. ⌜
@@ -64,8 +65,10 @@ pub fn fill_gap_tables(
         let starts = take segments (now (start .entry)) in
         let ends = take segments (now («segment_end» .entry)) in
         GapsHeld gaps starts ends
-        (gapColumns (now («gap_from» .entry)) (now («gap_to» .entry)) (now («gap_weight» .entry)) (now (live .entry)) (now («min_freq» .entry)))
-        (gapColumns (now («gap_from» .exit)) (now («gap_to» .exit)) (now («gap_weight» .exit)) (now (live .exit)) (now («min_freq» .exit)))
+        (gapColumns (now («gap_from» .entry)) (now («gap_to» .entry))
+        (now («gap_weight» .entry)) (now (live .entry)) (now («min_freq» .entry)) (now («gap_block» .entry)))
+        (gapColumns (now («gap_from» .exit)) (now («gap_to» .exit))
+        (now («gap_weight» .exit)) (now (live .exit)) (now («min_freq» .exit)) (now («gap_block» .exit)))
         (r .gaps)
         × Filled (gapSegmentsOf gaps starts ends (take segments (now (value .entry))))
         (segmentColumns (now («segment_from» .entry)) (now («segment_to» .entry)) (now («segment_value» .entry)) (now («segment_gap» .entry)) 0)
@@ -93,6 +96,7 @@ pub fn fill_gap_tables(
         gap_weight,
         live,
         min_freq,
+        gap_block,
         segment_from,
         segment_to,
         segment_value,

@@ -14,13 +14,13 @@ use Rattle.gaps.specs.GapColumns.{GapColumns, gapColumns, fromsOf, tosOf
 use Rattle.gaps.specs.Cutting.{CutColumns, cutColumns, storedGaps, CutRows}
 use Rattle.gaps.proofs.StoredGaps.{field-filled}
 
-pub cut-rows : (n : ℕ) (lent : GapColumns) → Rows n lent → CutRows n (cutColumns (lent .froms) (lent .tos) (lent .weights) (lent .freqs))
-cut-rows n lent r = record { from = r .from; to = r .to; weight = r .weight; freq = r .freq }
+pub cut-rows : (n : ℕ) (lent : GapColumns) → Rows n lent → CutRows n (cutColumns (lent .froms) (lent .tos) (lent .weights) (lent .freqs) (lent .blocks))
+cut-rows n lent r = record { from = r .from; to = r .to; weight = r .weight; freq = r .freq; block = r .block }
 
 module _ (gaps : List Gap) (lent : GapColumns) (rows : Rows (length gaps) lent) (now : CutColumns) (n : ℕ) (count : n ≡ length gaps)
-    (stored : now ≡ storedGaps 0 gaps (cutColumns (lent .froms) (lent .tos) (lent .weights) (lent .freqs))) where
+    (stored : now ≡ storedGaps 0 gaps (cutColumns (lent .froms) (lent .tos) (lent .weights) (lent .freqs) (lent .blocks))) where
   abbrev columns : CutColumns
-  columns = cutColumns (lent .froms) (lent .tos) (lent .weights) (lent .freqs)
+  columns = cutColumns (lent .froms) (lent .tos) (lent .weights) (lent .freqs) (lent .blocks)
 
   froms-are : now .froms ≡ filled (fromsOf gaps) (lent .froms)
   froms-are = field-filled (λ c. c .froms) (λ g. g .from) (λ at g c. refl) gaps columns now (rows .from) stored
@@ -75,7 +75,7 @@ module _ (gaps : List Gap) (lent : GapColumns) (rows : Rows (length gaps) lent) 
 
   -- the gap table holds the gaps with what is counted in them
   pub table-held : (starts ends live : List ℕ) → live ≡ filled (liveColumn starts ends (take n (now .froms)) (take n (now .tos))) (lent .lives)
-      → GapsHeld gaps starts ends lent (gapColumns (now .froms) (now .tos) (now .weights) live (now .freqs)) n
+      → GapsHeld gaps starts ends lent (gapColumns (now .froms) (now .tos) (now .weights) live (now .freqs) (now .blocks)) n
   table-held starts ends live l =
       record {
         count = count;
@@ -84,4 +84,5 @@ module _ (gaps : List Gap) (lent : GapColumns) (rows : Rows (length gaps) lent) 
         weight = field-filled (λ c. c .weights) gapWeight (λ at g c. refl) gaps columns now (rows .weight) stored;
         live = l ∙ ap₂ (λ (a b : List ℕ). filled (liveColumn starts ends a b) (lent .lives)) froms-cut tos-cut;
         freq = field-filled (λ c. c .freqs) (λ g. g .freq) (λ at g c. refl) gaps columns now (rows .freq) stored;
+        block = field-filled (λ c. c .blocks) (λ g. g .block) (λ at g c. refl) gaps columns now (rows .block) stored;
       }

@@ -3,7 +3,7 @@
 use mathlib.Core.Path.{_≡_, refl, sym, ap, _∙_, subst}
 use mathlib.Core.Logic.{_⊎_, inl, inr, ⊎-elim}
 use mathlib.Core.List.{List, [], _∷_, _++_, map}
-use Prim.Native.Nat.{ℕ, zero, suc, _+_, _-_, _≤_, _<_, zero-le}
+use Prim.Native.Nat.{ℕ, zero, suc, _+_, _-_, _≤_, _<_}
 use native.Mathlib.Nat.{le-refl, le-trans, le-of-eq, lt-of-lt-of-le}
 use native.Mathlib.Omega.{arith}
 use mathlib.Core.Bool.{Bool, true, false, _&&_, true≢false}
@@ -24,8 +24,7 @@ use Rattle.links.specs.declared.lower.Side.the-variants.{Previous, Next}
 use Rattle.columns.proofs.Firsts.{split}
 use Rattle.links.proofs.Linking.{link-nearest}
 use Rattle.links.proofs.Following.{fuel-left}
-use Rattle.links.proofs.Rows.{row-good, ends-rise, firsts-rise}
-use Rattle.links.proofs.Columns.{last-end}
+use Rattle.links.proofs.Rows.{ends-rise, firsts-rise}
 use Rattle.use_rows.specs.Uses.{frequencyAt}
 use Rattle.use_rows.specs.declared.row.SplitUse.{SplitUse}
 use Rattle.gaps.specs.Gaps.{Gap, near, far, nearWeight, farWeights, farEnd, spanned, inOrder, cutGaps, frequencyOf, cuts, gapsBetween, ownGap}
@@ -100,11 +99,10 @@ module _ (blocks : List BlockRow) (sound : SoundBlocks blocks) where
       map-at (x ∷ bs) (suc b) = map-at bs b
 
   -- a block that is not lower
-  not-lower : (b k i : ℕ) → isLower freqs b k ≡ false → k ≡ blockOf blocks i → lt (frequencyAt blocks i) (frequencyOf blocks b) ≡ false
-  unfolding isLower frequencyAt
-  not-lower b k i e h =
-      ap (λ (x : ℕ). lt (frequencyOf blocks x) (frequencyOf blocks b)) (sym h)
-      ∙ ap (λ (x : ℕ). lt (valueOf frequencyLimit x) (frequencyOf blocks b)) (sym (freq-at k))
+  not-lower : (b k : ℕ) → isLower freqs b k ≡ false → lt (frequencyOf blocks k) (frequencyOf blocks b) ≡ false
+  unfolding isLower
+  not-lower b k e =
+      ap (λ (x : ℕ). lt (valueOf frequencyLimit x) (frequencyOf blocks b)) (sym (freq-at k))
       ∙ ap (λ (x : ℕ). lt (valueOf frequencyLimit (getD freqs k 0)) (valueOf frequencyLimit x)) (sym (freq-at b)) ∙ e
 
   itself : (b : ℕ) → isLower freqs b b ≡ false
@@ -114,9 +112,13 @@ module _ (blocks : List BlockRow) (sound : SoundBlocks blocks) where
       units-order w w ∙ le-ltb (unitsOf (valueOf frequencyLimit (getD freqs b 0))) (unitsOf (valueOf frequencyLimit (getD freqs b 0)))
       (le-refl (unitsOf (valueOf frequencyLimit (getD freqs b 0))))
 
+  -- a gap's block has the least frequency of those that the gap meets, and is the one nearest to the best use
+  pub record Carried (side : Side) (g : Gap) : Type 0 where
+    pub least : Least blocks g
+    pub nearest : g .block ≡ blockOf blocks (onSide side (g .to - 1) (g .from))
+
   -- a gap that begins in block b and ends before the block that b's link names
   module _ (side : Side) (e m b : ℕ) (ws : List Float) (h : b < length blocks) (a : At blocks sound side e b) (onward : LiesBeyond side e m)
-      (low : onSide side e m ≤ startOf blocks (length blocks))
       (stop : (i k : ℕ) → onSide side m e ≤ i → i < onSide side e m → Home blocks sound i k → lowerLink side freqs b < length freqs
       → LiesBeyond side k (lowerLink side freqs b)) where
     -- its instructions lie in block b or beyond
@@ -128,31 +130,34 @@ module _ (blocks : List BlockRow) (sound : SoundBlocks blocks) where
             let l = homes-rise blocks sound i (e - 1) k b (omega (arith, q)) x y in ⊎-elim (λ g. inr g) (λ g. inl (omega (arith, l, g))) (split k b)
         by Next y p q = let l = homes-rise blocks sound e i b k p y x in ⊎-elim (λ g. inr g) (λ g. inl (omega (arith, l, g))) (split b k)
 
-    gap-least : Least blocks (spanned side e m ws (frequencyOf blocks b))
-    unfolding frequencyAt
-    gap-least =
+    -- block b is the nearest that it meets, and none that it meets is lower
+    gap-carried : Carried side (spanned side e m ws (frequencyOf blocks b) b)
+    gap-carried =
+        let x = at-home blocks sound side e b h a in
         record {
-          least = λ i p q.
-              let x = home-of blocks sound i (lt-of-lt-of-le q low) in
-              let k = blockOf blocks i in
-              ⊎-elim (λ z. not-lower b b i (itself b) (sym z))
-              (λ z. not-lower b k i (link-nearest side freqs b few (inside-freqs h) .passed k (inside-freqs (x .inside)) z (stop i k p q x)) refl)
-              (where-at i k p q x);
-          inst = onSide side (e - 1) e;
-          inside = within side onward;
-          is = same (home-only blocks sound (onSide side (e - 1) e) b (at-home blocks sound side e b h a));
+          least =
+              record {
+                meets = record { block = h; inst = onSide side (e - 1) e; in-gap = within side onward; in-block = (x .from, x .before) };
+                carries = refl;
+                least = λ k z.
+                    let i = z .inst in
+                    let p = z .in-gap .0 in
+                    let q = z .in-gap .1 in
+                    let y : Home blocks sound i k = record { inside = z .block; from = z .in-block .0; before = z .in-block .1 } in
+                    ⊎-elim (λ w. ap (λ (j : ℕ). lt (frequencyOf blocks j) (frequencyOf blocks b)) w ∙ not-lower b b (itself b))
+                    (λ w. not-lower b k (link-nearest side freqs b few (inside-freqs h) .passed k (inside-freqs (z .block)) w (stop i k p q y)))
+                    (where-at i k p q y);
+              };
+          nearest = home-only blocks sound (onSide side (e - 1) e) b x ∙ ap (blockOf blocks) (begins side);
         }
       where
         within : (side : Side) → LiesBeyond side e m → (onSide side m e ≤ onSide side (e - 1) e) × (onSide side (e - 1) e < onSide side e m)
         within Previous o = (omega (arith, o), omega (arith, o))
         within Next o = (le-refl e, o)
 
-        same : b ≡ blockOf blocks (onSide side (e - 1) e) → frequencyAt blocks (onSide side (e - 1) e) ≡ frequencyOf blocks b
-        same z = ap (frequencyOf blocks) (sym z)
-
-  -- blocks end by the last end
-  end-total : (c : ℕ) → c < length blocks → blockAt blocks c .end ≤ startOf blocks (length blocks)
-  end-total c h = le-trans (ends-rise blocks sound c (length blocks - 1) (omega (arith, h)) (omega (arith, h))) (le-of-eq (sym (last-end blocks (sound .some))))
+        begins : (side : Side) → onSide side (e - 1) e ≡ onSide side (onSide side e m - 1) (onSide side m e)
+        begins Previous = refl
+        begins Next = refl
 
   -- ---- the gaps between two uses
   module _ (side : Side) (p q : ℕ) (order : p < q) (inside : q < startOf blocks (length blocks)) (ws : List Float) where
@@ -165,12 +170,11 @@ module _ (blocks : List BlockRow) (sound : SoundBlocks blocks) where
     abbrev edgeAt : ℕ → ℕ
     edgeAt c = edge side (blockAt blocks c)
 
-    -- an edge at a block, before the end, with all instructions up to it in blocks
+    -- an edge at a block, before the end
     record From (e b : ℕ) : Type 0 where
       block : b < length blocks
       at : At blocks sound side e b
       onward : LiesBeyond side e end
-      low : onSide side e 0 ≤ startOf blocks (length blocks)
 
     from-start : From (preferred side p q) (blockOf blocks (home side p q))
     from-start =
@@ -178,31 +182,22 @@ module _ (blocks : List BlockRow) (sound : SoundBlocks blocks) where
           block = home-block blocks sound p q order inside side .inside;
           at = at-start blocks sound p q order inside side;
           onward = start-beyond blocks sound p q order inside side;
-          low = by side;
         }
-      where
-        by : (side : Side) → onSide side (preferred side p q) 0 ≤ startOf blocks (length blocks)
-        by Previous = omega (arith, inside)
-        by Next = zero-le
 
     from-edge : (c : ℕ) → c < length blocks → reaches side last c ≡ true → From (edgeAt c) c
-    from-edge c h r =
-        record { block = h; at = at-edge blocks sound side c h; onward = edge-beyond blocks sound p q order inside side c h r; low = by side }
-      where
-        by : (side : Side) → onSide side (edge side (blockAt blocks c)) 0 ≤ startOf blocks (length blocks)
-        by Previous = end-total c h
-        by Next = zero-le
+    from-edge c h r = record { block = h; at = at-edge blocks sound side c h; onward = edge-beyond blocks sound p q order inside side c h r }
 
     -- they follow one another
     cut-run : (e b : ℕ) (w : Float) (cs : List ℕ) → From e b → Chained side freqs last b cs
         → Run (onSide side end e) (onSide side e end) (cutGaps side (λ b. frequencyOf blocks b) edgeAt end ws e w b cs)
     unfolding cutGaps
-    cut-run e b w [] f k = run-one side e end (w ∷ ws) (frequencyOf blocks b) (f .onward)
+    cut-run e b w [] f k = run-one side e end (w ∷ ws) (frequencyOf blocks b) b (f .onward)
     cut-run e b w (c ∷ cs) f k =
         let h = inside-blocks (k .1) in
         let link = link-nearest side freqs b few (inside-freqs (f .block)) in
         let on : LiesBeyond side b c = subst (LiesBeyond side b) (sym (k .0)) (link .found (subst (λ (x : ℕ). x < length freqs) (k .0) (k .1)) .0) in
-        run-in-order side e (edgeAt c) end (w ∷ []) (frequencyOf blocks b) (cutGaps side (λ b. frequencyOf blocks b) edgeAt end ws (edgeAt c) zeroWeight c cs)
+        run-in-order side e (edgeAt c) end (w ∷ []) (frequencyOf blocks b) b
+        (cutGaps side (λ b. frequencyOf blocks b) edgeAt end ws (edgeAt c) zeroWeight c cs)
         (at-beyond blocks sound side e b c (f .block) h (f .at) on)
         (cut-run (edgeAt c) c zeroWeight cs (from-edge c h (k .2)) (k .3))
 
@@ -230,40 +225,20 @@ module _ (blocks : List BlockRow) (sound : SoundBlocks blocks) where
         by Next x y =
             ⊎-elim (λ g. g) (λ g. let l = firsts-rise blocks sound c k g (z .inside) in let m = z .from in absurd (omega (arith, l, m, y))) (split k c)
 
-    low-end : (side : Side) (e m : ℕ) → onSide side e 0 ≤ startOf blocks (length blocks) → m ≤ startOf blocks (length blocks)
-        → onSide side e m ≤ startOf blocks (length blocks)
-    low-end Previous e m x y = x
-    low-end Next e m x y = y
-
-    end-low : end ≤ startOf blocks (length blocks)
-    end-low = by side
-      where
-        by : (side : Side) → farEnd side p q ≤ startOf blocks (length blocks)
-        by Previous = omega (arith, order, inside)
-        by Next = omega (arith, inside)
-
-    edge-low : (side : Side) (c : ℕ) → c < length blocks → edge side (blockAt blocks c) ≤ startOf blocks (length blocks)
-    edge-low Previous c h = end-total c h
-    edge-low Next c h = let l = end-total c h in let m = row-good blocks sound c h .nonempty in omega (arith, l, m)
-
-    -- each has the least frequency among the blocks it meets
-    cut-least : (e b : ℕ) (w : Float) (cs : List ℕ) → From e b → Chained side freqs last b cs
-        → Each (Least blocks) (cutGaps side (λ b. frequencyOf blocks b) edgeAt end ws e w b cs)
+    -- each has the least frequency among the blocks it meets, that of the nearest
+    cut-carried : (e b : ℕ) (w : Float) (cs : List ℕ) → From e b → Chained side freqs last b cs
+        → Each (Carried side) (cutGaps side (λ b. frequencyOf blocks b) edgeAt end ws e w b cs)
     unfolding cutGaps
-    cut-least e b w [] f k = (
-      gap-least side e end b (w ∷ ws) (f .block) (f .at) (f .onward) (low-end side e end (f .low) end-low) (λ i j x y z l. end-stop e b f i j x y z (k l)),
-      tt,
-    )
-    cut-least e b w (c ∷ cs) f k =
+    cut-carried e b w [] f k = (gap-carried side e end b (w ∷ ws) (f .block) (f .at) (f .onward) (λ i j x y z l. end-stop e b f i j x y z (k l)), tt)
+    cut-carried e b w (c ∷ cs) f k =
         let h = inside-blocks (k .1) in
         let link = link-nearest side freqs b few (inside-freqs (f .block)) in
         let on : LiesBeyond side b c = subst (LiesBeyond side b) (sym (k .0)) (link .found (subst (λ (x : ℕ). x < length freqs) (k .0) (k .1)) .0) in
-        each-in-order (Least blocks) side (spanned side e (edgeAt c) (w ∷ []) (frequencyOf blocks b))
+        each-in-order (Carried side) side (spanned side e (edgeAt c) (w ∷ []) (frequencyOf blocks b) b)
         (cutGaps side (λ b. frequencyOf blocks b) edgeAt end ws (edgeAt c) zeroWeight c cs)
-        (gap-least side e (edgeAt c) b (w ∷ []) (f .block) (f .at) (at-beyond blocks sound side e b c (f .block) h (f .at) on)
-        (low-end side e (edgeAt c) (f .low) (edge-low side c h))
+        (gap-carried side e (edgeAt c) b (w ∷ []) (f .block) (f .at) (at-beyond blocks sound side e b c (f .block) h (f .at) on)
         (λ i j x y z _. subst (LiesBeyond side j) (k .0) (cut-stop e c i j h x y z)))
-        (cut-least (edgeAt c) c zeroWeight cs (from-edge c h (k .2)) (k .3))
+        (cut-carried (edgeAt c) c zeroWeight cs (from-edge c h (k .2)) (k .3))
 
     -- there are no more cuts than blocks from the first to the farther use's
     abbrev Between : Side → ℕ → ℕ → ℕ → Type 0
@@ -318,10 +293,10 @@ module _ (blocks : List BlockRow) (sound : SoundBlocks blocks) (side : Side) (u 
       by Previous gs r = r
       by Next gs r = r
 
-  pub between-least : Each (Least blocks) (gapsBetween side blocks u v)
+  pub between-carried : Each (Carried blocks sound side) (gapsBetween side blocks u v)
   unfolding gapsBetween
-  between-least =
-      cut-least blocks sound side p q order inside weights (preferred side p q) (blockOf blocks (home side p q)) (nearWeight side (near side u v))
+  between-carried =
+      cut-carried blocks sound side p q order inside weights (preferred side p q) (blockOf blocks (home side p q)) (nearWeight side (near side u v))
       (cuts side blocks p q) (from-start blocks sound side p q order inside weights) (cuts-chained blocks sound side p q order inside weights)
 
   pub between-few : length (gapsBetween side blocks u v) + blockOf blocks p ≤ 1 + blockOf blocks q
@@ -342,13 +317,16 @@ module _ (blocks : List BlockRow) (sound : SoundBlocks blocks) (side : Side) (u 
 pub own-least : (blocks : List BlockRow) → SoundBlocks blocks → (u : SplitUse) → u .inst .0 < startOf blocks (length blocks) → Least blocks (ownGap blocks u)
 unfolding frequencyAt
 own-least blocks sound u h =
+    let b = blockOf blocks (u .inst .0) in
+    let x = home-of blocks sound (u .inst .0) h in
     record {
-      least = λ i p q. let z : i ≡ u .inst .0 = omega (arith, p, q) in ap (λ (x : ℕ). lt (frequencyAt blocks x) (frequencyAt blocks (u .inst .0))) z ∙ same;
-      inst = u .inst .0;
-      inside = (le-refl (u .inst .0), omega arith);
-      is = refl;
+      meets = record { block = x .inside; inst = u .inst .0; in-gap = (le-refl (u .inst .0), omega arith); in-block = (x .from, x .before) };
+      carries = refl;
+      least = λ k z.
+          let p = z .in-gap .0 in
+          let q = z .in-gap .1 in
+          let i : z .inst ≡ u .inst .0 = omega (arith, p, q) in
+          let y : Home blocks sound (z .inst) k = record { inside = z .block; from = z .in-block .0; before = z .in-block .1 } in
+          ap (λ (j : ℕ). lt (frequencyOf blocks j) (frequencyOf blocks b)) (home-only blocks sound (z .inst) k y ∙ ap (blockOf blocks) i)
+          ∙ not-lower blocks sound b b (itself blocks sound b);
     }
-  where
-    same : lt (frequencyAt blocks (u .inst .0)) (frequencyAt blocks (u .inst .0)) ≡ false
-    same =
-        not-lower blocks sound (blockOf blocks (u .inst .0)) (blockOf blocks (u .inst .0)) (u .inst .0) (itself blocks sound (blockOf blocks (u .inst .0))) refl

@@ -68,7 +68,7 @@ module _ (freqs firsts ends prevs nexts : List ℕ) (uses : UseColumns) (best : 
 
       module _ {g : Gap} {c₂ : CutColumns} (is : g ≡ own) (o : c₂ ≡ withGap c₁ n₁ g) where
         rows₂ : CutRows (length all) c₂
-        rows₂ = subst (CutRows (length all)) (sym o) (rows-with (length all) n₁ (g .from) (g .to) (gapWeight g) (g .freq) c₁ rows₁)
+        rows₂ = subst (CutRows (length all)) (sym o) (rows-with (length all) n₁ (g .from) (g .to) (gapWeight g) (g .freq) (g .block) c₁ rows₁)
 
         pub right-rows : CutRows (n₁ + 1 + length right) c₂
         right-rows = let e = all-length in let n = l .0 in rows-fewer (n₁ + 1 + length right) (length all) c₂ (omega (arith, e, n)) rows₂

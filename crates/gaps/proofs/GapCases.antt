@@ -26,10 +26,10 @@ row inst main left right =
           valueOf weightLimit right;
     }
 
--- a gap as numbers: from, to, the bits of its weight and of its frequency
+-- a gap as numbers: from, to, the bits of its weight and of its frequency, and the block that carries it
 shown : Gap → List ℕ
 unfolding toBits plus add round
-shown g = g .from ∷ g .to ∷ toBits binary32 (gapWeight g) ∷ toBits binary32 (g .freq) ∷ []
+shown g = g .from ∷ g .to ∷ toBits binary32 (gapWeight g) ∷ toBits binary32 (g .freq) ∷ g .block ∷ []
 
 tableOf : List BlockRow → List SplitUse → ℕ → List (List ℕ)
 unfolding gapsOf gapsBetween cuts cutGaps joined follow lowerLink isLower firstBelow blockOf frequencyAt valueOf ofBits lt
@@ -39,8 +39,8 @@ tableOf blocks uses best = map shown (gapsOf blocks uses best)
 two-one : tableOf (record { frequency = 2; first = 0; end = 5 } ∷ record { frequency = 8388609; first = 5; end = 6 } ∷ record
     { frequency = 0; first = 6; end = 7 } ∷ record { frequency = 1065353216; first = 7; end = 12 } ∷ record { frequency = 2; first = 12; end = 17 } ∷ [])
     (row 0 0 0 2 ∷ row 3 131072 0 0 ∷ row 6 0 0 0 ∷ row 10 36654633 0 1065353216 ∷ row 12 131072 0 0 ∷ []) 3
-    ≡ (0 ∷ 3 ∷ 2 ∷ 2 ∷ []) ∷ (3 ∷ 5 ∷ 131072 ∷ 2 ∷ []) ∷ (5 ∷ 6 ∷ 0 ∷ 8388609 ∷ []) ∷ (6 ∷ 7 ∷ 0 ∷ 0 ∷ []) ∷ (7 ∷ 10 ∷ 0 ∷ 1065353216 ∷ [])
-    ∷ (10 ∷ 11 ∷ 36654633 ∷ 1065353216 ∷ []) ∷ (11 ∷ 12 ∷ 1065353216 ∷ 1065353216 ∷ []) ∷ (12 ∷ 13 ∷ 131072 ∷ 2 ∷ []) ∷ []
+    ≡ (0 ∷ 3 ∷ 2 ∷ 2 ∷ 0 ∷ []) ∷ (3 ∷ 5 ∷ 131072 ∷ 2 ∷ 0 ∷ []) ∷ (5 ∷ 6 ∷ 0 ∷ 8388609 ∷ 1 ∷ []) ∷ (6 ∷ 7 ∷ 0 ∷ 0 ∷ 2 ∷ []) ∷ (7 ∷ 10 ∷ 0 ∷ 1065353216 ∷ 3 ∷ [])
+    ∷ (10 ∷ 11 ∷ 36654633 ∷ 1065353216 ∷ 3 ∷ []) ∷ (11 ∷ 12 ∷ 1065353216 ∷ 1065353216 ∷ 3 ∷ []) ∷ (12 ∷ 13 ∷ 131072 ∷ 2 ∷ 4 ∷ []) ∷ []
 unfolding tableOf shown row
 two-one = refl
 
@@ -50,15 +50,15 @@ two-two : tableOf (record { frequency = 2122317824; first = 0; end = 1 } ∷ rec
     { frequency = 2130706432; first = 9; end = 11 } ∷ record { frequency = 2122317824; first = 11; end = 12 } ∷ record
     { frequency = 1065353216; first = 12; end = 13 } ∷ record { frequency = 2139095038; first = 13; end = 15 } ∷ [])
     (row 0 0 0 0 ∷ row 4 2139095039 0 0 ∷ row 5 2130706431 0 0 ∷ row 7 0 0 2130706432 ∷ row 14 0 0 0 ∷ []) 1
-    ≡ (0 ∷ 1 ∷ 0 ∷ 2122317824 ∷ []) ∷ (1 ∷ 3 ∷ 0 ∷ 2139095038 ∷ []) ∷ (3 ∷ 4 ∷ 0 ∷ 2139095039 ∷ []) ∷ (4 ∷ 5 ∷ 2139095039 ∷ 2139095039 ∷ [])
-    ∷ (5 ∷ 6 ∷ 2130706431 ∷ 2139095039 ∷ []) ∷ (6 ∷ 8 ∷ 0 ∷ 2130706432 ∷ []) ∷ (8 ∷ 11 ∷ 2130706432 ∷ 2130706432 ∷ []) ∷ (11 ∷ 12 ∷ 0 ∷ 2122317824 ∷ [])
-    ∷ (12 ∷ 15 ∷ 0 ∷ 1065353216 ∷ []) ∷ []
+    ≡ (0 ∷ 1 ∷ 0 ∷ 2122317824 ∷ 0 ∷ []) ∷ (1 ∷ 3 ∷ 0 ∷ 2139095038 ∷ 1 ∷ []) ∷ (3 ∷ 4 ∷ 0 ∷ 2139095039 ∷ 2 ∷ [])
+    ∷ (4 ∷ 5 ∷ 2139095039 ∷ 2139095039 ∷ 2 ∷ []) ∷ (5 ∷ 6 ∷ 2130706431 ∷ 2139095039 ∷ 2 ∷ []) ∷ (6 ∷ 8 ∷ 0 ∷ 2130706432 ∷ 3 ∷ [])
+    ∷ (8 ∷ 11 ∷ 2130706432 ∷ 2130706432 ∷ 3 ∷ []) ∷ (11 ∷ 12 ∷ 0 ∷ 2122317824 ∷ 5 ∷ []) ∷ (12 ∷ 15 ∷ 0 ∷ 1065353216 ∷ 6 ∷ []) ∷ []
 unfolding tableOf shown row
 two-two = refl
 
 -- on each side the near weight 1.5 × 2^-24, then 1.0, then 2^-24, added in this order, give 1 + 2^-22; every other order gives 1 + 2^-23
 far-weights-order : tableOf (record { frequency = 1065353216; first = 0; end = 8 } ∷ [])
     (row 0 864026624 0 1065353216 ∷ row 3 1065353216 868220928 868220928 ∷ row 6 864026624 1065353216 0 ∷ []) 1
-    ≡ (0 ∷ 3 ∷ 1065353218 ∷ 1065353216 ∷ []) ∷ (3 ∷ 4 ∷ 1065353216 ∷ 1065353216 ∷ []) ∷ (4 ∷ 7 ∷ 1065353218 ∷ 1065353216 ∷ []) ∷ []
+    ≡ (0 ∷ 3 ∷ 1065353218 ∷ 1065353216 ∷ 0 ∷ []) ∷ (3 ∷ 4 ∷ 1065353216 ∷ 1065353216 ∷ 0 ∷ []) ∷ (4 ∷ 7 ∷ 1065353218 ∷ 1065353216 ∷ 0 ∷ []) ∷ []
 unfolding tableOf shown row
 far-weights-order = refl

@@ -1,24 +1,27 @@
 -- The gaps of a use table: they follow one another from the first instruction to the last, each carries the least frequency it meets, and
 -- there are at most as many as uses and blocks together
-use mathlib.Core.Path.{_≡_, refl, ap, subst}
+use mathlib.Core.Path.{_≡_, refl, sym, ap, _∙_, subst}
+use mathlib.Core.Bool.{Bool, cond}
 use mathlib.Core.List.{List, _∷_}
 use Prim.Native.Nat.{ℕ, zero, suc, _+_, _-_, _≤_, _<_}
 use native.Mathlib.Omega.{arith}
 use lib.ListN.{length, length-append}
+use borrow.Author.Tests.{le-leb, lt-leb}
 use Rattle.links.specs.Blocks.{BlockRow, blockOf, startOf, endLimit, SoundBlocks}
 use Rattle.links.proofs.Rows.{row-good}
 use Rattle.links.proofs.Columns.{last-end}
 use Rattle.overlaps.specs.Live.{Gaps}
+use Rattle.links.specs.declared.lower.Side.{Side}
 use Rattle.links.specs.declared.lower.Side.the-variants.{Previous, Next}
 use Rattle.columns.specs.Below.{joined}
 use Rattle.use_rows.specs.declared.row.SplitUse.{SplitUse}
 use Rattle.gaps.specs.Gaps.{Gap, gapsBetween, ownGap, useOf, gapsOn, gapsOf}
 use Rattle.columns.specs.Table.{Each}
 use Rattle.gaps.specs.GapColumns.{fromsOf, tosOf}
-use Rattle.gaps.specs.Laws.{Run, Least}
+use Rattle.gaps.specs.Laws.{Run, Least, nearestBlock}
 use Rattle.links.proofs.Homes.{home-of}
-use Rattle.gaps.proofs.Runs.{run-append, run-joined, run-gaps}
-use Rattle.gaps.proofs.Chains.{each-append, between-run, between-least, between-few, own-least}
+use Rattle.gaps.proofs.Runs.{each-map, each-both, run-append, run-joined, run-within, run-gaps}
+use Rattle.gaps.proofs.Chains.{each-append, Carried, between-run, between-carried, between-few, own-least}
 
 pub each-joined : (P : Gap → Type 0) (lists : ℕ → List Gap) (i n : ℕ) → ((k : ℕ) → i ≤ k → k < i + n → Each P (lists k)) → Each P (joined lists i n)
 unfolding joined
@@ -61,38 +64,73 @@ module _ (blocks : List BlockRow) (uses : List SplitUse) (r : Rising blocks uses
   to-last : best + right ≡ last
   to-last = omega (arith, h)
 
-  -- they follow one another from the first instruction to the last
+  -- those left of the best use, and those right of it, follow one another
+  left-run : Run (inst 0) (inst best) (gapsOn Previous blocks uses 0 best)
+  left-run =
+      let z : 0 + best ≡ best = omega arith in
+      subst (λ (x : ℕ). Run (inst 0) (inst x) (gapsOn Previous blocks uses 0 best)) z
+      (run-joined (λ k. gapsBetween Previous blocks (useOf uses k) (useOf uses (k + 1))) inst 0 best
+      (λ k l m. between-run blocks (r .sound) Previous (useOf uses k) (useOf uses (k + 1)) (r .rises k (omega (arith, m, h)))
+      (r .inside (k + 1) (omega (arith, m, h)))))
+
+  right-run : Run (inst best + 1) (inst last + 1) (gapsOn Next blocks uses best right)
+  right-run =
+      subst (λ (x : ℕ). Run (inst best + 1) (inst x + 1) (gapsOn Next blocks uses best right)) to-last
+      (run-joined (λ k. gapsBetween Next blocks (useOf uses k) (useOf uses (k + 1))) (λ k. inst k + 1) best right
+      (λ k l m. between-run blocks (r .sound) Next (useOf uses k) (useOf uses (k + 1)) (r .rises k (omega (arith, m, h)))
+      (r .inside (k + 1) (omega (arith, m, h)))))
+
+  -- all of them, from the first instruction to the last
   pub gaps-run : Run (useOf uses 0 .inst .0) (useOf uses (length uses - 1) .inst .0 + 1) (gapsOf blocks uses best)
   unfolding gapsOf
   gaps-run =
-      let z : 0 + best ≡ best = omega arith in
       run-append (inst 0) (inst best) (inst last + 1) (gapsOn Previous blocks uses 0 best)
-      (ownGap blocks (useOf uses best) ∷ gapsOn Next blocks uses best right)
-      (subst (λ (x : ℕ). Run (inst 0) (inst x) (gapsOn Previous blocks uses 0 best)) z
-      (run-joined (λ k. gapsBetween Previous blocks (useOf uses k) (useOf uses (k + 1))) inst 0 best
-      (λ k l m. between-run blocks (r .sound) Previous (useOf uses k) (useOf uses (k + 1)) (r .rises k (omega (arith, m, h)))
-      (r .inside (k + 1) (omega (arith, m, h)))))) (
-        refl,
-        omega arith,
-        subst (λ (x : ℕ). Run (inst best + 1) (inst x + 1) (gapsOn Next blocks uses best right)) to-last
-            (run-joined (λ k. gapsBetween Next blocks (useOf uses k) (useOf uses (k + 1))) (λ k. inst k + 1) best right
-            (λ k l m. between-run blocks (r .sound) Next (useOf uses k) (useOf uses (k + 1)) (r .rises k (omega (arith, m, h)))
-            (r .inside (k + 1) (omega (arith, m, h))))),
-      )
+      (ownGap blocks (useOf uses best) ∷ gapsOn Next blocks uses best right) left-run (refl, omega arith, right-run)
+
+  -- on either side each gap's block carries the least frequency among those it meets, and is the nearest to the best use
+  side-carried : (side : Side) (i n : ℕ) → i + n < length uses → Each (Carried blocks (r .sound) side) (gapsOn side blocks uses i n)
+  side-carried side i n l =
+      each-joined (Carried blocks (r .sound) side) (λ k. gapsBetween side blocks (useOf uses k) (useOf uses (k + 1))) i n
+      (λ k _ m. between-carried blocks (r .sound) side (useOf uses k) (useOf uses (k + 1)) (r .rises k (omega (arith, m, l)))
+      (r .inside (k + 1) (omega (arith, m, l))))
+
+  left-carried : Each (Carried blocks (r .sound) Previous) (gapsOn Previous blocks uses 0 best)
+  left-carried = side-carried Previous 0 best (omega (arith, h))
+
+  right-carried : Each (Carried blocks (r .sound) Next) (gapsOn Next blocks uses best right)
+  right-carried = side-carried Next best right (omega (arith, h))
 
   -- each carries the least frequency among the blocks it meets
   pub gaps-least : Each (Least blocks) (gapsOf blocks uses best)
   unfolding gapsOf
   gaps-least =
       each-append (Least blocks) (gapsOn Previous blocks uses 0 best) (ownGap blocks (useOf uses best) ∷ gapsOn Next blocks uses best right)
-      (each-joined (Least blocks) (λ k. gapsBetween Previous blocks (useOf uses k) (useOf uses (k + 1))) 0 best
-      (λ k l m. between-least blocks (r .sound) Previous (useOf uses k) (useOf uses (k + 1)) (r .rises k (omega (arith, m, h)))
-      (r .inside (k + 1) (omega (arith, m, h))))) (
+      (each-map (Carried blocks (r .sound) Previous) (Least blocks) (λ g c. c .least) (gapsOn Previous blocks uses 0 best) left-carried) (
         own-least blocks (r .sound) (useOf uses best) (r .inside best h),
-        each-joined (Least blocks) (λ k. gapsBetween Next blocks (useOf uses k) (useOf uses (k + 1))) best right
-            (λ k l m. between-least blocks (r .sound) Next (useOf uses k) (useOf uses (k + 1)) (r .rises k (omega (arith, m, h)))
-            (r .inside (k + 1) (omega (arith, m, h)))),
+        each-map (Carried blocks (r .sound) Next) (Least blocks) (λ g c. c .least) (gapsOn Next blocks uses best right) right-carried,
       )
+
+  -- that of its last block left of the best use, of its first one right of it
+  pub gaps-nearest : Each (λ (g : Gap). g .block ≡ nearestBlock blocks (useOf uses best .inst .0) g) (gapsOf blocks uses best)
+  unfolding gapsOf
+  gaps-nearest =
+      each-append (λ (g : Gap). g .block ≡ nearestBlock blocks (inst best) g) (gapsOn Previous blocks uses 0 best)
+      (ownGap blocks (useOf uses best) ∷ gapsOn Next blocks uses best right)
+      (each-both (λ g. (inst 0 ≤ g .from) × (g .from < g .to) × (g .to ≤ inst best)) (Carried blocks (r .sound) Previous)
+      (λ g. g .block ≡ nearestBlock blocks (inst best) g) (λ g w c. before g (w .2) (c .nearest)) (gapsOn Previous blocks uses 0 best)
+      (run-within (inst 0) (inst best) (gapsOn Previous blocks uses 0 best) left-run) left-carried) (
+        after (ownGap blocks (useOf uses best)) (omega arith) refl,
+        each-both (λ g. (inst best + 1 ≤ g .from) × (g .from < g .to) × (g .to ≤ inst last + 1)) (Carried blocks (r .sound) Next)
+            (λ g. g .block ≡ nearestBlock blocks (inst best) g)
+            (λ g w c. let x = w .0 in let y = w .1 in after g (omega (arith, x, y)) (c .nearest)) (gapsOn Next blocks uses best right)
+            (run-within (inst best + 1) (inst last + 1) (gapsOn Next blocks uses best right) right-run) right-carried,
+      )
+    where
+      before : (g : Gap) → g .to ≤ inst best → g .block ≡ blockOf blocks (g .to - 1) → g .block ≡ nearestBlock blocks (inst best) g
+      before g l e = e ∙ ap (λ (t : Bool). cond t (blockOf blocks (g .to - 1)) (blockOf blocks (g .from))) (sym (le-leb (g .to) (inst best) l))
+
+      after : (g : Gap) → inst best < g .to → g .block ≡ blockOf blocks (g .from) → g .block ≡ nearestBlock blocks (inst best) g
+      after g l e = e ∙ ap (λ (t : Bool). cond t (blockOf blocks (g .to - 1)) (blockOf blocks (g .from))) (sym (lt-leb (g .to) (inst best) l))
 
   -- there are fewer than uses and blocks together
   pub gaps-few : length (gapsOf blocks uses best) < length uses + length blocks

@@ -46,7 +46,7 @@ cut-weighed : (side : Side) (blocks : List BlockRow) (edgeOf : ℕ → ℕ) (end
 unfolding cutGaps plus
 cut-weighed side blocks edgeOf end ws e w b [] p q = (record { weight = plus-weight w ws p q; freq = block-finite blocks b }, tt)
 cut-weighed side blocks edgeOf end ws e w b (c ∷ cs) p q =
-    each-in-order Weighed side (spanned side e (edgeOf c) (w ∷ []) (frequencyOf blocks b))
+    each-in-order Weighed side (spanned side e (edgeOf c) (w ∷ []) (frequencyOf blocks b) b)
     (cutGaps side (λ b. frequencyOf blocks b) edgeOf end ws (edgeOf c) zeroWeight c cs)
     (record { weight = p; freq = block-finite blocks b }) (cut-weighed side blocks edgeOf end ws (edgeOf c) zeroWeight c cs (finite zero-finite) q)
 

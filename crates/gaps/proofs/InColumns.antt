@@ -79,8 +79,8 @@ module _ (freqs firsts ends : List ℕ) (w : SoundColumns freqs firsts ends) whe
   pub own-is : (u : SplitUse) → ownIn freqs ends u ≡ ownGap blocks u
   unfolding frequencyAt
   own-is u =
-      ap (λ (f : Float). record { from = u .inst .0; to = u .inst .0 + 1; weights = u .weight ∷ []; freq = f })
-      (ap (λ (f : ℕ → Float). f (blockIn ends (length freqs) (u .inst .0))) freq-is ∙ ap (frequencyOf blocks) (block-of-sound freqs firsts ends w (u .inst .0)))
+      ap₂ (λ (f : ℕ → Float) (b : ℕ). record { from = u .inst .0; to = u .inst .0 + 1; weights = u .weight ∷ []; freq = f b; block = b })
+      freq-is (block-of-sound freqs firsts ends w (u .inst .0))
 
   module _ (side : Side) (links : List ℕ) (is : links ≡ linkColumn side freqs) where
     few : length freqs ≤ itemLimit

@@ -51,13 +51,14 @@ module _ (gaps : List Gap) (starts ends : List ℕ) (lent : GapColumns) where
   -- what one operation leaves is what the two left in turn
   pub built-then-counted : (now : GapColumns) (used : ℕ) → GapsHeld gaps starts ends lent now used → now ≡ livesCounted starts ends used (gapsBuilt gaps lent)
   built-then-counted now used h =
-      (λ i. gapColumns (h .from i) (h .to i) (h .weight i) ((h .live ∙ sym lives-counted) i) (h .freq i))
+      (λ i. gapColumns (h .from i) (h .to i) (h .weight i) ((h .live ∙ sym lives-counted) i) (h .freq i) (h .block i))
       ∙ ap (λ (n : ℕ). livesCounted starts ends n (gapsBuilt gaps lent)) (sym (h .count))
 
 -- by computation: case A's two gaps in columns of three rows, with one live instruction in the first and three in the second
 two : List Gap
-two = record { from = 0; to = 1; weights = []; freq = zeroWeight } ∷ record { from = 1; to = 4; weights = []; freq = zeroWeight } ∷ []
+two = record { from = 0; to = 1; weights = []; freq = zeroWeight; block = 0 } ∷ record { from = 1; to = 4; weights = []; freq = zeroWeight; block = 0 } ∷ []
 
-case-a-counted : livesCounted (2 ∷ []) (14 ∷ []) 2 (gapsBuilt two (gapColumns (7 ∷ 7 ∷ 7 ∷ []) (7 ∷ 7 ∷ 7 ∷ []) [] (7 ∷ 7 ∷ 7 ∷ []) [])) .lives ≡ 1 ∷ 3 ∷ 7 ∷ []
+case-a-counted : livesCounted (2 ∷ []) (14 ∷ []) 2
+    (gapsBuilt two (gapColumns (7 ∷ 7 ∷ 7 ∷ []) (7 ∷ 7 ∷ 7 ∷ []) [] (7 ∷ 7 ∷ 7 ∷ []) [] [])) .lives ≡ 1 ∷ 3 ∷ 7 ∷ []
 unfolding two sumBelow table
 case-a-counted = refl

@@ -25,10 +25,10 @@ use Rattle.uses.proofs.EdgeWeights.{first-no-left, last-no-right}
 use Rattle.overlaps.proofs.LiveTotal.{live-total}
 use Rattle.gaps.specs.Gaps.{Gap, useOf, gapsOf, usesIn, Cuttable}
 use Rattle.gaps.specs.GapColumns.{fromsOf, tosOf}
-use Rattle.gaps.specs.Laws.{Run, Least, placed, rowMeasure}
+use Rattle.gaps.specs.Laws.{Run, Least, nearestBlock, placed, rowMeasure}
 use Rattle.gaps.proofs.Placed.{all-weights-once}
 use Rattle.gaps.proofs.Runs.{run-first, run-last}
-use Rattle.gaps.proofs.GapTable.{Rising, gaps-run, gaps-least, gaps-few, gaps-some, gaps-tile}
+use Rattle.gaps.proofs.GapTable.{Rising, gaps-run, gaps-least, gaps-nearest, gaps-few, gaps-some, gaps-tile}
 
 -- ---- the columns of a use table
 -- its rows in columns
@@ -116,6 +116,11 @@ module _ (job : Source) (checked : CheckedUses job) (sound : SoundBlocks (job .b
     -- each has the least frequency among the blocks it meets
     pub job-gaps-least : Each (Least (job .blocks)) (gapsOf (job .blocks) (useTableOf job) best)
     job-gaps-least = gaps-least (job .blocks) uses job-rising best h
+
+    -- that of its last block left of the best use, of its first one right of it
+    pub job-gaps-nearest : Each (λ (g : Gap). g .block ≡ nearestBlock (job .blocks) (useOf (useTableOf job) best .inst .0) g)
+        (gapsOf (job .blocks) (useTableOf job) best)
+    job-gaps-nearest = gaps-nearest (job .blocks) uses job-rising best h
 
     -- each counted weight stands in exactly one of them: whatever measures weights, with nothing for zero, measures as much in the gaps as in
     -- all rows of the use table

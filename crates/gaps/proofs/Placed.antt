@@ -43,7 +43,7 @@ module _ (f : Float → ℕ) where
     unfolding cutGaps
     placed-cut side freqOf edgeOf end ws e w b [] = omega arith
     placed-cut side freqOf edgeOf end ws e w b (c ∷ cs) =
-        let o = placed-in-order side (spanned side e (edgeOf c) (w ∷ []) (freqOf b)) (cutGaps side freqOf edgeOf end ws (edgeOf c) zeroWeight c cs) in
+        let o = placed-in-order side (spanned side e (edgeOf c) (w ∷ []) (freqOf b) b) (cutGaps side freqOf edgeOf end ws (edgeOf c) zeroWeight c cs) in
         let r = placed-cut side freqOf edgeOf end ws (edgeOf c) zeroWeight c cs in
         omega (arith, o, r, none)
 

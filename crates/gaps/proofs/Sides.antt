@@ -16,7 +16,7 @@ use Rattle.gaps.specs.Gaps.{Gap}
 use Rattle.gaps.specs.Cutting.{spaceOf, Ordered}
 use Rattle.gaps.specs.Cutting.{CutColumns, storedGaps, CutRows}
 use Rattle.gaps.proofs.StoredGaps.{stored-append, rows-stored, rows-fewer}
-use Rattle.gaps.proofs.Spaces.{Same}
+use Rattle.gaps.proofs.Spaces.{Same, same-itself, same-then}
 
 -- lists of gaps, from the first-th to before the last-th
 module _ (lists : ℕ → List Gap) (first last n₀ : ℕ) (lent : CutColumns) where
@@ -31,7 +31,7 @@ module _ (lists : ℕ → List Gap) (first last n₀ : ℕ) (lent : CutColumns) 
     pub gives : storedGaps n (fromOn lists last i) cols ≡ storedGaps n₀ all lent
 
   pub siding-starts : CutRows (n₀ + length all) lent → Siding lent first n₀
-  siding-starts r = record { from = omega arith; used = refl; rows = r; same = record { from = refl; to = refl; weight = refl; freq = refl }; gives = refl }
+  siding-starts r = record { from = omega arith; used = refl; rows = r; same = same-itself lent; gives = refl }
 
   module _ (cols : CutColumns) (i n : ℕ) (k : Siding cols i n) where
     next-length : i < last → length (fromOn lists last i) ≡ length (lists i) + length (fromOn lists last (i + 1))
@@ -53,7 +53,7 @@ module _ (lists : ℕ → List Gap) (first last n₀ : ℕ) (lent : CutColumns) 
           from = omega (arith, k .from);
           used = omega (arith, l, u, q);
           rows = subst (CutRows (n₀ + length all)) (sym (e .1)) (rows-stored (n₀ + length all) n (lists i) cols (k .rows));
-          same = record { from = t .from ∙ s .from; to = t .to ∙ s .to; weight = t .weight ∙ s .weight; freq = t .freq ∙ s .freq };
+          same = same-then lent cols cols' s t;
           gives = ap (λ (x : ℕ). storedGaps x (fromOn lists last (i + 1)) cols') q ∙ ap (storedGaps (n + length (lists i)) (fromOn lists last (i + 1))) (e .1)
               ∙ sym (stored-append n (lists i) (fromOn lists last (i + 1)) cols)
               ∙ ap (λ (gs : List Gap). storedGaps n gs cols) (sym (joined-next lists i last h)) ∙ k .gives;

@@ -17,7 +17,7 @@ use Rattle.gaps.specs.Cutting.{CutColumns, withRow, withGap, storedGaps,
 use Rattle.gaps.specs.Cutting.{Leads, followed, cutsIn, freqIn, spaceGaps, Alike}
 use Rattle.gaps.specs.declared.cutting.Space.{Space}
 use Rattle.gaps.proofs.Cuts.{nextCut, one-more, followed-end, all-enough}
-use Rattle.gaps.proofs.StoredGaps.{stored-last, rows-with}
+use Rattle.gaps.proofs.StoredGaps.{stored-last, rows-with, rows-fewer}
 
 -- ---- one gap more than cuts
 order-length : (side : Side) (g : Gap) (gs : List Gap) → length (inOrder side g gs) ≡ suc (length gs)
@@ -29,7 +29,7 @@ pub cut-gaps-length : (side : Side) (freqOf : ℕ → Float) (edgeOf : ℕ → �
 unfolding cutGaps
 cut-gaps-length side freqOf edgeOf end ws e w b [] = refl
 cut-gaps-length side freqOf edgeOf end ws e w b (c ∷ cs) =
-    order-length side (spanned side e (edgeOf c) (w ∷ []) (freqOf b)) (cutGaps side freqOf edgeOf end ws (edgeOf c) zeroWeight c cs)
+    order-length side (spanned side e (edgeOf c) (w ∷ []) (freqOf b) b) (cutGaps side freqOf edgeOf end ws (edgeOf c) zeroWeight c cs)
     ∙ ap suc (cut-gaps-length side freqOf edgeOf end ws (edgeOf c) zeroWeight c cs)
 
 -- ---- the row of the next gap, of k + 1 that are left of all: the last of them on the left, the first on the right
@@ -81,14 +81,30 @@ pub record Same (lent cols : CutColumns) : Type 0 where
   pub to : length (cols .tos) ≡ length (lent .tos)
   pub weight : length (cols .weights) ≡ length (lent .weights)
   pub freq : length (cols .freqs) ≡ length (lent .freqs)
+  pub block : length (cols .blocks) ≡ length (lent .blocks)
 
-pub same-with : (lent cols : CutColumns) (at from to : ℕ) (weight freq : Float) → Same lent cols → Same lent (withRow cols at from to weight freq)
-same-with lent cols at from to weight freq s =
+pub same-itself : (cols : CutColumns) → Same cols cols
+same-itself cols = record { from = refl; to = refl; weight = refl; freq = refl; block = refl }
+
+pub same-then : (lent cols after : CutColumns) → Same lent cols → Same cols after → Same lent after
+same-then lent cols after s t =
+    record {
+      from = t .from ∙ s .from;
+      to = t .to ∙ s .to;
+      weight = t .weight ∙ s .weight;
+      freq = t .freq ∙ s .freq;
+      block = t .block ∙ s .block;
+    }
+
+pub same-with : (lent cols : CutColumns) (at from to : ℕ) (weight freq : Float) (block : ℕ) → Same lent cols
+    → Same lent (withRow cols at from to weight freq block)
+same-with lent cols at from to weight freq block s =
     let a = s .from in
     let b = s .to in
     let c = s .weight in
     let d = s .freq in
-    record { from = simp length-set a; to = simp length-set b; weight = simp length-set c; freq = simp length-set d }
+    let e = s .block in
+    record { from = simp length-set a; to = simp length-set b; weight = simp length-set c; freq = simp length-set d; block = simp length-set e }
 
 -- ---- the storing of a space's gaps, before its next cut
 module _ (side : Side) (freqs edges links : List ℕ) (s : Space) (n : ℕ) (lent : CutColumns) where
@@ -131,7 +147,7 @@ module _ (side : Side) (freqs edges links : List ℕ) (s : Space) (n : ℕ) (len
         fuel = length links;
         enough = all-enough side (length links) (s .block .0) h;
         rows = rows;
-        same = record { from = refl; to = refl; weight = refl; freq = refl };
+        same = same-itself lent;
         place =
             subst (λ (x : ℕ). Place side n x cutsLong (length all)) (sym q)
             (subst (λ (x : ℕ). Place side n (n + onSide side cutsLong 0) cutsLong x) (sym all-length) (place-first n side cutsLong));
@@ -148,17 +164,17 @@ module _ (side : Side) (freqs edges links : List ℕ) (s : Space) (n : ℕ) (len
     row-inside =
         let r = k .rows in
         let p = place-inside n side at (length (followed side links (s .last .0) (k .fuel) b)) (length all) (k .place) in
-        record { from = omega (arith, r .from, p); to = omega (arith, r .to, p); weight = omega (arith, r .weight, p); freq = omega (arith, r .freq, p) }
+        rows-fewer (at + 1) (n + length all) cols (omega (arith, p)) r
 
     -- a cut: the gap up to it is stored
     pub storing-next : (c : ℕ) → nextCut side links (s .last .0) b ≡ At (record { 0 = c })
-        → Storing (withRow cols at (onSide side (edgeIn c) e) (onSide side e (edgeIn c)) w (freqIn freqs b)) c (onSide side (at - 1) (at + 1)) (edgeIn c)
+        → Storing (withRow cols at (onSide side (edgeIn c) e) (onSide side e (edgeIn c)) w (freqIn freqs b) b) c (onSide side (at - 1) (at + 1)) (edgeIn c)
         zeroWeight
         × (beside side (length links) c < beside side (length links) b) × (c < length links) × (onSide side 1 0 ≤ at)
     unfolding cutGaps plus
     storing-next c q =
         let m = one-more side links (k .leads) (s .last .0) b c (k .fuel) (k .inside) (k .enough) q in
-        let g = spanned side e (edgeIn c) (w ∷ []) (freqIn freqs b) in
+        let g = spanned side e (edgeIn c) (w ∷ []) (freqIn freqs b) b in
         let left = rest (m .fuel-after) (edgeIn c) zeroWeight c in
         let more = ap length (m .more) in
         let p : Place side n at (suc (length (followed side links (s .last .0) (m .fuel-after) c))) (length all) =
@@ -173,8 +189,8 @@ module _ (side : Side) (freqs edges links : List ℕ) (s : Space) (n : ℕ) (len
             inside = m .inside;
             fuel = m .fuel-after;
             enough = m .enough;
-            rows = rows-with (n + length all) at (onSide side (edgeIn c) e) (onSide side e (edgeIn c)) w (freqIn freqs b) cols (k .rows);
-            same = same-with lent cols at (onSide side (edgeIn c) e) (onSide side e (edgeIn c)) w (freqIn freqs b) (k .same);
+            rows = rows-with (n + length all) at (onSide side (edgeIn c) e) (onSide side e (edgeIn c)) w (freqIn freqs b) b cols (k .rows);
+            same = same-with lent cols at (onSide side (edgeIn c) e) (onSide side e (edgeIn c)) w (freqIn freqs b) b (k .same);
             place = t .0;
             gives = sym (place-stored n side at g left (length all) cols (subst (λ (x : ℕ). Place side n at x (length all)) (sym long) p))
                 ∙ ap (λ (cs : List ℕ). storedGaps (onSide side n at) (cutGaps side (freqIn freqs) edgeIn (s .end .0) (s .far ∷ s .main ∷ []) e w b cs) cols)
@@ -188,14 +204,14 @@ module _ (side : Side) (freqs edges links : List ℕ) (s : Space) (n : ℕ) (len
 
     -- no cut any more: with the gap up to the farther use all are stored
     pub storing-ends : nextCut side links (s .last .0) b ≡ Absent
-        → (withRow cols at (onSide side (s .end .0) e) (onSide side e (s .end .0)) (add binary32 (add binary32 w (s .far)) (s .main)) (freqIn freqs b)
+        → (withRow cols at (onSide side (s .end .0) e) (onSide side e (s .end .0)) (add binary32 (add binary32 w (s .far)) (s .main)) (freqIn freqs b) b
         ≡ storedGaps n all lent)
         × (max (n + onSide side cutsLong 0) at + 1 ≡ n + length all)
     unfolding cutGaps plus
     storing-ends q =
         let f = followed-end side links (s .last .0) b (k .fuel) q in
         let p : Place side n at 0 (length all) = subst (λ (cs : List ℕ). Place side n at (length cs) (length all)) f (k .place) in
-        let g = spanned side e (s .end .0) (w ∷ s .far ∷ s .main ∷ []) (freqIn freqs b) in (
+        let g = spanned side e (s .end .0) (w ∷ s .far ∷ s .main ∷ []) (freqIn freqs b) b in (
           sym (place-one n side at g (length all) cols p)
               ∙ ap (λ (cs : List ℕ). storedGaps (onSide side n at)
               (cutGaps side (freqIn freqs) edgeIn (s .end .0) (s .far ∷ s .main ∷ []) e w b cs) cols) (sym f)
@@ -205,18 +221,18 @@ module _ (side : Side) (freqs edges links : List ℕ) (s : Space) (n : ℕ) (len
 
     -- the same, of what the calls answer
     pub storing-step : (c : ℕ) → nextCut side links (s .last .0) b ≡ At (record { 0 = c }) → {cols' : CutColumns} {f : Float} {at' : ℕ} → f ≡ freqIn freqs b
-        → cols' ≡ withRow cols at (onSide side (edgeIn c) e) (onSide side e (edgeIn c)) w f → at' ≡ onSide side (at - 1) (at + 1)
+        → cols' ≡ withRow cols at (onSide side (edgeIn c) e) (onSide side e (edgeIn c)) w f b → at' ≡ onSide side (at - 1) (at + 1)
         → Storing cols' c at' (edgeIn c) zeroWeight
     storing-step c q {cols'} {f} {at'} ef ec ea =
         subst (λ (x : ℕ). Storing cols' c x (edgeIn c) zeroWeight) (sym ea)
         (subst (λ (x : CutColumns). Storing x c (onSide side (at - 1) (at + 1)) (edgeIn c) zeroWeight)
-        (sym (ec ∙ ap (withRow cols at (onSide side (edgeIn c) e) (onSide side e (edgeIn c)) w) ef)) (storing-next c q .0))
+        (sym (ec ∙ ap (λ (x : Float). withRow cols at (onSide side (edgeIn c) e) (onSide side e (edgeIn c)) w x b) ef)) (storing-next c q .0))
 
     pub storing-done : nextCut side links (s .last .0) b ≡ Absent → {cols' : CutColumns} {f : Float} {first r : ℕ} → f ≡ freqIn freqs b
-        → cols' ≡ withRow cols at (onSide side (s .end .0) e) (onSide side e (s .end .0)) (add binary32 (add binary32 w (s .far)) (s .main)) f
+        → cols' ≡ withRow cols at (onSide side (s .end .0) e) (onSide side e (s .end .0)) (add binary32 (add binary32 w (s .far)) (s .main)) f b
         → first ≡ n + onSide side cutsLong 0 → r ≡ max first at → (r + 1 ≡ n + length all) × (cols' ≡ storedGaps n all lent)
     storing-done q ef ec e1 er = (
       ap (λ (x : ℕ). x + 1) (er ∙ ap (λ (x : ℕ). max x at) e1) ∙ storing-ends q .1,
-      ec ∙ ap (withRow cols at (onSide side (s .end .0) e) (onSide side e (s .end .0)) (add binary32 (add binary32 w (s .far)) (s .main))) ef
+      ec ∙ ap (λ (x : Float). withRow cols at (onSide side (s .end .0) e) (onSide side e (s .end .0)) (add binary32 (add binary32 w (s .far)) (s .main)) x b) ef
           ∙ storing-ends q .0,
     )

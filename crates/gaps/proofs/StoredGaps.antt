@@ -12,23 +12,26 @@ use Rattle.gaps.specs.Gaps.{Gap, gapWeight}
 use Rattle.gaps.specs.Cutting.{CutColumns, withRow, withGap, withNext, storedGaps, CutRows}
 
 -- ---- how long the columns are
-pub rows-with : (n at from to : ℕ) (weight freq : Float) (cols : CutColumns) → CutRows n cols → CutRows n (withRow cols at from to weight freq)
-rows-with n at from to weight freq cols r =
+pub rows-with : (n at from to : ℕ) (weight freq : Float) (block : ℕ) (cols : CutColumns) → CutRows n cols
+    → CutRows n (withRow cols at from to weight freq block)
+rows-with n at from to weight freq block cols r =
     let a = r .from in
     let b = r .to in
     let c = r .weight in
     let d = r .freq in
-    record { from = simp length-set a; to = simp length-set b; weight = simp length-set c; freq = simp length-set d }
+    let e = r .block in
+    record { from = simp length-set a; to = simp length-set b; weight = simp length-set c; freq = simp length-set d; block = simp length-set e }
 
 pub rows-fewer : (m n : ℕ) (cols : CutColumns) → m ≤ n → CutRows n cols → CutRows m cols
 rows-fewer m n cols h r =
-    let a = r .from in let b = r .to in let c = r .weight in let d = r .freq in
-    record { from = omega arith; to = omega arith; weight = omega arith; freq = omega arith }
+    let a = r .from in let b = r .to in let c = r .weight in let d = r .freq in let e = r .block in
+    record { from = omega arith; to = omega arith; weight = omega arith; freq = omega arith; block = omega arith }
 
 pub rows-stored : (n at : ℕ) (gs : List Gap) (cols : CutColumns) → CutRows n cols → CutRows n (storedGaps at gs cols)
 unfolding storedIn
 rows-stored n at [] cols r = r
-rows-stored n at (g ∷ gs) cols r = rows-stored n (suc at) gs (withGap cols at g) (rows-with n at (g .from) (g .to) (gapWeight g) (g .freq) cols r)
+rows-stored n at (g ∷ gs) cols r =
+    rows-stored n (suc at) gs (withGap cols at g) (rows-with n at (g .from) (g .to) (gapWeight g) (g .freq) (g .block) cols r)
 
 -- ---- stored in parts
 pub stored-append : (at : ℕ) (gs hs : List Gap) (cols : CutColumns) → storedGaps at (gs ++ hs) cols ≡ storedGaps (at + length gs) hs (storedGaps at gs cols)
@@ -46,6 +49,7 @@ with-either i j g h cols apart =
       tos = set-comm (cols .tos) i j (g .to) (h .to) apart k;
       weights = set-comm (cols .weights) i j (gapWeight g) (gapWeight h) apart k;
       freqs = set-comm (cols .freqs) i j (g .freq) (h .freq) apart k;
+      blocks = set-comm (cols .blocks) i j (g .block) (h .block) apart k;
     }
 
 -- the last one first

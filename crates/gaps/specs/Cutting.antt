@@ -65,7 +65,9 @@ sideGaps side freqs ends edges links uses i n =
 
 -- the best use's own gap
 abbrev pub ownIn : List ℕ → List ℕ → SplitUse → Gap
-ownIn freqs ends u = record { from = u .inst .0; to = u .inst .0 + 1; weights = u .weight ∷ []; freq = freqIn freqs (blockIn ends (length freqs) (u .inst .0)) }
+ownIn freqs ends u =
+    let b = blockIn ends (length freqs) (u .inst .0) in
+    record { from = u .inst .0; to = u .inst .0 + 1; weights = u .weight ∷ []; freq = freqIn freqs b; block = b }
 
 -- columns of a block list, each as long as the others
 pub record Alike (freqs edges links : List ℕ) : Type 0 where
@@ -87,18 +89,20 @@ pub record CutColumns : Type 0 where
   pub tos : List ℕ
   pub weights : List Float
   pub freqs : List Float
+  pub blocks : List ℕ
 
--- the four as one
-abbrev pub cutColumns : List ℕ → List ℕ → List Float → List Float → CutColumns
-cutColumns froms tos weights freqs = record { froms = froms; tos = tos; weights = weights; freqs = freqs }
+-- the five as one
+abbrev pub cutColumns : List ℕ → List ℕ → List Float → List Float → List ℕ → CutColumns
+cutColumns froms tos weights freqs blocks = record { froms = froms; tos = tos; weights = weights; freqs = freqs; blocks = blocks }
 
 -- the columns with a row stored
-abbrev pub withRow : CutColumns → ℕ → ℕ → ℕ → Float → Float → CutColumns
-withRow cols at from to weight freq = cutColumns (set (cols .froms) at from) (set (cols .tos) at to) (set (cols .weights) at weight) (set (cols .freqs) at freq)
+abbrev pub withRow : CutColumns → ℕ → ℕ → ℕ → Float → Float → ℕ → CutColumns
+withRow cols at from to weight freq block =
+    cutColumns (set (cols .froms) at from) (set (cols .tos) at to) (set (cols .weights) at weight) (set (cols .freqs) at freq) (set (cols .blocks) at block)
 
 -- the columns with a gap stored
 abbrev pub withGap : CutColumns → ℕ → Gap → CutColumns
-withGap cols at g = withRow cols at (g .from) (g .to) (gapWeight g) (g .freq)
+withGap cols at g = withRow cols at (g .from) (g .to) (gapWeight g) (g .freq) (g .block)
 
 -- the columns, and the row at which the next gap is stored
 pub record AtRow : Type 0 where
@@ -118,3 +122,4 @@ pub record CutRows (n : ℕ) (cols : CutColumns) : Type 0 where
   pub to : n ≤ length (cols .tos)
   pub weight : n ≤ length (cols .weights)
   pub freq : n ≤ length (cols .freqs)
+  pub block : n ≤ length (cols .blocks)

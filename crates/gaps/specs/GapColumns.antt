@@ -1,4 +1,4 @@
--- The gap table in its five lent columns
+-- The gap table in its six lent columns
 use mathlib.Core.Path.{_≡_}
 use Prim.Native.Nat.{ℕ, _≤_}
 use mathlib.Core.List.{List, map}
@@ -23,17 +23,26 @@ livesOf gaps starts ends = liveColumn starts ends (fromsOf gaps) (tosOf gaps)
 abbrev pub gapSegmentsOf : List Gap → List ℕ → List ℕ → List ℕ → List Overlap
 gapSegmentsOf gaps starts ends values = gapSegments (fromsOf gaps) (tosOf gaps) starts ends values
 
--- instructions from and to, weights, live instructions, frequencies
+-- the gaps' frequencies, and the blocks that carry them
+abbrev pub minFreqsOf : List Gap → List Float
+minFreqsOf gaps = map (λ (g : Gap). g .freq) gaps
+
+abbrev pub gapBlocksOf : List Gap → List ℕ
+gapBlocksOf gaps = map (λ (g : Gap). g .block) gaps
+
+-- instructions from and to, weights, live instructions, frequencies and their blocks
 pub record GapColumns : Type 0 where
   pub froms : List ℕ
   pub tos : List ℕ
   pub weights : List Float
   pub lives : List ℕ
   pub freqs : List Float
+  pub blocks : List ℕ
 
--- the five as one
-abbrev pub gapColumns : List ℕ → List ℕ → List Float → List ℕ → List Float → GapColumns
-gapColumns froms tos weights lives freqs = record { froms = froms; tos = tos; weights = weights; lives = lives; freqs = freqs }
+-- the six as one
+abbrev pub gapColumns : List ℕ → List ℕ → List Float → List ℕ → List Float → List ℕ → GapColumns
+gapColumns froms tos weights lives freqs blocks =
+    record { froms = froms; tos = tos; weights = weights; lives = lives; freqs = freqs; blocks = blocks }
 
 -- the columns have n rows
 pub record Rows (n : ℕ) (cols : GapColumns) : Type 0 where
@@ -42,6 +51,7 @@ pub record Rows (n : ℕ) (cols : GapColumns) : Type 0 where
   pub weight : n ≤ length (cols .weights)
   pub live : n ≤ length (cols .lives)
   pub freq : n ≤ length (cols .freqs)
+  pub block : n ≤ length (cols .blocks)
 
 -- the gap table: its columns hold gaps, and the live instructions that segments have in them, from their first row on, and past them what was
 -- there; so many rows are used
@@ -51,4 +61,5 @@ pub record GapsHeld (gaps : List Gap) (starts ends : List ℕ) (lent now : GapCo
   pub to : now .tos ≡ filled (tosOf gaps) (lent .tos)
   pub weight : now .weights ≡ filled (map gapWeight gaps) (lent .weights)
   pub live : now .lives ≡ filled (livesOf gaps starts ends) (lent .lives)
-  pub freq : now .freqs ≡ filled (map (λ (g : Gap). g .freq) gaps) (lent .freqs)
+  pub freq : now .freqs ≡ filled (minFreqsOf gaps) (lent .freqs)
+  pub block : now .blocks ≡ filled (gapBlocksOf gaps) (lent .blocks)

@@ -17,12 +17,14 @@ use Rattle.use_rows.specs.UseColumns.{UseColumns, useIn}
 use Rattle.columns.specs.Below.{joined}
 use Rattle.use_rows.specs.declared.row.SplitUse.{SplitUse}
 
--- a gap: the instructions from one to before another, the weights placed in it in the order of their addition, and its frequency
+-- a gap: the instructions from one to before another, the weights placed in it in the order of their addition, its frequency, and the block
+-- that carries it
 pub record Gap : Type 0 where
   pub from : ℕ
   pub to : ℕ
   pub weights : List Float
   pub freq : Float
+  pub block : ℕ
 
 -- a gap's weight
 abbrev pub gapWeight : Gap → Float
@@ -47,9 +49,10 @@ farWeights side u = onSide side (u .«right_weight») (u .«left_weight») ∷ u
 abbrev pub farEnd : Side → ℕ → ℕ → ℕ
 farEnd side earlier later = onSide side earlier (later + 1)
 
--- the gap from an edge to another one, farther from the best use
-abbrev pub spanned : Side → ℕ → ℕ → List Float → Float → Gap
-spanned side edge farther weights freq = record { from = onSide side farther edge; to = onSide side edge farther; weights = weights; freq = freq }
+-- the gap from an edge to another one, farther from the best use, with the frequency of a block
+abbrev pub spanned : Side → ℕ → ℕ → List Float → Float → ℕ → Gap
+spanned side edge farther weights freq block =
+    record { from = onSide side farther edge; to = onSide side edge farther; weights = weights; freq = freq; block = block }
 
 -- a gap and those farther from the best use, in the order of instructions
 abbrev pub inOrder : Side → Gap → List Gap → List Gap
@@ -57,11 +60,11 @@ inOrder Previous g gs = gs ++ (g ∷ [])
 inOrder Next g gs = g ∷ gs
 
 -- the gaps from an edge and a block on, with cuts at the edges of other blocks: each has the frequency of its block nearest to the best
--- use; the nearest has the near weight, the farthest the far weights
+-- use, the one where it begins; the nearest has the near weight, the farthest the far weights
 unfoldable pub cutGaps : Side → (ℕ → Float) → (ℕ → ℕ) → ℕ → List Float → ℕ → Float → ℕ → List ℕ → List Gap
-cutGaps side freqOf edgeOf end ws e w b [] = spanned side e end (w ∷ ws) (freqOf b) ∷ []
+cutGaps side freqOf edgeOf end ws e w b [] = spanned side e end (w ∷ ws) (freqOf b) b ∷ []
 cutGaps side freqOf edgeOf end ws e w b (c ∷ cs) =
-    inOrder side (spanned side e (edgeOf c) (w ∷ []) (freqOf b)) (cutGaps side freqOf edgeOf end ws (edgeOf c) zeroWeight c cs)
+    inOrder side (spanned side e (edgeOf c) (w ∷ []) (freqOf b) b) (cutGaps side freqOf edgeOf end ws (edgeOf c) zeroWeight c cs)
 
 -- the frequency of a block
 abbrev pub frequencyOf : List BlockRow → ℕ → Float
@@ -82,7 +85,14 @@ gapsBetween side blocks u v =
 
 -- the best use's own gap: one instruction
 abbrev pub ownGap : List BlockRow → SplitUse → Gap
-ownGap blocks u = record { from = u .inst .0; to = u .inst .0 + 1; weights = u .weight ∷ []; freq = frequencyAt blocks (u .inst .0) }
+ownGap blocks u =
+    record {
+      from = u .inst .0;
+      to = u .inst .0 + 1;
+      weights = u .weight ∷ [];
+      freq = frequencyAt blocks (u .inst .0);
+      block = blockOf blocks (u .inst .0);
+    }
 
 -- a use of the table
 abbrev pub useOf : List SplitUse → ℕ → SplitUse

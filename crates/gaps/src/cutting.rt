@@ -133,24 +133,26 @@ fn later(a: usize, b: usize) -> usize
     if a < b { b } else { a }
 }
 
-// Stores the gap from an edge to a farther one.
+// Stores the gap from an edge to a farther one, with the frequency of a block.
 fn put_gap(
     from: &mut [u32],
     to: &mut [u32],
     weight: &mut [f32],
     freq: &mut [f32],
+    block: &mut [u32],
     at: usize,
     side: Side,
     edge: Inst,
     farther: Inst,
     w: f32,
     f: f32,
+    b: Block,
 )
-    requires { ⌜ CutRows (at + 1) (cutColumns (now from) (now to) (now weight) (now freq)) ⌝ }
+    requires { ⌜ CutRows (at + 1) (cutColumns (now from) (now to) (now weight) (now freq) (now block)) ⌝ }
     ensures { λ _. ⌜
-        (let lent = cutColumns (now (from .entry)) (now (to .entry)) (now (weight .entry)) (now (freq .entry)) in
-        let after = cutColumns (now (from .exit)) (now (to .exit)) (now (weight .exit)) (now (freq .exit)) in
-        after ≡ withRow lent at (onSide side (farther .0) (edge .0)) (onSide side (edge .0) (farther .0)) w f) ⌝ }
+        (let lent = cutColumns (now (from .entry)) (now (to .entry)) (now (weight .entry)) (now (freq .entry)) (now (block .entry)) in
+        let after = cutColumns (now (from .exit)) (now (to .exit)) (now (weight .exit)) (now (freq .exit)) (now (block .exit)) in
+        after ≡ withRow lent at (onSide side (farther .0) (edge .0)) (onSide side (edge .0) (farther .0)) w f (b .0)) ⌝ }
 {
     let a = on_side(side, farther, edge);
     let e = on_side(side, edge, farther);
@@ -158,6 +160,7 @@ fn put_gap(
     to[at] = e.0;
     weight[at] = w;
     freq[at] = f;
+    block[at] = b.0;
 }
 
 // The frequency of a block.
@@ -179,18 +182,19 @@ fn cut_space(
     to: &mut [u32],
     weight: &mut [f32],
     min_freq: &mut [f32],
+    gap_block: &mut [u32],
     n: usize,
     s: Space,
 ) -> usize
     requires { ⌜ Leads side (now links) × Alike (now freq) (now edges) (now links) × (s .block .0 < length (now links)) ⌝ }
     requires { ⌜
         (let gaps = spaceGaps side (now freq) (now edges) (now links) s in
-        let lent = cutColumns (now from) (now to) (now weight) (now «min_freq») in
+        let lent = cutColumns (now from) (now to) (now weight) (now «min_freq») (now «gap_block») in
         CutRows (n + length gaps) lent) ⌝ }
     ensures { λ r. ⌜
         (let gaps = spaceGaps side (now (freq .entry)) (now (edges .entry)) (now (links .entry)) s in
-        let lent = cutColumns (now (from .entry)) (now (to .entry)) (now (weight .entry)) (now («min_freq» .entry)) in
-        let after = cutColumns (now (from .exit)) (now (to .exit)) (now (weight .exit)) (now («min_freq» .exit)) in
+        let lent = cutColumns (now (from .entry)) (now (to .entry)) (now (weight .entry)) (now («min_freq» .entry)) (now («gap_block» .entry)) in
+        let after = cutColumns (now (from .exit)) (now (to .exit)) (now (weight .exit)) (now («min_freq» .exit)) (now («gap_block» .exit)) in
         (r ≡ n + length gaps) × (after ≡ storedGaps n gaps lent)) ⌝ }
 {
     let last = s.last;
@@ -210,7 +214,20 @@ fn cut_space(
         let place = edges[i];
         let e = Inst(place);
         let f = block_frequency(freq, b);
-        put_gap(from, to, weight, min_freq, at, side, edge, e, w, f);
+        put_gap(
+            from,
+            to,
+            weight,
+            min_freq,
+            gap_block,
+            at,
+            side,
+            edge,
+            e,
+            w,
+            f,
+            b,
+        );
         at = next_row(side, at);
         edge = e;
         w = 0.0;
@@ -222,12 +239,14 @@ fn cut_space(
         to,
         weight,
         min_freq,
+        gap_block,
         at,
         side,
         edge,
         s.end,
         w + s.far + s.main,
         far_freq,
+        b,
     );
     later(first, at) + 1
 }
@@ -247,6 +266,7 @@ fn cut_side(
     to: &mut [u32],
     out_weight: &mut [f32],
     min_freq: &mut [f32],
+    gap_block: &mut [u32],
     i: usize,
     last: usize,
     n: usize,
@@ -258,13 +278,13 @@ fn cut_side(
     requires { ⌜
         (let uses = useColumns (now inst) (now weight) (now «left_weight») (now «right_weight») in
         let gaps = sideGaps side (now freq) (now end) (now edges) (now links) uses i (last - i) in
-        let lent = cutColumns (now from) (now to) (now «out_weight») (now «min_freq») in
+        let lent = cutColumns (now from) (now to) (now «out_weight») (now «min_freq») (now «gap_block») in
         CutRows (n + length gaps) lent) ⌝ }
     ensures { λ r. ⌜
         (let uses = useColumns (now (inst .entry)) (now (weight .entry)) (now («left_weight» .entry)) (now («right_weight» .entry)) in
         let gaps = sideGaps side (now (freq .entry)) (now (end .entry)) (now (edges .entry)) (now (links .entry)) uses i (last - i) in
-        let lent = cutColumns (now (from .entry)) (now (to .entry)) (now («out_weight» .entry)) (now («min_freq» .entry)) in
-        let after = cutColumns (now (from .exit)) (now (to .exit)) (now («out_weight» .exit)) (now («min_freq» .exit)) in
+        let lent = cutColumns (now (from .entry)) (now (to .entry)) (now («out_weight» .entry)) (now («min_freq» .entry)) (now («gap_block» .entry)) in
+        let after = cutColumns (now (from .exit)) (now (to .exit)) (now («out_weight» .exit)) (now («min_freq» .exit)) (now («gap_block» .exit)) in
         (r ≡ n + length gaps) × (after ≡ storedGaps n gaps lent)) ⌝ }
 {
     let mut i = i;
@@ -283,6 +303,7 @@ fn cut_side(
             to,
             out_weight,
             min_freq,
+            gap_block,
             n,
             s,
         );
@@ -300,15 +321,16 @@ fn put_own(
     to: &mut [u32],
     weight: &mut [f32],
     min_freq: &mut [f32],
+    gap_block: &mut [u32],
     n: usize,
     u: SplitUse,
 )
     requires { ⌜
-        (let lent = cutColumns (now from) (now to) (now weight) (now «min_freq») in
+        (let lent = cutColumns (now from) (now to) (now weight) (now «min_freq») (now «gap_block») in
         Ends (now end) (length (now freq)) (u .inst .0) × CutRows (n + 1) lent) ⌝ }
     ensures { λ _. ⌜
-        (let lent = cutColumns (now (from .entry)) (now (to .entry)) (now (weight .entry)) (now («min_freq» .entry)) in
-        let after = cutColumns (now (from .exit)) (now (to .exit)) (now (weight .exit)) (now («min_freq» .exit)) in
+        (let lent = cutColumns (now (from .entry)) (now (to .entry)) (now (weight .entry)) (now («min_freq» .entry)) (now («gap_block» .entry)) in
+        let after = cutColumns (now (from .exit)) (now (to .exit)) (now (weight .exit)) (now («min_freq» .exit)) (now («gap_block» .exit)) in
         after ≡ withGap lent n (ownIn (now (freq .entry)) (now (end .entry)) u)) ⌝ }
 {
     let p = u.inst;
@@ -316,7 +338,20 @@ fn put_own(
     let f = block_frequency(freq, b);
     let w = u.weight;
     let next = Inst(p.0 + 1);
-    put_gap(from, to, weight, min_freq, n, Side::Next, p, next, w, f);
+    put_gap(
+        from,
+        to,
+        weight,
+        min_freq,
+        gap_block,
+        n,
+        Side::Next,
+        p,
+        next,
+        w,
+        f,
+        b,
+    );
 }
 
 // How many gaps there are, and which is the best use's own.
@@ -341,6 +376,7 @@ pub(crate) fn cut_gaps(
     to: &mut [u32],
     out_weight: &mut [f32],
     min_freq: &mut [f32],
+    gap_block: &mut [u32],
 ) -> GapsCut
     requires { ⌜
         (let uses = useColumns (now inst) (now weight) (now «left_weight») (now «right_weight») in
@@ -349,14 +385,14 @@ pub(crate) fn cut_gaps(
         (let blocks = blocksOf (now freq) (now first) (now end) in
         let uses = useColumns (now inst) (now weight) (now «left_weight») (now «right_weight») in
         let gaps = gapsOf blocks (usesIn uses) best in
-        let lent = cutColumns (now from) (now to) (now «out_weight») (now «min_freq») in
+        let lent = cutColumns (now from) (now to) (now «out_weight») (now «min_freq») (now «gap_block») in
         CutRows (length gaps) lent) ⌝ }
     ensures { λ r. ⌜
         (let blocks = blocksOf (now (freq .entry)) (now (first .entry)) (now (end .entry)) in
         let uses = useColumns (now (inst .entry)) (now (weight .entry)) (now («left_weight» .entry)) (now («right_weight» .entry)) in
         let gaps = gapsOf blocks (usesIn uses) best in
-        let lent = cutColumns (now (from .entry)) (now (to .entry)) (now («out_weight» .entry)) (now («min_freq» .entry)) in
-        let after = cutColumns (now (from .exit)) (now (to .exit)) (now («out_weight» .exit)) (now («min_freq» .exit)) in
+        let lent = cutColumns (now (from .entry)) (now (to .entry)) (now («out_weight» .entry)) (now («min_freq» .entry)) (now («gap_block» .entry)) in
+        let after = cutColumns (now (from .exit)) (now (to .exit)) (now («out_weight» .exit)) (now («min_freq» .exit)) (now («gap_block» .exit)) in
         (r .rows ≡ length gaps) × (after ≡ storedGaps 0 gaps lent) ×
         (r .initial ≡ initialGap blocks (usesIn uses) best)) ⌝ }
 {
@@ -377,12 +413,23 @@ pub(crate) fn cut_gaps(
         to,
         out_weight,
         min_freq,
+        gap_block,
         0,
         best,
         0,
     );
     let u = use_at(inst, weight, left_weight, right_weight, best);
-    put_own(freq, end, from, to, out_weight, min_freq, initial, u);
+    put_own(
+        freq,
+        end,
+        from,
+        to,
+        out_weight,
+        min_freq,
+        gap_block,
+        initial,
+        u,
+    );
     let rows = cut_side(
         Side::Next,
         inst,
@@ -397,6 +444,7 @@ pub(crate) fn cut_gaps(
         to,
         out_weight,
         min_freq,
+        gap_block,
         best,
         inst.len() - 1,
         initial + 1,

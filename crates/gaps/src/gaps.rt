@@ -36,6 +36,7 @@ pub fn build_gaps(
     gap_weight: &mut [f32],
     live: &mut [u32],
     min_freq: &mut [f32],
+    gap_block: &mut [u32],
     segment_from: &mut [u32],
     segment_to: &mut [u32],
     segment_value: &mut [u32],
@@ -50,7 +51,7 @@ pub fn build_gaps(
         (let uses = useColumns (now inst) (now weight) (now «left_weight») (now «right_weight») in
         let gaps = gapsOf (blocksOf (now freq) (now first) (now end)) (usesIn uses) best in
         let segments = gapSegmentsOf gaps (now start) (now «segment_end») (now value) in
-        Rows (length gaps) (gapColumns (now «gap_from») (now «gap_to») (now «gap_weight») (now live) (now «min_freq»))
+        Rows (length gaps) (gapColumns (now «gap_from») (now «gap_to») (now «gap_weight») (now live) (now «min_freq») (now «gap_block»))
         × SegmentRoom (length segments) (segmentColumns (now «segment_from») (now «segment_to») (now «segment_value») (now «segment_gap») 0))
         ⌝ }
     ensures { λ r. ⌜
@@ -59,8 +60,10 @@ pub fn build_gaps(
         let gaps = gapsOf blocks (usesIn uses) best in
         let segments = gapSegmentsOf gaps (now (start .entry)) (now («segment_end» .entry)) (now (value .entry)) in
         GapsHeld gaps (now (start .entry)) (now («segment_end» .entry))
-        (gapColumns (now («gap_from» .entry)) (now («gap_to» .entry)) (now («gap_weight» .entry)) (now (live .entry)) (now («min_freq» .entry)))
-        (gapColumns (now («gap_from» .exit)) (now («gap_to» .exit)) (now («gap_weight» .exit)) (now (live .exit)) (now («min_freq» .exit)))
+        (gapColumns (now («gap_from» .entry)) (now («gap_to» .entry))
+        (now («gap_weight» .entry)) (now (live .entry)) (now («min_freq» .entry)) (now («gap_block» .entry)))
+        (gapColumns (now («gap_from» .exit)) (now («gap_to» .exit))
+        (now («gap_weight» .exit)) (now (live .exit)) (now («min_freq» .exit)) (now («gap_block» .exit)))
         (r .gaps)
         × Filled segments
         (segmentColumns (now («segment_from» .entry)) (now («segment_to» .entry)) (now («segment_value» .entry)) (now («segment_gap» .entry)) 0)
@@ -83,6 +86,7 @@ pub fn build_gaps(
         gap_to,
         gap_weight,
         min_freq,
+        gap_block,
     );
     let n = cut.rows;
     let segments = fill_segments(

@@ -71,6 +71,7 @@ fn answer_of(block_weight: u32, before: u32) -> Answer {
     let mut gap_weight = [0f32; 5];
     let mut live = [0u32; 5];
     let mut freq = [0f32; 5];
+    let mut gap_block = [0u32; 5];
     let mut segment_from = [0u32; 6];
     let mut segment_to = [0u32; 6];
     let mut segment_value = [0u32; 6];
@@ -119,6 +120,7 @@ fn answer_of(block_weight: u32, before: u32) -> Answer {
         &mut gap_weight,
         &mut live,
         &mut freq,
+        &mut gap_block,
         &mut segment_from,
         &mut segment_to,
         &mut segment_value,

@@ -36,6 +36,7 @@ none-filled lent now f =
       weights = f .weight i;
       lives = f .live i;
       freqs = f .freq i;
+      blocks = f .block i;
       segment-froms = f .segment-from i;
       segment-tos = f .segment-to i;
       segment-values = f .segment-value i;

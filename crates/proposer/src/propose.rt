@@ -27,6 +27,7 @@ pub fn propose_split<'a>(
     gap_weight: &mut [f32],
     live: &mut [u32],
     min_freq: &mut [f32],
+    gap_block: &mut [u32],
     segment_from: &mut [u32],
     segment_to: &mut [u32],
     segment_value: &mut [u32],
@@ -37,12 +38,12 @@ pub fn propose_split<'a>(
         let lent = workColumns
         (now («prev_lower_freq» .entry)) (now («next_lower_freq» .entry))
         (now (inst .entry)) (now (weight .entry)) (now («left_weight» .entry)) (now («right_weight» .entry))
-        (now («gap_from» .entry)) (now («gap_to» .entry)) (now («gap_weight» .entry)) (now (live .entry)) (now («min_freq» .entry))
+        (now («gap_from» .entry)) (now («gap_to» .entry)) (now («gap_weight» .entry)) (now (live .entry)) (now («min_freq» .entry)) (now («gap_block» .entry))
         (now («segment_from» .entry)) (now («segment_to» .entry)) (now («segment_value» .entry)) (now («segment_gap» .entry)) in
         let after = workColumns
         (now («prev_lower_freq» .exit)) (now («next_lower_freq» .exit))
         (now (inst .exit)) (now (weight .exit)) (now («left_weight» .exit)) (now («right_weight» .exit))
-        (now («gap_from» .exit)) (now («gap_to» .exit)) (now («gap_weight» .exit)) (now (live .exit)) (now («min_freq» .exit))
+        (now («gap_from» .exit)) (now («gap_to» .exit)) (now («gap_weight» .exit)) (now (live .exit)) (now («min_freq» .exit)) (now («gap_block» .exit))
         (now («segment_from» .exit)) (now («segment_to» .exit)) (now («segment_value» .exit)) (now («segment_gap» .exit)) in
         IsProposed job lent after r)
         ⌝ }
@@ -61,6 +62,7 @@ pub fn propose_split<'a>(
         gap_weight,
         live,
         min_freq,
+        gap_block,
         segment_from,
         segment_to,
         segment_value,

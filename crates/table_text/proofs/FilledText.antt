@@ -48,6 +48,7 @@ pub record Begun (t : Tables) (now : WorkColumns) : Type 0 where
   pub weight : Begins (columnsOfTables t .weights) (now .weights)
   pub live : Begins (columnsOfTables t .lives) (now .lives)
   pub freq : Begins (columnsOfTables t .freqs) (now .freqs)
+  pub block : Begins (columnsOfTables t .blocks) (now .blocks)
   pub segment-from : Begins (columnsOfTables t .segment-froms) (now .segment-froms)
   pub segment-to : Begins (columnsOfTables t .segment-tos) (now .segment-tos)
   pub segment-value : Begins (columnsOfTables t .segment-values) (now .segment-values)
@@ -68,6 +69,7 @@ filled-begun {t} lent f =
       weight = record { rest = drop (length (columnsOfTables t .weights)) (lent .weights); is = f .weight };
       live = record { rest = drop (length (columnsOfTables t .lives)) (lent .lives); is = f .live };
       freq = record { rest = drop (length (columnsOfTables t .freqs)) (lent .freqs); is = f .freq };
+      block = record { rest = drop (length (columnsOfTables t .blocks)) (lent .blocks); is = f .block };
       segment-from = record { rest = drop (length (columnsOfTables t .segment-froms)) (lent .segment-froms); is = f .segment-from };
       segment-to = record { rest = drop (length (columnsOfTables t .segment-tos)) (lent .segment-tos); is = f .segment-to };
       segment-value = record { rest = drop (length (columnsOfTables t .segment-values)) (lent .segment-values); is = f .segment-value };
@@ -88,6 +90,7 @@ longer now more =
     (now .weights ++ more .weights)
     (now .lives ++ more .lives)
     (now .freqs ++ more .freqs)
+    (now .blocks ++ more .blocks)
     (now .segment-froms ++ more .segment-froms)
     (now .segment-tos ++ more .segment-tos)
     (now .segment-values ++ more .segment-values)
@@ -107,6 +110,7 @@ longer-begun more b =
       weight = begins-on (more .weights) (b .weight);
       live = begins-on (more .lives) (b .live);
       freq = begins-on (more .freqs) (b .freq);
+      block = begins-on (more .blocks) (b .block);
       segment-from = begins-on (more .segment-froms) (b .segment-from);
       segment-to = begins-on (more .segment-tos) (b .segment-to);
       segment-value = begins-on (more .segment-values) (b .segment-value);
@@ -148,12 +152,12 @@ module _ {t : Tables} {now : WorkColumns} (f : Begun t now) (even : Even t) wher
       ∷ bits (f .right) n (length-map (t .uses) (λ (u : SplitUse). u .«right_weight»)) k h j
       ∷ []))
 
-  gaps-same : joined (gapLine (now .froms) (now .tos) (now .weights) (now .lives) (now .freqs)) 0 (length (t .gaps))
-      ≡ joined (gapLine (c .froms) (c .tos) (c .weights) (c .lives) (c .freqs)) 0 (length (t .gaps))
+  gaps-same : joined (gapLine (now .froms) (now .tos) (now .weights) (now .lives) (now .freqs) (now .blocks)) 0 (length (t .gaps))
+      ≡ joined (gapLine (c .froms) (c .tos) (c .weights) (c .lives) (c .freqs) (c .blocks)) 0 (length (t .gaps))
   gaps-same =
       let n = length (t .gaps) in
-      joined-same (gapLine (now .froms) (now .tos) (now .weights) (now .lives) (now .freqs))
-      (gapLine (c .froms) (c .tos) (c .weights) (c .lives) (c .freqs)) 0 n
+      joined-same (gapLine (now .froms) (now .tos) (now .weights) (now .lives) (now .freqs) (now .blocks))
+      (gapLine (c .froms) (c .tos) (c .weights) (c .lives) (c .freqs) (c .blocks)) 0 n
       (λ k b. let h : k < n = omega arith in
       λ j. lineText 103
       (number (f .from) n (length-map (t .gaps) (λ (g : Gap). g .from)) k h j
@@ -161,6 +165,7 @@ module _ {t : Tables} {now : WorkColumns} (f : Begun t now) (even : Even t) wher
       ∷ bits (f .weight) n (length-map (t .gaps) gapWeight) k h j
       ∷ number (f .live) n (even .lives) k h j
       ∷ bits (f .freq) n (length-map (t .gaps) (λ (g : Gap). g .freq)) k h j
+      ∷ number (f .block) n (length-map (t .gaps) (λ (g : Gap). g .block)) k h j
       ∷ []))
 
   segments-same : joined (gapSegmentLine (now .segment-froms) (now .segment-tos) (now .segment-values) (now .segment-gaps)) 0 (length (t .segments))

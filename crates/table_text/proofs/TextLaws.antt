@@ -68,9 +68,9 @@ link-wide prevs nexts i = line-length 108 _
 pub use-wide : (insts : List ℕ) (mains lefts rights : List Float) (i : ℕ) → length (useLine insts mains lefts rights i) ≡ 46
 use-wide insts mains lefts rights i = line-length 117 _
 
-pub gap-wide : (froms tos : List ℕ) (weights : List Float) (lives : List ℕ) (freqs : List Float) (i : ℕ)
-    → length (gapLine froms tos weights lives freqs i) ≡ 57
-gap-wide froms tos weights lives freqs i = line-length 103 _
+pub gap-wide : (froms tos : List ℕ) (weights : List Float) (lives : List ℕ) (freqs : List Float) (blocks : List ℕ) (i : ℕ)
+    → length (gapLine froms tos weights lives freqs blocks i) ≡ 68
+gap-wide froms tos weights lives freqs blocks i = line-length 103 _
 
 pub gap-segment-wide : (froms tos values gaps : List ℕ) (i : ℕ) → length (gapSegmentLine froms tos values gaps i) ≡ 46
 gap-segment-wide froms tos values gaps i = line-length 111 _
@@ -84,7 +84,7 @@ module _ (c : WorkColumns) (rows : Rooms) where
   usesPart = joined (useLine (c .insts) (c .mains) (c .lefts) (c .rights)) 0 (rows .uses)
 
   abbrev gapsPart : List ℕ
-  gapsPart = joined (gapLine (c .froms) (c .tos) (c .weights) (c .lives) (c .freqs)) 0 (rows .gaps)
+  gapsPart = joined (gapLine (c .froms) (c .tos) (c .weights) (c .lives) (c .freqs) (c .blocks)) 0 (rows .gaps)
 
   abbrev segmentsPart : List ℕ
   segmentsPart = joined (gapSegmentLine (c .segment-froms) (c .segment-tos) (c .segment-values) (c .segment-gaps)) 0 (rows .«gap_segments»)
@@ -95,8 +95,8 @@ module _ (c : WorkColumns) (rows : Rooms) where
   uses-bytes : length usesPart ≡ 46 * rows .uses
   uses-bytes = rows-length _ 46 (use-wide (c .insts) (c .mains) (c .lefts) (c .rights)) 0 (rows .uses)
 
-  gaps-bytes : length gapsPart ≡ 57 * rows .gaps
-  gaps-bytes = rows-length _ 57 (gap-wide (c .froms) (c .tos) (c .weights) (c .lives) (c .freqs)) 0 (rows .gaps)
+  gaps-bytes : length gapsPart ≡ 68 * rows .gaps
+  gaps-bytes = rows-length _ 68 (gap-wide (c .froms) (c .tos) (c .weights) (c .lives) (c .freqs) (c .blocks)) 0 (rows .gaps)
 
   segments-bytes : length segmentsPart ≡ 46 * rows .«gap_segments»
   segments-bytes =
@@ -112,14 +112,14 @@ module _ (c : WorkColumns) (rows : Rooms) where
 
   -- four tables, written one behind the other
   pub text-put : (out a b d e : List ℕ) (uses-at gaps-at segments-at end : ℕ)
-      → uses-at ≡ 24 * rows .links → gaps-at ≡ uses-at + 46 * rows .uses → segments-at ≡ gaps-at + 57 * rows .gaps
+      → uses-at ≡ 24 * rows .links → gaps-at ≡ uses-at + 46 * rows .uses → segments-at ≡ gaps-at + 68 * rows .gaps
       → end ≡ segments-at + 46 * rows .«gap_segments» → bytesOfRows rows ≤ length out
       → a ≡ sets out 0 linksPart → b ≡ sets a uses-at usesPart → d ≡ sets b gaps-at gapsPart → e ≡ sets d segments-at segmentsPart
       → Wrote (columnsText c rows) out e (Bytes end)
   text-put out a b d e uses-at gaps-at segments-at end p q r s fits f g h k =
       let p₁ = put-more out out a 0 [] linksPart 0 (24 * rows .links) 0 (put-none out 0) refl links-bytes f in
       let p₂ = put-more out a b 0 _ usesPart _ (46 * rows .uses) uses-at p₁ (omega arith) uses-bytes g in
-      let p₃ = put-more out b d 0 _ gapsPart _ (57 * rows .gaps) gaps-at p₂ (omega arith) gaps-bytes h in
+      let p₃ = put-more out b d 0 _ gapsPart _ (68 * rows .gaps) gaps-at p₂ (omega arith) gaps-bytes h in
       let p₄ = put-more out d e 0 _ segmentsPart _ (46 * rows .«gap_segments») segments-at p₃ (omega arith) segments-bytes k in
       let whole : (((([] ++ linksPart) ++ usesPart) ++ gapsPart) ++ segmentsPart) ≡ columnsText c rows = simp append-assoc in
       let size : length (columnsText c rows) ≡ end = text-bytes ∙ omega arith in

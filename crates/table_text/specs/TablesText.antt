@@ -8,8 +8,8 @@ use Rattle.sheet.specs.Sheet.{lineText}
 use Rattle.numbers.specs.Weight.{zeroWeight}
 use Rattle.use_rows.specs.declared.row.SplitUse.{SplitUse}
 use Rattle.overlaps.specs.GapSegments.{Overlap}
-use Rattle.gaps.specs.Gaps.{Gap, gapWeight}
-use Rattle.gaps.specs.GapColumns.{fromsOf, tosOf}
+use Rattle.gaps.specs.Gaps.{gapWeight}
+use Rattle.gaps.specs.GapColumns.{fromsOf, tosOf, minFreqsOf, gapBlocksOf}
 use Rattle.filling.specs.SourceTables.{Tables, WorkColumns}
 use Rattle.filling.specs.declared.lent.Rooms.{Rooms}
 
@@ -29,10 +29,10 @@ linkLine prevs nexts i = lineText 108 (numberIn prevs i ∷ numberIn nexts i ∷
 abbrev pub useLine : List ℕ → List Float → List Float → List Float → ℕ → List ℕ
 useLine insts mains lefts rights i = lineText 117 (numberIn insts i ∷ bitsIn mains i ∷ bitsIn lefts i ∷ bitsIn rights i ∷ [])
 
--- g, gap i: from, to, weight bits, live instructions, frequency bits
-abbrev pub gapLine : List ℕ → List ℕ → List Float → List ℕ → List Float → ℕ → List ℕ
-gapLine froms tos weights lives freqs i =
-    lineText 103 (numberIn froms i ∷ numberIn tos i ∷ bitsIn weights i ∷ numberIn lives i ∷ bitsIn freqs i ∷ [])
+-- g, gap i: from, to, weight bits, live instructions, frequency bits, the block that carries it
+abbrev pub gapLine : List ℕ → List ℕ → List Float → List ℕ → List Float → List ℕ → ℕ → List ℕ
+gapLine froms tos weights lives freqs blocks i =
+    lineText 103 (numberIn froms i ∷ numberIn tos i ∷ bitsIn weights i ∷ numberIn lives i ∷ bitsIn freqs i ∷ numberIn blocks i ∷ [])
 
 -- o, gap segment i: from, to, value, gap
 abbrev pub gapSegmentLine : List ℕ → List ℕ → List ℕ → List ℕ → ℕ → List ℕ
@@ -43,7 +43,7 @@ abbrev pub columnsText : WorkColumns → Rooms → List ℕ
 columnsText c rows =
     joined (linkLine (c .prevs) (c .nexts)) 0 (rows .links)
     ++ joined (useLine (c .insts) (c .mains) (c .lefts) (c .rights)) 0 (rows .uses)
-    ++ joined (gapLine (c .froms) (c .tos) (c .weights) (c .lives) (c .freqs)) 0 (rows .gaps)
+    ++ joined (gapLine (c .froms) (c .tos) (c .weights) (c .lives) (c .freqs) (c .blocks)) 0 (rows .gaps)
     ++ joined (gapSegmentLine (c .segment-froms) (c .segment-tos) (c .segment-values) (c .segment-gaps)) 0 (rows .«gap_segments»)
 
 -- the columns of tables, and how many rows they have
@@ -60,7 +60,8 @@ columnsOfTables t =
       tos = tosOf (t .gaps);
       weights = map gapWeight (t .gaps);
       lives = t .lives;
-      freqs = map (λ (g : Gap). g .freq) (t .gaps);
+      freqs = minFreqsOf (t .gaps);
+      blocks = gapBlocksOf (t .gaps);
       segment-froms = map (λ (s : Overlap). s .from) (t .segments);
       segment-tos = map (λ (s : Overlap). s .to) (t .segments);
       segment-values = map (λ (s : Overlap). s .value) (t .segments);
@@ -76,4 +77,4 @@ tablesText t = columnsText (columnsOfTables t) (rowsOfTables t)
 
 -- how many bytes so many rows take: 2 for a line, and 11 for each field
 abbrev pub bytesOfRows : Rooms → ℕ
-bytesOfRows rows = 24 * rows .links + 46 * rows .uses + 57 * rows .gaps + 46 * rows .«gap_segments»
+bytesOfRows rows = 24 * rows .links + 46 * rows .uses + 68 * rows .gaps + 46 * rows .«gap_segments»

@@ -19,7 +19,7 @@ pub const LINK_LINE: usize = 2 + 11 * 2;
 
 pub const USE_LINE: usize = 2 + 11 * 4;
 
-pub const GAP_LINE: usize = 2 + 11 * 5;
+pub const GAP_LINE: usize = 2 + 11 * 6;
 
 pub const GAP_SEGMENT_LINE: usize = 2 + 11 * 4;
 
@@ -92,11 +92,12 @@ fn put_gap(
     weight: &[f32],
     live: &[u32],
     freq: &[f32],
+    block: &[u32],
     i: usize,
 )
-    requires { ⌜ at + 57 ≤ length (now out) ⌝ }
+    requires { ⌜ at + 68 ≤ length (now out) ⌝ }
     ensures { λ _. ⌜ now (out .exit) ≡ sets (now (out .entry)) at
-        (gapLine (now (from .entry)) (now (to .entry)) (now (weight .entry)) (now (live .entry)) (now (freq .entry)) i) ⌝ }
+        (gapLine (now (from .entry)) (now (to .entry)) (now (weight .entry)) (now (live .entry)) (now (freq .entry)) (now (block .entry)) i) ⌝ }
 {
     let row = [
         number_at(from, i),
@@ -104,6 +105,7 @@ fn put_gap(
         bits_at(weight, i),
         number_at(live, i),
         bits_at(freq, i),
+        number_at(block, i),
     ];
     put_line(out, at, b'g', &row);
 }
@@ -171,15 +173,26 @@ fn put_gaps(
     weight: &[f32],
     live: &[u32],
     freq: &[f32],
+    block: &[u32],
     rows: usize,
 )
-    requires { ⌜ at + 57 * rows ≤ length (now out) ⌝ }
+    requires { ⌜ at + 68 * rows ≤ length (now out) ⌝ }
     ensures { λ _. ⌜ now (out .exit) ≡ sets (now (out .entry)) at
-        (joined (gapLine (now (from .entry)) (now (to .entry)) (now (weight .entry)) (now (live .entry)) (now (freq .entry))) 0 rows) ⌝ }
+        (joined (gapLine (now (from .entry)) (now (to .entry)) (now (weight .entry)) (now (live .entry)) (now (freq .entry)) (now (block .entry))) 0 rows) ⌝ }
 {
     let mut i: usize = 0;
     while i < rows {
-        put_gap(out, at + GAP_LINE * i, from, to, weight, live, freq, i);
+        put_gap(
+            out,
+            at + GAP_LINE * i,
+            from,
+            to,
+            weight,
+            live,
+            freq,
+            block,
+            i,
+        );
         i += 1;
     }
 }
@@ -248,6 +261,7 @@ pub fn write_tables(
     gap_weight: &[f32],
     live: &[u32],
     freq: &[f32],
+    gap_block: &[u32],
     segment_from: &[u32],
     segment_to: &[u32],
     segment_value: &[u32],
@@ -259,7 +273,7 @@ pub fn write_tables(
         (let lent = workColumns
         (now (prev .entry)) (now (next .entry))
         (now (inst .entry)) (now (weight .entry)) (now (left .entry)) (now (right .entry))
-        (now («gap_from» .entry)) (now («gap_to» .entry)) (now («gap_weight» .entry)) (now (live .entry)) (now (freq .entry))
+        (now («gap_from» .entry)) (now («gap_to» .entry)) (now («gap_weight» .entry)) (now (live .entry)) (now (freq .entry)) (now («gap_block» .entry))
         (now («segment_from» .entry)) (now («segment_to» .entry)) (now («segment_value» .entry)) (now («segment_gap» .entry)) in
         Wrote (columnsText lent rows) (now (out .entry)) (now (out .exit)) r) ⌝ }
 {
@@ -280,6 +294,7 @@ pub fn write_tables(
         gap_weight,
         live,
         freq,
+        gap_block,
         rows.gaps,
     );
     put_gap_segments(

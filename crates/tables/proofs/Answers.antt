@@ -49,8 +49,8 @@ refused-filled job lent x e =
             to = refl;
             weight = refl;
             live = refl;
-            freq =
-                refl;
+            freq = refl;
+            block = refl;
             segment-from = refl;
             segment-to = refl;
             segment-value = refl;

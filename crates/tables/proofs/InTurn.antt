@@ -23,11 +23,11 @@ gaps-held : (source : Source) (c : Checked) (b : BestUse) (lent now : WorkColumn
     FilledBy t lent now → GapsHeld (t .gaps) (startsOf source) (stopsOf source) (gapTable lent) (gapTable now) (length (t .gaps))
 unfolding table
 gaps-held source Checked·is.Sound (BestUse·is.At best) lent now f =
-    record { count = refl; from = f .from; to = f .to; weight = f .weight; live = f .live; freq = f .freq }
+    record { count = refl; from = f .from; to = f .to; weight = f .weight; live = f .live; freq = f .freq; block = f .block }
 gaps-held source Checked·is.Sound BestUse·is.Nothing lent now f =
-    record { count = refl; from = f .from; to = f .to; weight = f .weight; live = f .live; freq = f .freq }
+    record { count = refl; from = f .from; to = f .to; weight = f .weight; live = f .live; freq = f .freq; block = f .block }
 gaps-held source (Checked·is.Refused r) b lent now f =
-    record { count = refl; from = f .from; to = f .to; weight = f .weight; live = f .live; freq = f .freq }
+    record { count = refl; from = f .from; to = f .to; weight = f .weight; live = f .live; freq = f .freq; block = f .block }
 
 -- gaps first, then counts
 pub gaps-in-turn : (job : Job) (rooms : Rooms) (lent now : WorkColumns) → FilledBy (tablesOf job rooms) lent now →

@@ -11,7 +11,7 @@ use Rattle.columns.proofs.Fillings.{filled-cut, filled-long}
 use Rattle.use_rows.specs.declared.row.BestUse.the-variants as BestUse·is
 use Rattle.overlaps.specs.GapSegments.{Overlap, SegmentColumns, segmentColumns}
 use Rattle.gaps.specs.Gaps.{Gap, gapWeight}
-use Rattle.gaps.specs.GapColumns.{fromsOf}
+use Rattle.gaps.specs.GapColumns.{fromsOf, minFreqsOf}
 use Rattle.filling.specs.SourceTables.{tablesOfBest, WorkColumns, roomsOf, Roomy, FilledBy}
 use Rattle.filling.proofs.SourceTables.{source-gap-room}
 use Rattle.growth.specs.Growth.{GapsSeen}
@@ -55,8 +55,8 @@ module _ (job : Job) (accepted : Accepted job) (best : ℕ) (h : best < length (
   lives-are : take n (now .lives) ≡ livesOfJob job best
   lives-are = filled-cut (livesOfJob job best) (lent .lives) (f .live) lives-count
 
-  freqs-are : take n (now .freqs) ≡ map (λ (g : Gap). g .freq) gaps
-  freqs-are = filled-cut (map (λ (g : Gap). g .freq) gaps) (lent .freqs) (f .freq) (gap-count (λ g. g .freq))
+  freqs-are : take n (now .freqs) ≡ minFreqsOf gaps
+  freqs-are = filled-cut (minFreqsOf gaps) (lent .freqs) (f .freq) (gap-count (λ g. g .freq))
 
   abbrev cutSegments : SegmentColumns
   cutSegments =
@@ -109,7 +109,7 @@ module _ (job : Job) (accepted : Accepted job) (best : ℕ) (h : best < length (
         weight = rows-of n (map gapWeight gaps) (lent .weights) (f .weight) (gap-count gapWeight) (le-trans (le-of-eq (length-map gaps gapWeight)) (g .weight));
         live = rows-of n (livesOfJob job best) (lent .lives) (f .live) lives-count (le-trans (le-of-eq (sym lives-count ∙ n-is)) (g .live));
         freq =
-            rows-of n (map (λ (g : Gap). g .freq) gaps) (lent .freqs) (f .freq) (gap-count (λ g. g .freq))
+            rows-of n (minFreqsOf gaps) (lent .freqs) (f .freq) (gap-count (λ g. g .freq))
             (le-trans (le-of-eq (length-map gaps (λ (g : Gap). g .freq))) (g .freq));
         segment-from =
             rows-of m (map (λ (s : Overlap). s .from) segments) (lent .segment-froms) (f .segment-from) (segment-count (λ s. s .from))

@@ -34,7 +34,7 @@ use Rattle.walks.proofs.Sets.{where-one, fixed-one, weight-one, all-weights}
 use Rattle.gaps.specs.Gaps.{Gap, gapWeight, useOf, gapsOn, gapsOf, ownGap, initialGap}
 use Rattle.gaps.proofs.GapWeights.{Weighed, Weighty, gaps-weighed}
 use Rattle.links.specs.declared.lower.Side.the-variants.{Previous, Next}
-use Rattle.gaps.specs.GapColumns.{fromsOf, tosOf}
+use Rattle.gaps.specs.GapColumns.{fromsOf, tosOf, minFreqsOf}
 use Rattle.growth.specs.Growth.{between}
 use Rattle.growth.specs.Demand.{sumOver, SoundGaps}
 use Rattle.walks.specs.Gaps.{Walkable}
@@ -270,7 +270,7 @@ module _ (job : Job) (accepted : Accepted job) where
         small : (a k : ℕ) → a ≤ 262144 → k ≤ 65536 → a + k < 2 ^ 24
         small a k p q = lt-of-le-of-lt (both a k p q) (lit≤ tt)
 
-    pub job-in-table : InTable (seenOfJob job best) (map gapWeight (gapsOfJob job best)) (livesOfJob job best) (map (λ (g : Gap). g .freq) (gapsOfJob job best))
+    pub job-in-table : InTable (seenOfJob job best) (map gapWeight (gapsOfJob job best)) (livesOfJob job best) (minFreqsOf (gapsOfJob job best))
     job-in-table =
         record {
           sound = job-sound;

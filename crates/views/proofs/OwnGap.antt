@@ -23,7 +23,7 @@ use Rattle.views.proofs.JobView.{job-tiles, job-sound, segment-in-gap}
 
 module _ (job : Job) (best : ℕ) where
   abbrev none : Gap
-  none = record { from = 0; to = 0; weights = nan ∷ []; freq = nan }
+  none = record { from = 0; to = 0; weights = nan ∷ []; freq = nan; block = 0 }
 
   -- among the job's gaps it is the best use's, of one instruction
   own-from : getD (fromsOf (gapsOfJob job best)) (ownOfJob job best) 0 ≡ bestRow job best .inst .0

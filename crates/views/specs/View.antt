@@ -3,8 +3,8 @@ use Prim.Native.Nat.{ℕ}
 use mathlib.Core.List.{List, map}
 use lib.ListN.{length}
 use Rattle.overlaps.specs.GapSegments.{Overlap, SegmentColumns, segmentColumns}
-use Rattle.gaps.specs.Gaps.{Gap, gapWeight}
-use Rattle.gaps.specs.GapColumns.{fromsOf}
+use Rattle.gaps.specs.Gaps.{gapWeight}
+use Rattle.gaps.specs.GapColumns.{fromsOf, minFreqsOf}
 use Rattle.growth.specs.Growth.{GapsSeen}
 use Rattle.region.specs.Find.{seenBy}
 use Rattle.refusals.specs.Job.{Job, reservedOfJob, registerOf}
@@ -21,5 +21,5 @@ inColumns rows =
 abbrev pub seenOfJob : Job → ℕ → GapsSeen
 seenOfJob job best =
     seenBy (registerOf job) (reservedOfJob job) (inColumns (segmentsOfJob job best))
-    (fromsOf (gapsOfJob job best)) (map gapWeight (gapsOfJob job best)) (livesOfJob job best) (map (λ (g : Gap). g .freq) (gapsOfJob job best))
+    (fromsOf (gapsOfJob job best)) (map gapWeight (gapsOfJob job best)) (livesOfJob job best) (minFreqsOf (gapsOfJob job best))
     (ownOfJob job best) (job .k)

@@ -101,10 +101,10 @@ job-columns-are = refl
 abbrev weights : ℕ → List Float
 weights n = ofBits binary32 n ∷ []
 
--- 15 work columns of one row each, numbered in their order
+-- 16 work columns of one row each, numbered in their order
 pub work-columns-are :
     workColumns (only 1) (only 2) (only 3) (weights 4) (weights 5) (weights 6) (only 7) (only 8) (weights 9) (only 10) (weights 11)
-    (only 12) (only 13) (only 14) (only 15)
+    (only 12) (only 13) (only 14) (only 15) (only 16)
     ≡ record {
       prevs = only 1;
       nexts = only 2;
@@ -117,9 +117,10 @@ pub work-columns-are :
       weights = weights 9;
       lives = only 10;
       freqs = weights 11;
-      segment-froms = only 12;
-      segment-tos = only 13;
-      segment-values = only 14;
-      segment-gaps = only 15;
+      blocks = only 12;
+      segment-froms = only 13;
+      segment-tos = only 14;
+      segment-values = only 15;
+      segment-gaps = only 16;
     }
 work-columns-are = refl

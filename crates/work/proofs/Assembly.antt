@@ -74,7 +74,7 @@ module _ (c : SourceColumns) (scales : RematScales) (lent : WorkColumns) (w : So
     -- no best use
     pub none-filled : best ≡ BestUse·is.Nothing
         → IsFilledFrom (sourceIn c scales) lent (workColumns prevs nexts (cols .insts) (cols .mains) (cols .lefts) (cols .rights) (lent .froms) (lent .tos)
-        (lent .weights) (lent .lives) (lent .freqs) (lent .segment-froms) (lent .segment-tos) (lent .segment-values) (lent .segment-gaps))
+        (lent .weights) (lent .lives) (lent .freqs) (lent .blocks) (lent .segment-froms) (lent .segment-tos) (lent .segment-values) (lent .segment-gaps))
         (FilledTables·is.NoBestUse rows)
     none-filled n =
         let u = done .uses .cols in
@@ -83,7 +83,7 @@ module _ (c : SourceColumns) (scales : RematScales) (lent : WorkColumns) (w : So
           answer = ap FilledTables·is.NoBestUse (done .uses .count) ∙ ap (filledOfBest source) b;
           tables =
               subst (λ (t : Tables). FilledBy t lent (workColumns prevs nexts (cols .insts) (cols .mains) (cols .lefts) (cols .rights) (lent .froms) (lent .tos)
-              (lent .weights) (lent .lives) (lent .freqs) (lent .segment-froms) (lent .segment-tos) (lent .segment-values) (lent .segment-gaps)))
+              (lent .weights) (lent .lives) (lent .freqs) (lent .blocks) (lent .segment-froms) (lent .segment-tos) (lent .segment-values) (lent .segment-gaps)))
               (ap (tablesOfBest source) b)
               (record {
                 prev = links-filled Previous (lent .prevs) (done .prev);
@@ -97,6 +97,7 @@ module _ (c : SourceColumns) (scales : RematScales) (lent : WorkColumns) (w : So
                 weight = refl;
                 live = refl;
                 freq = refl;
+                block = refl;
                 segment-from = refl;
                 segment-to = refl;
                 segment-value = refl;
@@ -244,7 +245,7 @@ module _ (c : SourceColumns) (scales : RematScales) (lent : WorkColumns) (w : So
             × (initial ≡ initialGap (blocksIn c)
             (usesIn (useColumns (take rows (cols .insts)) (take rows (cols .mains)) (take rows (cols .lefts)) (take rows (cols .rights)))) b)
             → IsFilledFrom (sourceIn c scales) lent (workColumns prevs nexts (cols .insts) (cols .mains) (cols .lefts) (cols .rights) (now .froms) (now .tos)
-            (now .weights) (now .lives) (now .freqs) (now-segments .from) (now-segments .to) (now-segments .value) (now-segments .gap))
+            (now .weights) (now .lives) (now .freqs) (now .blocks) (now-segments .from) (now-segments .to) (now-segments .value) (now-segments .gap))
             (FilledTables·is.Ready (record { uses = rows; gaps = n; «gap_segments» = now-segments .used; own = initial }))
         all-filled now now-segments n initial raw =
             let u = done .uses .cols in
@@ -262,7 +263,8 @@ module _ (c : SourceColumns) (scales : RematScales) (lent : WorkColumns) (w : So
                   ∙ ap (filledOfBest source) k;
               tables =
                   subst (λ (t : Tables). FilledBy t lent (workColumns prevs nexts (cols .insts) (cols .mains) (cols .lefts) (cols .rights) (now .froms)
-                  (now .tos) (now .weights) (now .lives) (now .freqs) (now-segments .from) (now-segments .to) (now-segments .value) (now-segments .gap)))
+                  (now .tos) (now .weights) (now .lives) (now .freqs) (now .blocks)
+                  (now-segments .from) (now-segments .to) (now-segments .value) (now-segments .gap)))
                   (ap (tablesOfBest source) k)
                   (record {
                     prev = links-filled Previous (lent .prevs) (done .prev);
@@ -276,6 +278,7 @@ module _ (c : SourceColumns) (scales : RematScales) (lent : WorkColumns) (w : So
                     weight = d .weight;
                     live = d .live;
                     freq = d .freq;
+                    block = d .block;
                     segment-from = f .from;
                     segment-to = f .to;
                     segment-value = f .value;

@@ -30,6 +30,22 @@ pub enum FilledTables {
 
 // Fills the tables of a job that has passed the checks.
 pub fn fill_checked(
+    prev_lower_freq: &mut [u32],
+    next_lower_freq: &mut [u32],
+    inst: &mut [u32],
+    weight: &mut [f32],
+    left_weight: &mut [f32],
+    right_weight: &mut [f32],
+    gap_from: &mut [u32],
+    gap_to: &mut [u32],
+    gap_weight: &mut [f32],
+    live: &mut [u32],
+    min_freq: &mut [f32],
+    gap_block: &mut [u32],
+    segment_from: &mut [u32],
+    segment_to: &mut [u32],
+    segment_value: &mut [u32],
+    segment_gap: &mut [u32],
     freq: &[u32],
     first: &[u32],
     end: &[u32],
@@ -44,21 +60,6 @@ pub fn fill_checked(
     u_kind: &[u32],
     cost: &[u32],
     scales: RematScales,
-    prev_lower_freq: &mut [u32],
-    next_lower_freq: &mut [u32],
-    inst: &mut [u32],
-    weight: &mut [f32],
-    left_weight: &mut [f32],
-    right_weight: &mut [f32],
-    gap_from: &mut [u32],
-    gap_to: &mut [u32],
-    gap_weight: &mut [f32],
-    live: &mut [u32],
-    min_freq: &mut [f32],
-    segment_from: &mut [u32],
-    segment_to: &mut [u32],
-    segment_value: &mut [u32],
-    segment_gap: &mut [u32],
 ) -> FilledTables
     requires { ⌜
         (let source = sourceIn (sourceColumns
@@ -69,7 +70,7 @@ pub fn fill_checked(
         let lent = workColumns
         (now «prev_lower_freq») (now «next_lower_freq»)
         (now inst) (now weight) (now «left_weight») (now «right_weight»)
-        (now «gap_from») (now «gap_to») (now «gap_weight») (now live) (now «min_freq»)
+        (now «gap_from») (now «gap_to») (now «gap_weight») (now live) (now «min_freq») (now «gap_block»)
         (now «segment_from») (now «segment_to») (now «segment_value») (now «segment_gap») in
         SoundColumns (now freq) (now first) (now end) × CheckedUses source × FromBits scales
         × Roomy (length (source .uses)) (length (source .blocks)) (length (source .segments)) (roomsOf lent))
@@ -84,12 +85,12 @@ pub fn fill_checked(
         let lent = workColumns
         (now («prev_lower_freq» .entry)) (now («next_lower_freq» .entry))
         (now (inst .entry)) (now (weight .entry)) (now («left_weight» .entry)) (now («right_weight» .entry))
-        (now («gap_from» .entry)) (now («gap_to» .entry)) (now («gap_weight» .entry)) (now (live .entry)) (now («min_freq» .entry))
+        (now («gap_from» .entry)) (now («gap_to» .entry)) (now («gap_weight» .entry)) (now (live .entry)) (now («min_freq» .entry)) (now («gap_block» .entry))
         (now («segment_from» .entry)) (now («segment_to» .entry)) (now («segment_value» .entry)) (now («segment_gap» .entry)) in
         let after = workColumns
         (now («prev_lower_freq» .exit)) (now («next_lower_freq» .exit))
         (now (inst .exit)) (now (weight .exit)) (now («left_weight» .exit)) (now («right_weight» .exit))
-        (now («gap_from» .exit)) (now («gap_to» .exit)) (now («gap_weight» .exit)) (now (live .exit)) (now («min_freq» .exit))
+        (now («gap_from» .exit)) (now («gap_to» .exit)) (now («gap_weight» .exit)) (now (live .exit)) (now («min_freq» .exit)) (now («gap_block» .exit))
         (now («segment_from» .exit)) (now («segment_to» .exit)) (now («segment_value» .exit)) (now («segment_gap» .exit)) in
         IsFilledFrom source lent after r)
         ⌝ }
@@ -143,6 +144,7 @@ pub fn fill_checked(
         gap_weight,
         live,
         min_freq,
+        gap_block,
         segment_from,
         segment_to,
         segment_value,

@@ -9,7 +9,8 @@ use std::io::{Read, Write};
 use std::process::ExitCode;
 
 use gen_jobs::Options;
-use sheet::{Limits, read_sheet, write_answer, write_sheet, write_tables};
+use sheet::{Job, Limits, read_sheet, write_answer, write_sheet, write_tables};
+use supplied::Ran;
 
 const USAGE: &str = "\
 usage: oracle/run COMMAND
@@ -103,11 +104,20 @@ pub fn answer_text(text: &[u8], wanted: Wanted) -> String {
     if let Some((number, place)) = refused {
         return write_answer(&sheet::Answer::Refused(number, place));
     }
-    match supplied::run_job(&job.unwrap()) {
+    let job = job.unwrap();
+    let ran = if wanted == Wanted::Unchecked { supplied::run_job(&job) } else { rust(&job) };
+    match ran {
         Ok(ran) if wanted == Wanted::Answer => write_answer(&ran.answer),
         Ok(ran) => write_answer(&ran.answer) + &write_tables(&ran.tables),
         Err(said) => format!("! {said}\n"),
     }
+}
+
+/// What the Rust answers an accepted job. Its gaps name the blocks of the second reading.
+pub fn rust(job: &Job) -> Result<Ran, String> {
+    let mut ran = supplied::run_job(job)?;
+    assert!(model::name_blocks(job, &mut ran.tables), "a gap's block does not carry its frequency");
+    Ok(ran)
 }
 
 fn generate(options: Options) -> ExitCode {

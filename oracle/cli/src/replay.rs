@@ -9,6 +9,7 @@ use sheet::{number_at, read_sheet, read_sheet_with, write_answer, write_tables};
 
 use crate::cases::recorded;
 use crate::record::{figures_noticed, lengthened};
+use crate::rust;
 
 /// A recorded sheet with its answer and tables as text.
 struct Record {
@@ -150,7 +151,7 @@ fn read_text(record: &Record, slip: Option<Slip>, check: Option<CheckSlip>) -> (
 }
 
 fn rust_text(job: &Job) -> (String, String) {
-    match supplied::run_job(job) {
+    match rust(job) {
         Ok(ran) => (write_answer(&ran.answer), write_tables(&ran.tables)),
         Err(said) => (said, String::new()),
     }

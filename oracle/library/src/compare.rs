@@ -41,7 +41,10 @@ impl Comparison {
         }
         match supplied::run_job(job) {
             Err(said) => self.fired(item, said),
-            Ok(ran) => {
+            Ok(mut ran) => {
+                if !model::name_blocks(job, &mut ran.tables) {
+                    self.differ(item, "the block that the second reading names has another frequency".to_string());
+                }
                 self.summary.add(job, &ran);
                 self.columns.put(job);
                 if let Err(difference) = self.beside(item, job, &ran) {
@@ -179,7 +182,7 @@ fn scratch_tables(scratch: &Scratch) -> Tables {
     };
     let gap = |i: usize| {
         let [weight, freq] = [g.weight[i], g.min_freq[i]].map(f32::to_bits);
-        Gap { from: g.from[i], to: g.to[i], weight, live_insts: g.live[i], freq }
+        Gap { from: g.from[i], to: g.to[i], weight, live_insts: g.live[i], freq, block: g.block[i] }
     };
     let gap_segment = |i: usize| GapSegment { from: o.from[i], to: o.to[i], value: o.value[i], gap: o.gap[i] };
     Tables {

@@ -18,7 +18,7 @@ const PATTERN: u32 = 0xdead_beef;
 pub struct Lent {
     inst: Vec<u32>,
     weights: [Vec<f32>; 3],
-    gaps: [Vec<u32>; 3],
+    gaps: [Vec<u32>; 4],
     gap_weights: [Vec<f32>; 2],
     segments: [Vec<u32>; 4],
     links: [Vec<u32>; 2],
@@ -55,7 +55,7 @@ impl Lent {
     pub fn lend_links(&mut self, links: usize) -> WorkTables<'_> {
         let [prev_lower_freq, next_lower_freq] = self.links.each_mut().map(|column| &mut column[..links]);
         let [weight, left_weight, right_weight] = &mut self.weights;
-        let [gap_from, gap_to, live] = &mut self.gaps;
+        let [gap_from, gap_to, live, gap_block] = &mut self.gaps;
         let [gap_weight, min_freq] = &mut self.gap_weights;
         let [segment_from, segment_to, segment_value, segment_gap] = &mut self.segments;
         WorkTables {
@@ -70,6 +70,7 @@ impl Lent {
             gap_weight,
             live,
             min_freq,
+            gap_block,
             segment_from,
             segment_to,
             segment_value,
@@ -92,9 +93,9 @@ impl Lent {
             .or_else(|| {
                 let row = |i: usize| {
                     let [weight, freq] = [0, 1].map(|c: usize| self.gap_weights[c][i].to_bits());
-                    [self.gaps[0][i], self.gaps[1][i], weight, self.gaps[2][i], freq]
+                    [self.gaps[0][i], self.gaps[1][i], weight, self.gaps[2][i], freq, self.gaps[3][i]]
                 };
-                let told_row = |g: &Gap| [g.from, g.to, g.weight, g.live_insts, g.freq];
+                let told_row = |g: &Gap| [g.from, g.to, g.weight, g.live_insts, g.freq, g.block];
                 first_of("gaps", self.gaps[0].len(), &told.gaps, row, told_row, by)
             })
             .or_else(|| {

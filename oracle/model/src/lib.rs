@@ -58,6 +58,16 @@ impl<'a> Reading<'a> {
     }
 }
 
+/// Puts the blocks of the second reading into tables without them, the Rust's. Answers whether each carries the frequency there.
+pub fn name_blocks(job: &Job, tables: &mut Tables) -> bool {
+    let reading = Reading::of(job);
+    let uses = reading.use_table();
+    if let Some(best) = reading.best_use(&uses) {
+        reading.name_blocks(&mut tables.gaps, uses[best].inst);
+    }
+    reading.blocks_carry(&tables.gaps)
+}
+
 /// A job's answer by document 01, refusals included.
 pub fn answer(job: &Job) -> Answer {
     match refusal(job) {

@@ -38,6 +38,8 @@ slips! {
     CostOfOwnGap: "split cost from the region's outermost gaps";
     CostOneSide: "split cost without the right neighbour";
     FreqOtherEnd: "a gap's frequency from its other end";
+    BlockOtherEnd: "the block at a gap's other end";
+    BlockOfBest: "the best use's block for the gaps beside it";
     CutLeftStart: "left cut at the block's start";
     CutRightEnd: "right cut at the block's end";
     ChainFromUse: "the chain of cuts from the near use's own block";

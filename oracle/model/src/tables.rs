@@ -219,7 +219,7 @@ impl Reading<'_> {
         let mut gaps = vec![];
         let mut put = |from: u32, to: u32, weight: f32, left: bool| {
             let freq = self.least_freq(from, to, left).to_bits();
-            gaps.push(Gap { from, to, weight: weight.to_bits(), live_insts: 0, freq });
+            gaps.push(Gap { from, to, weight: weight.to_bits(), live_insts: 0, freq, block: ABSENT });
             gaps.len() - 1
         };
         let side = |near: usize, far: usize| if self.slips(Slip::NearWeightFar) { far } else { near };
@@ -262,7 +262,36 @@ impl Reading<'_> {
             }
         }
         self.count_live(&mut gaps);
+        self.name_blocks(&mut gaps, rows[best].inst);
         (gaps, own)
+    }
+
+    /// The block behind each gap's frequency, from the gap's bounds and the best use's instruction alone: the gap's last block left of
+    /// it, the first otherwise.
+    pub fn name_blocks(&self, gaps: &mut [Gap], best: u32) {
+        for g in gaps {
+            let left = (g.to <= best) != self.slips(Slip::BlockOtherEnd);
+            let beside = g.to == best || g.from == best + 1;
+            let inst = if beside && self.slips(Slip::BlockOfBest) {
+                best
+            } else if left {
+                g.to - 1
+            } else {
+                g.from
+            };
+            g.block = self.block_of(inst) as u32;
+        }
+    }
+
+    /// Whether each gap's block carries its frequency, and no block that the gap meets has a lower one.
+    pub fn blocks_carry(&self, gaps: &[Gap]) -> bool {
+        gaps.iter().all(|g| {
+            let met = self.block_of(g.from)..=self.block_of(g.to - 1);
+            let freq = f32::from_bits(g.freq);
+            met.contains(&(g.block as usize))
+                && self.freq(g.block as usize) == freq
+                && met.clone().all(|b| self.freq(b) >= freq)
+        })
     }
 
     /// An instruction is live if a segment covers part of it; each counts once.

@@ -53,6 +53,8 @@ pub struct Gap {
     pub weight: u32,
     pub live_insts: u32,
     pub freq: u32,
+    /// The block that carries the frequency; absent in the Rust's tables, which have no such column.
+    pub block: u32,
 }
 
 #[derive(Clone, Copy, Debug, PartialEq, Eq)]

@@ -71,7 +71,7 @@ pub fn write_tables(tables: &Tables) -> String {
         text += &fields('u', &[u.inst, u.main, u.left, u.right]);
     }
     for g in &tables.gaps {
-        text += &fields('g', &[g.from, g.to, g.weight, g.live_insts, g.freq]);
+        text += &fields('g', &[g.from, g.to, g.weight, g.live_insts, g.freq, g.block]);
     }
     for o in &tables.gap_segments {
         text += &fields('o', &[o.from, o.to, o.value, o.gap]);

@@ -257,8 +257,9 @@ fn use_of(job: &Job, at: usize) -> Use {
 
 fn told(links: Vec<Link>, run: OracleRun, options: &Options) -> Ran {
     let uses = run.uses.iter().map(|&[inst, main, left, right]| UseRow { inst, main, left, right });
-    let gaps =
-        run.gaps.iter().map(|&[from, to, weight, live_insts, freq]| Gap { from, to, weight, live_insts, freq });
+    let block = ABSENT;
+    let gap = |&[from, to, weight, live_insts, freq]: &[u32; 5]| Gap { from, to, weight, live_insts, freq, block };
+    let gaps = run.gaps.iter().map(gap);
     let gap_segments = run.gap_segments.iter().map(|&[from, to, value, gap]| GapSegment { from, to, value, gap });
     let tables = Tables { links, uses: uses.collect(), gaps: gaps.collect(), gap_segments: gap_segments.collect() };
     let answer = match run.proposal {

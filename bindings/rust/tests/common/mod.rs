@@ -152,7 +152,8 @@ pub fn tables_of(scratch: &Scratch) -> String {
     }
     let gaps = scratch.gaps();
     for i in 0..gaps.from.len() {
-        put('g', &[gaps.from[i], gaps.to[i], gaps.weight[i].to_bits(), gaps.live[i], gaps.min_freq[i].to_bits()]);
+        let [weight, freq] = [gaps.weight[i], gaps.min_freq[i]].map(f32::to_bits);
+        put('g', &[gaps.from[i], gaps.to[i], weight, gaps.live[i], freq, gaps.block[i]]);
     }
     let out = scratch.gap_segments();
     for i in 0..out.from.len() {

@@ -16,15 +16,15 @@ use Rattle.gaps.proofs.cutting.cut_space.Statement.{statement}
 use Rattle.gaps.proofs.cutting.cut_space.Tie as tie
 
 abbrev Inv-loop : tie.InvT-loop
-Inv-loop side freq edges links from₀ to₀ weight₀ min-freq₀ n s last b₀ first at₀ edge₀ w₀ from to weight min-freq b at edge w =
-    Storing side freq edges links s n (cutColumns from₀ to₀ weight₀ min-freq₀) (cutColumns from to weight min-freq) (b .0) at (edge .0) w
+Inv-loop side freq edges links from₀ to₀ weight₀ min-freq₀ gap-block₀ n s last b₀ first at₀ edge₀ w₀ from to weight min-freq gap-block b at edge w =
+    Storing side freq edges links s n (cutColumns from₀ to₀ weight₀ min-freq₀ gap-block₀) (cutColumns from to weight min-freq gap-block) (b .0) at (edge .0) w
 
 abbrev μ-loop : tie.MeasureT-loop
-μ-loop side freq edges links from₀ to₀ weight₀ min-freq₀ n s last b₀ first at₀ edge₀ w₀ from to weight min-freq b at edge w =
+μ-loop side freq edges links from₀ to₀ weight₀ min-freq₀ gap-block₀ n s last b₀ first at₀ edge₀ w₀ from to weight min-freq gap-block b at edge w =
     beside side (length links) (b .0)
 
 abbrev begin : tie.At-loop Inv-loop μ-loop → tie.Start Inv-loop μ-loop
-begin c = c .before .before .before .before .before .before .before .before .before .before .before .before
+begin c = c .before .before .before .before .before .before .before .before .before .before .before .before .before
 
 abbrev turn : tie.Else1 Inv-loop μ-loop → tie.At-loop Inv-loop μ-loop
 turn c = c .before .before .before .before .before .before
@@ -57,13 +57,14 @@ gone c =
     (c .match .came))
 
 -- a turn stores a row of the columns
-row : (c : tie.At-loop Inv-loop μ-loop) → CutRows (c .loop .at + 1) (cutColumns (c .loop .from) (c .loop .to) (c .loop .weight) (c .loop .min-freq))
+row : (c : tie.At-loop Inv-loop μ-loop)
+    → CutRows (c .loop .at + 1) (cutColumns (c .loop .from) (c .loop .to) (c .loop .weight) (c .loop .min-freq) (c .loop .gap-block))
 row c =
     let a = begin c .args in
     let l = c .loop in
     row-inside (a .side) (a .freq .now) (a .edges .now) (a .links .now) (a .s) (a .n)
-    (cutColumns (a .from .now) (a .to .now) (a .weight .now) (a .min-freq .now))
-    (cutColumns (l .from) (l .to) (l .weight) (l .min-freq)) (l .b .0) (l .at) (l .edge .0) (l .w) (l .inv)
+    (cutColumns (a .from .now) (a .to .now) (a .weight .now) (a .min-freq .now) (a .gap-block .now))
+    (cutColumns (l .from) (l .to) (l .weight) (l .min-freq) (l .gap-block)) (l .b .0) (l .at) (l .edge .0) (l .w) (l .inv)
 
 -- and goes on at a block of the list
 next : (c : tie.Else1 Inv-loop μ-loop)
@@ -77,36 +78,36 @@ next c =
     let l = turn c .loop in
     let m =
     storing-next (a .side) (a .freq .now) (a .edges .now) (a .links .now) (a .s) (a .n)
-    (cutColumns (a .from .now) (a .to .now) (a .weight .now) (a .min-freq .now))
-    (cutColumns (l .from) (l .to) (l .weight) (l .min-freq)) (l .b .0) (l .at) (l .edge .0) (l .w) (l .inv)
+    (cutColumns (a .from .now) (a .to .now) (a .weight .now) (a .min-freq .now) (a .gap-block .now))
+    (cutColumns (l .from) (l .to) (l .weight) (l .min-freq) (l .gap-block)) (l .b .0) (l .at) (l .edge .0) (l .w) (l .inv)
     (c .before .before .before .lower .given .0 .0 .0) (cut c) in
     (m .1, m .2, m .3)
 
 rows-before-requires : tie.Need-rows-before-requires Inv-loop μ-loop
 rows-before-requires c κs =
     let at-pre =
-    c .before .before .before .before .before .before .before .before .before in
+    c .before .before .before .before .before .before .before .before .before .before in
     (at-pre .pre .0 .0, at-pre .pre .0 .2)
 
 add-first : tie.Need-add-first Inv-loop μ-loop
 add-first c =
-    let at-args = c .before .before .before .before .before .before .before .before .before .before in
+    let at-args = c .before .before .before .before .before .before .before .before .before .before .before in
     let a = at-args .args in
     let e = c .rows-before .ensures in
     let r = at-args .pre .1 .from in
     let f =
     first-inside (a .side) (a .freq .now) (a .edges .now) (a .links .now) (a .s) (a .n)
-    (cutColumns (a .from .now) (a .to .now) (a .weight .now) (a .min-freq .now)) in
+    (cutColumns (a .from .now) (a .to .now) (a .weight .now) (a .min-freq .now) (a .gap-block .now)) in
     let g = at-args .good .1 .1 .1 .1 .0 .1 in
     omega (arith, e, r, f, g)
 
 loop-holds : tie.Need-loop-holds Inv-loop μ-loop
 loop-holds c =
-    let at-args = c .before .before .before .before .before .before .before .before .before .before .before in
+    let at-args = c .before .before .before .before .before .before .before .before .before .before .before .before in
     let a = at-args .args in
     let p = at-args .pre in
     storing-starts (a .side) (a .freq .now) (a .edges .now) (a .links .now) (a .s) (a .n)
-    (cutColumns (a .from .now) (a .to .now) (a .weight .now) (a .min-freq .now)) (p .0 .0) (p .0 .1) (p .0 .2) (p .1)
+    (cutColumns (a .from .now) (a .to .now) (a .weight .now) (a .min-freq .now) (a .gap-block .now)) (p .0 .0) (p .0 .1) (p .0 .2) (p .1)
     (a .n + c .before .rows-before .result) (ap (λ (x : ℕ). a .n + x) (c .before .rows-before .ensures))
 
 link-at-requires : tie.Need-link-at-requires Inv-loop μ-loop
@@ -147,11 +148,12 @@ block-frequency-requires c κs =
     omega (arith, h, e)
 
 put-gap-requires : tie.Need-put-gap-requires Inv-loop μ-loop
-put-gap-requires c κs = row (turn (c .before .before .before .before .before .before .before))
+put-gap-requires c κs = row (turn (c .before .before .before .before .before .before .before .before))
 
 next-row-requires : tie.Need-next-row-requires Inv-loop μ-loop
 next-row-requires c κs =
-    let e = c .before .before .before .before .before .before .before .before .before .before .before .before .before .before .before .before in
+    let e = c .before .before .before .before .before .before .before .before .before .before .before .before .before .before .before .before .before
+    .before .before in
     let r = row (turn e) .from in
     let g = begin (turn e) .good .1 .1 .1 .1 .0 .1 in
     let z =
@@ -160,19 +162,20 @@ next-row-requires c κs =
 
 loop-less : tie.Need-loop-less Inv-loop μ-loop
 loop-less c =
-    next (c .before .before .before .before .before .before .before .before .before .before .before .before .before .before .before .before .before) .0
+    next (c .before .before .before .before .before .before .before .before .before .before .before .before .before .before .before .before .before
+    .before .before .before) .0
 
 loop-again : tie.Need-loop-again Inv-loop μ-loop
 unfolding ofBits
 loop-again c =
-    let at-put-gap = c .before .before .before .before .before .before .before .before .before in
-    let at-block-frequency = at-put-gap .before .before .before .before .before in
+    let at-put-gap = c .before .before .before .before .before .before .before .before .before .before .before in
+    let at-block-frequency = at-put-gap .before .before .before .before .before .before in
     let e = at-block-frequency .before .before .before in
     let a = begin (turn e) .args in
     let l = turn e .loop in
     storing-step (a .side) (a .freq .now) (a .edges .now) (a .links .now) (a .s) (a .n)
-    (cutColumns (a .from .now) (a .to .now) (a .weight .now) (a .min-freq .now))
-    (cutColumns (l .from) (l .to) (l .weight) (l .min-freq)) (l .b .0) (l .at) (l .edge .0) (l .w) (l .inv)
+    (cutColumns (a .from .now) (a .to .now) (a .weight .now) (a .min-freq .now) (a .gap-block .now))
+    (cutColumns (l .from) (l .to) (l .weight) (l .min-freq) (l .gap-block)) (l .b .0) (l .at) (l .edge .0) (l .w) (l .inv)
     (e .before .before .before .lower .given .0 .0 .0) (cut e)
     (at-block-frequency .block-frequency .ensures) (at-put-gap .put-gap .ensures) (c .next-row .ensures)
 
@@ -184,7 +187,7 @@ block-frequency-requires-2 c κs =
     omega (arith, h, e)
 
 put-gap-requires-2 : tie.Need-put-gap-requires-2 Inv-loop μ-loop
-put-gap-requires-2 c κs = row (c .before .before .before .before .before .before .before .before .before)
+put-gap-requires-2 c κs = row (c .before .before .before .before .before .before .before .before .before .before)
 
 later-requires : tie.Need-later-requires Inv-loop μ-loop
 later-requires c κs = tt
@@ -192,15 +195,15 @@ later-requires c κs = tt
 -- with the gap up to the farther use all are stored
 returns : tie.Need-returns Inv-loop μ-loop
 returns c =
-    let at-put-gap2 = c .before .before .before .before .before .before .before .before .before in
-    let at-block-frequency2 = at-put-gap2 .before .before .before .before .before .before .before in
+    let at-put-gap2 = c .before .before .before .before .before .before .before .before .before .before .before in
+    let at-block-frequency2 = at-put-gap2 .before .before .before .before .before .before .before .before in
     let came = at-block-frequency2 .before in
     let at-loop = came .before .before in
     let a = begin at-loop .args in
     let l = at-loop .loop in
     storing-done (a .side) (a .freq .now) (a .edges .now) (a .links .now) (a .s) (a .n)
-    (cutColumns (a .from .now) (a .to .now) (a .weight .now) (a .min-freq .now))
-    (cutColumns (l .from) (l .to) (l .weight) (l .min-freq)) (l .b .0) (l .at) (l .edge .0) (l .w) (l .inv)
+    (cutColumns (a .from .now) (a .to .now) (a .weight .now) (a .min-freq .now) (a .gap-block .now))
+    (cutColumns (l .from) (l .to) (l .weight) (l .min-freq) (l .gap-block)) (l .b .0) (l .at) (l .edge .0) (l .w) (l .inv)
     (gone came) (at-block-frequency2 .block-frequency2 .ensures) (at-put-gap2 .put-gap2 .ensures)
     (ap (λ (x : ℕ). a .n + x) (at-loop .before .before .rows-before .ensures)) (c .later .ensures)
 
@@ -208,7 +211,7 @@ add-result : tie.Need-add-result Inv-loop μ-loop
 add-result c =
     let at-args =
     begin (c .before .before .before .before .before .before .before .before .before .before .before .before .before .before .before .before .before .before
-    .before) in
+    .before .before .before .before) in
     let r = at-args .pre .1 .from in
     let g = at-args .good .1 .1 .1 .1 .0 .1 in
     let e = returns c .0 in
@@ -216,23 +219,33 @@ add-result c =
 
 same-length : tie.Need-same-length Inv-loop μ-loop
 same-length c =
-    let at-put-gap2 = c .before .before .before .before .before .before .before .before .before in
-    at-put-gap2 .put-gap2 .kept .0 ∙ at-put-gap2 .before .before .before .before .before .before .before .before .before .before .loop .inv .same .from
+    let at-put-gap2 = c .before .before .before .before .before .before .before .before .before .before .before in
+    at-put-gap2 .put-gap2 .kept .0 ∙ at-put-gap2 .before .before .before .before .before .before .before .before .before .before .before .loop .inv
+    .same .from
 
 same-length-2 : tie.Need-same-length-2 Inv-loop μ-loop
 same-length-2 c =
-    let at-put-gap2 = c .before .before .before .before .before .before .before .before .before in
-    at-put-gap2 .put-gap2 .kept .1 .0 ∙ at-put-gap2 .before .before .before .before .before .before .before .before .before .before .loop .inv .same .to
+    let at-put-gap2 = c .before .before .before .before .before .before .before .before .before .before .before in
+    at-put-gap2 .put-gap2 .kept .1 .0 ∙ at-put-gap2 .before .before .before .before .before .before .before .before .before .before .before .loop .inv
+    .same .to
 
 same-length-3 : tie.Need-same-length-3 Inv-loop μ-loop
 same-length-3 c =
-    let at-put-gap2 = c .before .before .before .before .before .before .before .before .before in
-    at-put-gap2 .put-gap2 .kept .1 .1 .0 ∙ at-put-gap2 .before .before .before .before .before .before .before .before .before .before .loop .inv .same .weight
+    let at-put-gap2 = c .before .before .before .before .before .before .before .before .before .before .before in
+    at-put-gap2 .put-gap2 .kept .1 .1 .0 ∙ at-put-gap2 .before .before .before .before .before .before .before .before .before .before .before .loop
+    .inv .same .weight
 
 same-length-4 : tie.Need-same-length-4 Inv-loop μ-loop
 same-length-4 c =
-    let at-put-gap2 = c .before .before .before .before .before .before .before .before .before in
-    at-put-gap2 .put-gap2 .kept .1 .1 .1 .0 ∙ at-put-gap2 .before .before .before .before .before .before .before .before .before .before .loop .inv .same .freq
+    let at-put-gap2 = c .before .before .before .before .before .before .before .before .before .before .before in
+    at-put-gap2 .put-gap2 .kept .1 .1 .1 .0 ∙ at-put-gap2 .before .before .before .before .before .before .before .before .before .before .before
+    .loop .inv .same .freq
+
+same-length-5 : tie.Need-same-length-5 Inv-loop μ-loop
+same-length-5 c =
+    let at-put-gap2 = c .before .before .before .before .before .before .before .before .before .before .before in
+    at-put-gap2 .put-gap2 .kept .1 .1 .1 .1 .0 ∙ at-put-gap2 .before .before .before .before .before .before .before .before .before .before .before
+    .loop .inv .same .block
 
 pub cut-space-spec : {M : Type 1} → statement M
 cut-space-spec =
@@ -263,4 +276,5 @@ cut-space-spec =
     same-length-2
     same-length-3
     same-length-4
+    same-length-5
     returns)

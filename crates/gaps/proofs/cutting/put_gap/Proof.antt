@@ -1,4 +1,4 @@
--- `put_gap` stores the four fields of a row
+-- `put_gap` stores the five fields of a row
 use mathlib.Core.Path.{ap₂}
 use Prim.Native.Nat.{ℕ}
 use Rattle.gaps.specs.Cutting.{cutColumns, withRow}
@@ -37,6 +37,12 @@ mul-freq c = omega arith
 slice-write-freq : tie.Need-slice-write-freq
 slice-write-freq c = omega arith
 
+mul-block : tie.Need-mul-block
+mul-block c = omega arith
+
+slice-write-block : tie.Need-slice-write-block
+slice-write-block c = omega arith
+
 same-length : tie.Need-same-length
 same-length c = search needs
 
@@ -49,11 +55,14 @@ same-length-3 c = search needs
 same-length-4 : tie.Need-same-length-4
 same-length-4 c = search needs
 
+same-length-5 : tie.Need-same-length-5
+same-length-5 c = search needs
+
 returns : tie.Need-returns
 returns c =
-    let at-args = c .before .before .before .before .before .before in
+    let at-args = c .before .before .before .before .before .before .before in
     let a = at-args .args in
-    ap₂ (λ (x y : ℕ). withRow (cutColumns (a .from .now) (a .to .now) (a .weight .now) (a .freq .now)) (a .at) x y (a .w) (a .f))
+    ap₂ (λ (x y : ℕ). withRow (cutColumns (a .from .now) (a .to .now) (a .weight .now) (a .freq .now) (a .block .now)) (a .at) x y (a .w) (a .f) (a .b .0))
     (c .before .on-side .ensures) (c .on-side2 .ensures)
 
 pub put-gap-spec : {M : Type 1} → statement M
@@ -70,8 +79,11 @@ put-gap-spec =
     slice-write-weight
     mul-freq
     slice-write-freq
+    mul-block
+    slice-write-block
     same-length
     same-length-2
     same-length-3
     same-length-4
+    same-length-5
     returns)

@@ -20,7 +20,7 @@ use Rattle.gaps.proofs.gaps.build_gaps.Tie as tie
 
 -- ---- places: the start
 abbrev begin : tie.After-cut-gaps → tie.Start
-begin f = f .before .before .before .before .before .before .before .before .before .before .before .before .before .before .before .before
+begin f = f .before .before .before .before .before .before .before .before .before .before .before .before .before .before .before .before .before .before
     .before .before .before .before .before .before .before .before .before .before
 
 -- ---- the uses, their gaps, and the lent gap table
@@ -34,11 +34,11 @@ abbrev gaps : tie.Start → List Gap
 gaps s = gapsOf (blocks s) (usesIn (uses s)) (s .args .best)
 
 abbrev lent : tie.Start → GapColumns
-lent s = let a = s .args in gapColumns (a .gap-from .now) (a .gap-to .now) (a .gap-weight .now) (a .live .now) (a .min-freq .now)
+lent s = let a = s .args in gapColumns (a .gap-from .now) (a .gap-to .now) (a .gap-weight .now) (a .live .now) (a .min-freq .now) (a .gap-block .now)
 
 -- ---- the columns as the gaps are cut, and how many there are
 abbrev cut : tie.After-cut-gaps → CutColumns
-cut f = let l = f .cut-gaps .last .1 .1 .1 .1 .1 .1 .1 .1 .1 .1 in cutColumns (l .0) (l .1 .0) (l .1 .1 .0) (l .1 .1 .1 .0)
+cut f = let l = f .cut-gaps .last .1 .1 .1 .1 .1 .1 .1 .1 .1 .1 in cutColumns (l .0) (l .1 .0) (l .1 .1 .0) (l .1 .1 .1 .0) (l .1 .1 .1 .1 .0)
 
 abbrev rows : tie.After-cut-gaps → ℕ
 rows f = f .cut-gaps .result .rows
@@ -64,7 +64,7 @@ gaps-held f =
     subst (λ (l : List ℕ). Gaps l (take (rows f) (cut f .tos))) (sym froms) (subst (λ (l : List ℕ). Gaps (fromsOf (gaps s)) l) (sym tos) tile)
 
 cut-gaps-requires : tie.Need-cut-gaps-requires
-cut-gaps-requires c κs = let s = c .before .before .before .before .before .before .before .before .before .before .before .before .before
+cut-gaps-requires c κs = let s = c .before .before .before .before .before .before .before .before .before .before .before .before .before .before .before
     .before .before .before .before .before .before .before .before .before .before .before .before in (
       s .pre .0 .0,
       cut-rows (length (gaps s))
@@ -72,22 +72,24 @@ cut-gaps-requires c κs = let s = c .before .before .before .before .before .bef
     )
 
 slice-reshare-prefix-fill-segments : tie.Need-slice-reshare-prefix-fill-segments
-slice-reshare-prefix-fill-segments c = froms-fit (c .before .before .before .before .before .before .before .before)
+slice-reshare-prefix-fill-segments c = froms-fit (c .before .before .before .before .before .before .before .before .before .before)
 
 slice-aggregate-fill-segments : tie.Need-slice-aggregate-fill-segments
-slice-aggregate-fill-segments c = let f = c .before .before .before .before .before .before .before .before .before in sym (length-take-le (rows f)
+slice-aggregate-fill-segments c = let f = c .before .before .before .before .before .before .before .before .before .before .before in sym
+    (length-take-le (rows f)
     (cut f .froms) (froms-fit f))
 
 slice-reshare-prefix-fill-segments-2 : tie.Need-slice-reshare-prefix-fill-segments-2
-slice-reshare-prefix-fill-segments-2 c = tos-fit (c .before .before .before .before .before .before .before .before .before)
+slice-reshare-prefix-fill-segments-2 c = tos-fit (c .before .before .before .before .before .before .before .before .before .before .before)
 
 slice-aggregate-fill-segments-2 : tie.Need-slice-aggregate-fill-segments-2
-slice-aggregate-fill-segments-2 c = let f = c .before .before .before .before .before .before .before .before .before .before in sym (length-take-le
+slice-aggregate-fill-segments-2 c = let f = c .before .before .before .before .before .before .before .before .before .before .before .before in sym
+    (length-take-le
     (rows f) (cut f .tos) (tos-fit f))
 
 fill-segments-requires : tie.Need-fill-segments-requires
 fill-segments-requires c κs =
-    let f = c .before .before .before .before .before .before .before .before .before .before .before .before .before .before .before in
+    let f = c .before .before .before .before .before .before .before .before .before .before .before .before .before .before .before .before .before in
     let s = begin f in
     let a = s .args in
     let e = f .cut-gaps .ensures in (
@@ -97,40 +99,44 @@ fill-segments-requires c κs =
     )
 
 same-length : tie.Need-same-length
-same-length c = c .before .before .before .before .before .before .before .before .before .before .before .before .before .before .before
+same-length c = c .before .before .before .before .before .before .before .before .before .before .before .before .before .before .before .before .before
     .before .before .before .before .before .before .before .before .before .before .before .cut-gaps .kept .1 .1 .1 .1 .1 .1 .1 .1 .1 .1 .0
 
 same-length-2 : tie.Need-same-length-2
-same-length-2 c = c .before .before .before .before .before .before .before .before .before .before .before .before .before .before .before
+same-length-2 c = c .before .before .before .before .before .before .before .before .before .before .before .before .before .before .before .before .before
     .before .before .before .before .before .before .before .before .before .before .before .cut-gaps .kept .1 .1 .1 .1 .1 .1 .1 .1 .1 .1 .1 .0
 
 same-length-3 : tie.Need-same-length-3
-same-length-3 c = c .before .before .before .before .before .before .before .before .before .before .before .before .before .before .before
+same-length-3 c = c .before .before .before .before .before .before .before .before .before .before .before .before .before .before .before .before .before
     .before .before .before .before .before .before .before .before .before .before .before .cut-gaps .kept .1 .1 .1 .1 .1 .1 .1 .1 .1 .1 .1 .1 .0
 
 same-length-4 : tie.Need-same-length-4
 same-length-4 c = c .before .before .before .before .before .before .before .before .before .before .fill-segments .kept .1 .1 .1 .1 .1 .0
 
 same-length-5 : tie.Need-same-length-5
-same-length-5 c = c .before .before .before .before .before .before .before .before .before .before .before .before .before .before .before
+same-length-5 c = c .before .before .before .before .before .before .before .before .before .before .before .before .before .before .before .before .before
     .before .before .before .before .before .before .before .before .before .before .before .cut-gaps .kept .1 .1 .1 .1 .1 .1 .1 .1 .1 .1 .1 .1 .1 .0
 
 same-length-6 : tie.Need-same-length-6
-same-length-6 c = c .before .before .before .before .before .before .before .before .before .before .fill-segments .kept .1 .1 .1 .1 .1 .1 .0
+same-length-6 c = c .before .before .before .before .before .before .before .before .before .before .before .before .before .before .before .before .before
+    .before .before .before .before .before .before .before .before .before .before .before .cut-gaps .kept .1 .1 .1 .1 .1 .1 .1 .1 .1 .1 .1 .1 .1 .1 .0
 
 same-length-7 : tie.Need-same-length-7
-same-length-7 c = c .before .before .before .before .before .before .before .before .before .before .fill-segments .kept .1 .1 .1 .1 .1 .1 .1 .0
+same-length-7 c = c .before .before .before .before .before .before .before .before .before .before .fill-segments .kept .1 .1 .1 .1 .1 .1 .0
 
 same-length-8 : tie.Need-same-length-8
-same-length-8 c = c .before .before .before .before .before .before .before .before .before .before .fill-segments .kept .1 .1 .1 .1 .1 .1 .1 .1 .0
+same-length-8 c = c .before .before .before .before .before .before .before .before .before .before .fill-segments .kept .1 .1 .1 .1 .1 .1 .1 .0
 
 same-length-9 : tie.Need-same-length-9
-same-length-9 c = c .before .before .before .before .before .before .before .before .before .before .fill-segments .kept .1 .1 .1 .1 .1 .1 .1 .1 .1 .0
+same-length-9 c = c .before .before .before .before .before .before .before .before .before .before .fill-segments .kept .1 .1 .1 .1 .1 .1 .1 .1 .0
+
+same-length-10 : tie.Need-same-length-10
+same-length-10 c = c .before .before .before .before .before .before .before .before .before .before .fill-segments .kept .1 .1 .1 .1 .1 .1 .1 .1 .1 .0
 
 returns : tie.Need-returns
 returns c =
-    let f = c .before .before .before .before .before .before .before .before .before .before .before .before .before .before .before .before
-    .before .before .before .before .before .before .before .before .before .before in
+    let f = c .before .before .before .before .before .before .before .before .before .before .before .before .before .before .before .before .before
+    .before .before .before .before .before .before .before .before .before .before .before in
     let s = begin f in
     let a = s .args in
     let e = f .cut-gaps .ensures in
@@ -162,4 +168,5 @@ build-gaps-spec =
     same-length-7
     same-length-8
     same-length-9
+    same-length-10
     returns)

@@ -14,13 +14,13 @@ use Rattle.proposer.proofs.propose.propose_split.Tie as tie
 -- ---- places: the start, and where the tables are filled
 abbrev begin : tie.After-fill-tables → tie.Start
 begin f =
-    f .before .before .before .before .before .before .before .before .before .before .before .before .before .before
+    f .before .before .before .before .before .before .before .before .before .before .before .before .before .before .before .before
     .before .before .before .before .before .before .before .before .before .before .before .before .before .before
     .before .before .before
 
 abbrev filled-at : tie.After-grow-filled → tie.After-fill-tables
 filled-at c =
-    c .before .before .before .before .before .before .before .before .before .before .before .before .before .before
+    c .before .before .before .before .before .before .before .before .before .before .before .before .before .before .before .before
     .before .before .before .before .before .before .before .before .before .before .before .before .before .before
     .before .before .before .before .before .before .before .before .before .before .before .before .before .before
     .before .before .before .before .before .before .before
@@ -35,7 +35,7 @@ lent s =
     workColumns
     (a .prev-lower-freq .now) (a .next-lower-freq .now)
     (a .inst .now) (a .weight .now) (a .left-weight .now) (a .right-weight .now)
-    (a .gap-from .now) (a .gap-to .now) (a .gap-weight .now) (a .live .now) (a .min-freq .now)
+    (a .gap-from .now) (a .gap-to .now) (a .gap-weight .now) (a .live .now) (a .min-freq .now) (a .gap-block .now)
     (a .segment-from .now) (a .segment-to .now) (a .segment-value .now) (a .segment-gap .now)
 
 abbrev after : tie.After-fill-tables → WorkColumns
@@ -47,7 +47,7 @@ after f =
     (l .1 .1 .1 .1 .1 .1 .1 .1 .0) (l .1 .1 .1 .1 .1 .1 .1 .1 .1 .0) (l .1 .1 .1 .1 .1 .1 .1 .1 .1 .1 .0) (l .1 .1 .1 .1 .1 .1 .1 .1 .1 .1 .1 .0)
     (l .1 .1 .1 .1 .1 .1 .1 .1 .1 .1 .1 .1 .0)
     (l .1 .1 .1 .1 .1 .1 .1 .1 .1 .1 .1 .1 .1 .0) (l .1 .1 .1 .1 .1 .1 .1 .1 .1 .1 .1 .1 .1 .1 .0) (l .1 .1 .1 .1 .1 .1 .1 .1 .1 .1 .1 .1 .1 .1 .1 .0)
-    (l .1 .1 .1 .1 .1 .1 .1 .1 .1 .1 .1 .1 .1 .1 .1 .1 .0)
+    (l .1 .1 .1 .1 .1 .1 .1 .1 .1 .1 .1 .1 .1 .1 .1 .1 .0) (l .1 .1 .1 .1 .1 .1 .1 .1 .1 .1 .1 .1 .1 .1 .1 .1 .1 .0)
 
 -- the tables are filled as of the job so taken
 filled : (f : tie.After-fill-tables) → IsFilled (job (begin f)) (lent (begin f)) (after f) (f .fill-tables .result)
@@ -92,7 +92,7 @@ array-copy-out-f-value c = search needs
 grow-filled-requires : tie.Need-grow-filled-requires
 grow-filled-requires c κs =
     let f =
-    c .before .before .before .before .before .before .before .before .before .before .before .before .before .before
+    c .before .before .before .before .before .before .before .before .before .before .before .before .before .before .before .before
     .before .before .before .before .before .before .before .before .before .before .before .before .before .before
     .before .before .before .before .before .before .before .before .before .before .before .before .before .before
     .before .before .before .before .before .before in
@@ -143,6 +143,9 @@ same-length-14 c = filled-at c .fill-tables .kept .1 .1 .1 .1 .1 .1 .1 .1 .1 .1 
 same-length-15 : tie.Need-same-length-15
 same-length-15 c = filled-at c .fill-tables .kept .1 .1 .1 .1 .1 .1 .1 .1 .1 .1 .1 .1 .1 .1 .1 .1 .0
 
+same-length-16 : tie.Need-same-length-16
+same-length-16 c = filled-at c .fill-tables .kept .1 .1 .1 .1 .1 .1 .1 .1 .1 .1 .1 .1 .1 .1 .1 .1 .1 .0
+
 returns : tie.Need-returns
 returns c =
     let f = filled-at c in
@@ -182,4 +185,5 @@ propose-split-spec =
     same-length-13
     same-length-14
     same-length-15
+    same-length-16
     returns)

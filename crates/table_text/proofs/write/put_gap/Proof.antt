@@ -22,6 +22,9 @@ number-at-requires-3 c κs = search needs
 bits-at-requires-2 : tie.Need-bits-at-requires-2
 bits-at-requires-2 c κs = search needs
 
+number-at-requires-4 : tie.Need-number-at-requires-4
+number-at-requires-4 c κs = search needs
+
 slice-aggregate-put-line : tie.Need-slice-aggregate-put-line
 slice-aggregate-put-line c = search needs
 
@@ -34,15 +37,16 @@ same-length c = search needs
 returns : tie.Need-returns
 returns c =
     let last = c .before .before .before .before .before in
-    let a = last .before .before .before .before .before .before .before .before .before .before .before .args in
+    let a = last .before .before .before .before .before .before .before .before .before .before .before .before .before .args in
     c .before .before .put-line .ensures
     ∙ (λ i. sets (a .out .now) (a .at)
     (lineText 103
-    (last .before .before .before .before .number-at .ensures i
-    ∷ last .before .before .before .number-at2 .ensures i
-    ∷ last .before .before .bits-at .ensures i
-    ∷ last .before .number-at3 .ensures i
-    ∷ last .bits-at2 .ensures i
+    (last .before .before .before .before .before .number-at .ensures i
+    ∷ last .before .before .before .before .number-at2 .ensures i
+    ∷ last .before .before .before .bits-at .ensures i
+    ∷ last .before .before .number-at3 .ensures i
+    ∷ last .before .bits-at2 .ensures i
+    ∷ last .number-at4 .ensures i
     ∷ [])))
 
 pub put-gap-spec : {M : Type 1} → statement M
@@ -54,6 +58,7 @@ put-gap-spec =
     bits-at-requires
     number-at-requires-3
     bits-at-requires-2
+    number-at-requires-4
     slice-aggregate-put-line
     put-line-requires
     same-length

@@ -11,21 +11,22 @@ use Rattle.table_text.proofs.write.put_gaps.Statement.{statement}
 use Rattle.table_text.proofs.write.put_gaps.Tie as tie
 
 abbrev Inv-loop : tie.InvT-loop
-Inv-loop out₀ at from to weight live freq rows i₀ out i =
+Inv-loop out₀ at from to weight live freq block rows i₀ out i =
     (i ≤ rows)
     × (length out ≡ length out₀)
-    × (sets out (at + 57 * i) (joined (gapLine from to weight live freq) i (rows - i)) ≡ sets out₀ at (joined (gapLine from to weight live freq) 0 rows))
+    × (sets out (at + 68 * i) (joined (gapLine from to weight live freq block) i (rows - i))
+    ≡ sets out₀ at (joined (gapLine from to weight live freq block) 0 rows))
 
 abbrev μ-loop : tie.MeasureT-loop
-μ-loop out₀ at from to weight live freq rows i₀ out i = rows - i
+μ-loop out₀ at from to weight live freq block rows i₀ out i = rows - i
 
 loop-holds : tie.Need-loop-holds Inv-loop μ-loop
 loop-holds c =
-    let a = c .before .before .before .before .before .before .args in (
+    let a = c .before .before .before .before .before .before .before .args in (
       omega arith,
       refl,
-      rows-start (gapLine (a .from .now) (a .to .now) (a .weight .now) (a .live .now) (a .freq .now)) 57 (gap-wide (a .from .now) (a
-          .to .now) (a .weight .now) (a .live .now) (a .freq .now)) (a .rows) _ (a .at) (a .out .now) (omega arith),
+      rows-start (gapLine (a .from .now) (a .to .now) (a .weight .now) (a .live .now) (a .freq .now) (a .block .now)) 68 (gap-wide (a .from .now) (a
+          .to .now) (a .weight .now) (a .live .now) (a .freq .now) (a .block .now)) (a .rows) _ (a .at) (a .out .now) (omega arith),
     )
 
 mul-put-gap : tie.Need-mul-put-gap Inv-loop μ-loop
@@ -48,11 +49,11 @@ loop-again c =
     let w = c .before .before .put-gap in
     let t = c .before .before .before .before in
     let l = t .before .loop in
-    let a = t .before .before .before .before .before .before .before .before .args in (
+    let a = t .before .before .before .before .before .before .before .before .before .args in (
       omega arith,
       w .kept .0 ∙ l .inv .1,
-      rows-step (gapLine (a .from .now) (a .to .now) (a .weight .now) (a .live .now) (a .freq .now)) 57 (gap-wide (a .from .now) (a .to .now) (a
-          .weight .now) (a .live .now) (a .freq .now)) (a .rows) (l .i) (a .at + 57 * l .i) (a .at + 57 * (l .i + 1)) (l .out)
+      rows-step (gapLine (a .from .now) (a .to .now) (a .weight .now) (a .live .now) (a .freq .now) (a .block .now)) 68 (gap-wide (a .from .now) (a .to .now) (a
+          .weight .now) (a .live .now) (a .freq .now) (a .block .now)) (a .rows) (l .i) (a .at + 68 * l .i) (a .at + 68 * (l .i + 1)) (l .out)
           (w .last .0) (t .loop-test .taken) (omega arith) (w .ensures)
           ∙ l .inv .2,
     )
@@ -63,9 +64,10 @@ same-length c = c .before .loop .inv .1
 returns : tie.Need-returns Inv-loop μ-loop
 returns c =
     let l = c .before .loop in
-    let a = c .before .before .before .before .before .before .before .before .args in
-    sym (rows-end (gapLine (a .from .now) (a .to .now) (a .weight .now) (a .live .now) (a .freq .now)) 57 (gap-wide (a .from .now) (a .to .now) (a
-    .weight .now) (a .live .now) (a .freq .now)) (a .rows) (l .i) (a .at + 57 * l .i) (l .out) (c .loop-test .left)) ∙ l .inv .2
+    let a = c .before .before .before .before .before .before .before .before .before .args in
+    sym (rows-end (gapLine (a .from .now) (a .to .now) (a .weight .now) (a .live .now) (a .freq .now) (a .block .now)) 68
+    (gap-wide (a .from .now) (a .to .now) (a .weight .now) (a .live .now) (a .freq .now) (a .block .now)) (a .rows)
+    (l .i) (a .at + 68 * l .i) (l .out) (c .loop-test .left)) ∙ l .inv .2
 
 pub put-gaps-spec : {M : Type 1} → statement M
 put-gaps-spec =

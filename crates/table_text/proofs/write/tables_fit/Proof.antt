@@ -17,7 +17,7 @@ two : (c : tie.Else2) → 46 * c .before .before .before .before .before .args .
     ≤ c .before .before .before .before .before .args .bytes - 24 * c .before .before .before .before .before .args .rows .links
 two c = room-enough _ _ (c .before .fit2 .ensures) (c .if2 .left)
 
-three : (c : tie.Else3) → 57 * c .before .before .before .before .before .before .before .before .args .rows .gaps
+three : (c : tie.Else3) → 68 * c .before .before .before .before .before .before .before .before .args .rows .gaps
     ≤ c .before .before .before .before .before .before .before .before .args .bytes
     - 24 * c .before .before .before .before .before .before .before .before .args .rows .links
     - 46 * c .before .before .before .before .before .before .before .before .args .rows .uses
@@ -69,7 +69,7 @@ returns-3 c =
       arith,
       one (c .before .before .before .before .before .before),
       two (c .before .before .before),
-      room-short (57 * a .rows .gaps) (a .bytes - 24 * a .rows .links - 46 * a .rows .uses) (c .before .fit3 .ensures) (c .if3 .taken),
+      room-short (68 * a .rows .gaps) (a .bytes - 24 * a .rows .links - 46 * a .rows .uses) (c .before .fit3 .ensures) (c .if3 .taken),
     )))
 
 mul-fit : tie.Need-mul-fit
@@ -89,7 +89,7 @@ returns-4 c =
     let u = two (g .before .before .before) in
     let p = three g in
     c .fit4 .ensures
-    ∙ leb-same (46 * a .rows .«gap_segments») (a .bytes - 24 * a .rows .links - 46 * a .rows .uses - 57 * a .rows .gaps) (bytesOfRows (a .rows)) (a .bytes)
+    ∙ leb-same (46 * a .rows .«gap_segments») (a .bytes - 24 * a .rows .links - 46 * a .rows .uses - 68 * a .rows .gaps) (bytesOfRows (a .rows)) (a .bytes)
     (λ h. omega (arith, l, u, p, h)) (λ h. omega (arith, l, u, p, h))
 
 pub tables-fit-spec : {M : Type 1} → statement M

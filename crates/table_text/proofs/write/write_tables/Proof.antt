@@ -12,14 +12,15 @@ use Rattle.table_text.proofs.write.write_tables.Tie as tie
 
 -- ---- places: the function's start, and what the test says
 abbrev start : tie.Else1 → tie.Start
-start c = c .before .before .before .before .before .before .before .before .before .before .before .before .before .before .before .before .before .before
+start c = c .before .before .before .before .before .before .before .before .before .before .before .before .before .before .before .before .before
+    .before .before
 
 fits : (c : tie.Else1) → bytesOfRows (start c .args .rows) ≤ length (start c .args .out .now)
 fits c = room-enough _ _ (c .before .tables-fit .ensures) (c .if1 .left)
 
 -- so all that is added up is a word
 small : (c : tie.Else1) → bytesOfRows (start c .args .rows) < 2 ^ 64
-small c = let g = start c .good .1 .1 .1 .1 .1 .1 .1 .1 .1 .1 .1 .1 .1 .1 .1 .1 .0 in omega (arith, fits c, g .0, g .1)
+small c = let g = start c .good .1 .1 .1 .1 .1 .1 .1 .1 .1 .1 .1 .1 .1 .1 .1 .1 .1 .0 in omega (arith, fits c, g .0, g .1)
 
 tables-fit-requires : tie.Need-tables-fit-requires
 tables-fit-requires c κs = search needs
@@ -27,10 +28,10 @@ tables-fit-requires c κs = search needs
 returns : tie.Need-returns
 returns c =
     let a = c .before .before .before .before .before .before .before .before .before .before .before .before .before .before .before .before .before
-    .before .args in
+    .before .before .args in
     text-short (workColumns (a .prev .now) (a .next .now) (a .inst .now) (a .weight .now) (a .left .now) (a .right .now) (a .gap-from .now) (a .gap-to
-    .now) (a .gap-weight .now) (a .live .now) (a .freq .now) (a .segment-from .now) (a .segment-to .now) (a .segment-value .now) (a .segment-gap
-    .now)) (a .rows) (a .out .now) (room-short _ _ (c .before .tables-fit .ensures) (c .if1 .taken))
+    .now) (a .gap-weight .now) (a .live .now) (a .freq .now) (a .gap-block .now) (a .segment-from .now) (a .segment-to .now) (a .segment-value
+    .now) (a .segment-gap .now)) (a .rows) (a .out .now) (room-short _ _ (c .before .tables-fit .ensures) (c .if1 .taken))
 
 mul-uses-at : tie.Need-mul-uses-at
 mul-uses-at c = omega (arith, small (c .before))
@@ -87,11 +88,11 @@ returns-2 c =
     let a = start room .args in
     let r = a .rows in
     text-put (workColumns (a .prev .now) (a .next .now) (a .inst .now) (a .weight .now) (a .left .now) (a .right .now) (a .gap-from .now) (a .gap-to
-    .now) (a .gap-weight .now) (a .live .now) (a .freq .now) (a .segment-from .now) (a .segment-to .now) (a .segment-value .now) (a .segment-gap
-    .now)) r (a .out .now)
+    .now) (a .gap-weight .now) (a .live .now) (a .freq .now) (a .gap-block .now) (a .segment-from .now) (a .segment-to .now) (a .segment-value
+    .now) (a .segment-gap .now)) r (a .out .now)
     (l .put-links .last .0) (u .put-uses .last .0) (g .put-gaps .last .0) (o .put-gap-segments .last .0)
-    (24 * r .links) (24 * r .links + 46 * r .uses) (24 * r .links + 46 * r .uses + 57 * r .gaps)
-    (24 * r .links + 46 * r .uses + 57 * r .gaps + 46 * r .«gap_segments»)
+    (24 * r .links) (24 * r .links + 46 * r .uses) (24 * r .links + 46 * r .uses + 68 * r .gaps)
+    (24 * r .links + 46 * r .uses + 68 * r .gaps + 46 * r .«gap_segments»)
     refl refl refl refl (fits room)
     (l .put-links .ensures) (u .put-uses .ensures) (g .put-gaps .ensures) (o .put-gap-segments .ensures)
 

@@ -1,13 +1,13 @@
 -- `gelduvra_propose_split` stores the words of what `propose_split` answers
 use mathlib.Core.Path.{ap, _∙_}
 use Rattle.words.specs.Words.{proposedWords}
-use Rattle.exports.proofs.propose.gelduvra_propose_split_v2_else_run_rt_staticlib_exports.Statement.{statement}
-use Rattle.exports.proofs.propose.gelduvra_propose_split_v2_else_run_rt_staticlib_exports.Tie as tie
+use Rattle.exports.proofs.propose.gelduvra_propose_split_v3_else_run_rt_staticlib_exports.Statement.{statement}
+use Rattle.exports.proofs.propose.gelduvra_propose_split_v3_else_run_rt_staticlib_exports.Tie as tie
 
 -- ---- places: where the call has answered
 abbrev proposed-at : tie.After-proposed-words → tie.After-propose-split
 proposed-at c =
-    c .before .before .before .before .before .before .before .before .before .before .before .before .before .before
+    c .before .before .before .before .before .before .before .before .before .before .before .before .before .before .before .before
     .before .before .before .before .before .before .before .before .before .before .before .before .before .before
     .before .before .before
 
@@ -62,6 +62,9 @@ same-length-14 c = proposed-at c .propose-split .kept .1 .1 .1 .1 .1 .1 .1 .1 .1
 same-length-15 : tie.Need-same-length-15
 same-length-15 c = proposed-at c .propose-split .kept .1 .1 .1 .1 .1 .1 .1 .1 .1 .1 .1 .1 .1 .1 .1 .1 .0
 
+same-length-16 : tie.Need-same-length-16
+same-length-16 c = proposed-at c .propose-split .kept .1 .1 .1 .1 .1 .1 .1 .1 .1 .1 .1 .1 .1 .1 .1 .1 .1 .0
+
 returns : tie.Need-returns
 returns c =
     let e = proposed-at c .propose-split .ensures in
@@ -71,8 +74,8 @@ returns c =
       tables = e .tables;
     }
 
-pub gelduvra-propose-split-v2-else-run-rt-staticlib-exports-spec : {M : Type 1} → statement M
-gelduvra-propose-split-v2-else-run-rt-staticlib-exports-spec =
+pub gelduvra-propose-split-v3-else-run-rt-staticlib-exports-spec : {M : Type 1} → statement M
+gelduvra-propose-split-v3-else-run-rt-staticlib-exports-spec =
     tie.close
     (tie.spec
     propose-split-requires
@@ -92,4 +95,5 @@ gelduvra-propose-split-v2-else-run-rt-staticlib-exports-spec =
     same-length-13
     same-length-14
     same-length-15
+    same-length-16
     returns)
