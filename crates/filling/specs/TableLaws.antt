@@ -1,4 +1,4 @@
--- What document 01 says of the tables of a job with a best use: links, gaps, live instructions, gap segments
+-- What documents 01 and 02 say of the tables of a job with a best use: links, gaps and their blocks, live instructions, gap segments
 use mathlib.Core.Path.{_≡_}
 use Prim.Native.Nat.{ℕ, _+_, _-_, _<_}
 use lib.Ieee.{Float}

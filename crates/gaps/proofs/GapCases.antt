@@ -1,4 +1,4 @@
--- Gaps that the definition gives, by computation: document 01's case A, answers of the Rust with cuts on both sides, and weights whose order decides
+-- Gaps that the definition gives, by computation: answers of the Rust with cuts on both sides, and weights whose order decides; the Rust names no blocks
 use mathlib.Core.Path.{_≡_, refl}
 use Prim.Native.Nat.{ℕ}
 use mathlib.Core.List.{List, [], _∷_, map}

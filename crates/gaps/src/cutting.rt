@@ -133,7 +133,7 @@ fn later(a: usize, b: usize) -> usize
     if a < b { b } else { a }
 }
 
-// Stores the gap from an edge to a farther one, with the frequency of a block.
+// Stores the gap from an edge to a farther one, with a block and its frequency.
 fn put_gap(
     from: &mut [u32],
     to: &mut [u32],
