@@ -14,7 +14,7 @@ use sheet::{Written, write_answer};
 use table_text::write::write_tables;
 
 // What was written: the answer, and the tables.
-#[derive(Drop)]
+#[derive(Clone, Copy)]
 pub struct Answered {
     pub answer: Written,
     pub tables: Written,

@@ -5,6 +5,8 @@
 // Proved: each equals its definition (specs/SheetAnswer, JobAnswer) for every input; the first 47,485 bytes of a text decide what is
 // written (proofs/Front); work tables of those rows, `sheet_rooms`, are enough for every sheet (proofs/Rooms).
 // A caller should know: there is no `requires`. A buffer that is too short stays as it was, and `Written` says so.
+#![tactic(auto)]
+
 pub mod answer;
 pub mod job;
 pub mod room;

@@ -7,6 +7,8 @@
 // Proved: for every input the words are those of `words`, and the lent columns are as `propose_split` leaves them.
 // A caller should know: there is no `requires`; no word is left as it was. What a caller in another language owes is what a slice
 // is: columns that can be read, or written, for their whole length, and no column that is written overlaps another.
+#![tactic(auto)]
+
 pub mod propose;
 pub mod split_point;
 pub mod weight;

@@ -2,4 +2,6 @@
 //
 // Here: `shown_of`, an answer of `proposer` as one of `sheet`.
 // Proved: it equals specs/Figures for every input: the answer's numbers, and with a proposal its H figure.
+#![tactic(auto)]
+
 pub mod figures;

@@ -1,7 +1,7 @@
 // How many rows are lent.
 
 // How many rows each lent work table has: as many as its shortest column.
-#[derive(Drop)]
+#[derive(Clone, Copy)]
 pub struct Rooms {
     pub uses: usize,
     pub gaps: usize,

@@ -4,6 +4,8 @@
 // Proved: each column holds its definition's rows, and later rows are as they were. specs/SourceTables has the rows of all tables, and the
 // sixteen lent columns as one record; specs/TableLaws has what documents 01 and 02 say of the tables of a job with a best use.
 // A caller should know: the columns may be longer than the rows used, and differ in length. The job has passed the checks.
+#![tactic(auto)]
+
 pub mod gap_tables;
 pub mod lent;
 pub mod use_tables;

@@ -13,7 +13,7 @@ use use_rows::row::{BestUse, find_best_use};
 use uses::collect::collect_uses;
 
 // How many rows the use table has, and its best use.
-#[derive(Drop)]
+#[derive(Clone, Copy)]
 pub struct UseTables {
     pub rows: usize,
     pub best: BestUse,

@@ -25,7 +25,7 @@ fn on_side(side: Side, left: Inst, right: Inst) -> Inst
 
 // Two neighbouring uses and the space between them, from the use nearer to the best one to the farther one: where it begins and
 // ends, the weights placed in it, the block in which cutting begins, and the farther use's block.
-#[derive(Drop)]
+#[derive(Clone, Copy)]
 struct Space {
     pub edge: Inst,
     pub end: Inst,
@@ -320,7 +320,7 @@ fn put_own(
 }
 
 // How many gaps there are, and which is the best use's own.
-#[derive(Drop)]
+#[derive(Clone, Copy)]
 pub(crate) struct GapsCut {
     pub rows: usize,
     pub initial: usize,

@@ -10,7 +10,7 @@ use crate::cutting::cut_gaps;
 use crate::segments::fill_segments;
 
 // How many gaps there are, which is the best use's own, and how many gap segments there are.
-#[derive(Drop)]
+#[derive(Clone, Copy)]
 pub struct GapCounts {
     pub gaps: usize,
     pub initial: usize,

@@ -6,6 +6,8 @@
 // nonempty overlaps, and later rows are as they were. Gaps leave no hole, a gap's block carries the least frequency of those it meets, each
 // weight of a use stands in one gap (proofs/GapTable, Placed), and live instructions add up (proofs/JobGaps).
 // A caller should know: the links and the use table are those of the same job; its segments have passed the checks.
+#![tactic(auto)]
+
 mod cutting;
 pub mod gaps;
 mod segments;

@@ -5,5 +5,7 @@
 // and that evictions end.
 // A caller should know: growth sees gaps and what they meet through one record (`GapsSeen`), and nothing here walks. `region` calls these
 // functions; their `requires` are named predicates of specs/Columns.
+#![tactic(auto)]
+
 pub mod proposal;
 pub mod step;

@@ -9,7 +9,7 @@ use numbers::{Inst, MaybeInst};
 
 // A proposal: where the region begins and ends, its use weight and live instructions, the heaviest weight met, and what the
 // two cuts cost.
-#[derive(Drop)]
+#[derive(Clone, Copy)]
 pub struct SplitProposal {
     pub left: MaybeInst,
     pub right: MaybeInst,
@@ -20,7 +20,7 @@ pub struct SplitProposal {
 }
 
 // The proposal, or nothing where the best use's own gap fails.
-#[derive(Drop)]
+#[derive(Clone, Copy)]
 pub enum Region {
     Found(SplitProposal),
     Nothing,

@@ -8,7 +8,7 @@ ghost use Rattle.growth.specs.Columns.{turn_of, grown_with, came_with, tried_wit
 use links::lower::Side;
 
 // A region: the gaps from left to before right, their use weight and live instructions, and the heaviest weight met.
-#[derive(Drop)]
+#[derive(Clone, Copy)]
 pub struct Grown {
     pub left: usize,
     pub right: usize,
@@ -18,7 +18,7 @@ pub struct Grown {
 }
 
 // What came of a try: the region grew, or the gap meets something fixed, or the region with it can't evict the heaviest weight that it meets.
-#[derive(Drop)]
+#[derive(Clone, Copy)]
 pub enum Came {
     Grown,
     Fixed,
@@ -27,7 +27,7 @@ pub enum Came {
 
 // A try: the gap beside a region, the region with it and its normalised weight, and what came of it. What the region with the gap meets is
 // exact in every case.
-#[derive(Drop)]
+#[derive(Clone, Copy)]
 pub struct Tried {
     pub side: Side,
     pub gap: usize,
@@ -37,7 +37,7 @@ pub struct Tried {
 }
 
 // Growth so far: the region, and whether its sides are barred. A side that failed is barred for good.
-#[derive(Drop)]
+#[derive(Clone, Copy)]
 pub struct Growth {
     pub region: Grown,
     pub left_barred: bool,
@@ -45,7 +45,7 @@ pub struct Growth {
 }
 
 // The side that is tried next, or the end of growth.
-#[derive(Drop)]
+#[derive(Clone, Copy)]
 pub enum Turn {
     Try(Side),
     End,

@@ -8,7 +8,7 @@ use crate::rows;
 use numbers::{Inst, Point, Unit, Value};
 
 // A segment: its points, its value, its uses from first to before end, and flags.
-#[derive(Drop)]
+#[derive(Clone, Copy)]
 pub struct LiveSegment {
     pub start: Point,
     pub end: Point,
@@ -19,7 +19,7 @@ pub struct LiveSegment {
 }
 
 // A use, placed at an instruction.
-#[derive(Drop)]
+#[derive(Clone, Copy)]
 pub struct PlacedUse {
     pub position: Inst,
     pub kind: u32,
@@ -27,7 +27,7 @@ pub struct PlacedUse {
 }
 
 // A reservation: the unit that is held, and from which point to which.
-#[derive(Drop)]
+#[derive(Clone, Copy)]
 pub struct Held {
     pub unit: Unit,
     pub start: Point,
@@ -38,7 +38,7 @@ pub struct Held {
 }
 
 // A fixed use: the unit that is held, the point, and the value.
-#[derive(Drop)]
+#[derive(Clone, Copy)]
 pub struct HeldUse {
     pub unit: Unit,
     pub point: Point,

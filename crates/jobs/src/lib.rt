@@ -7,6 +7,8 @@
 // A caller should know: a row is read where it exists (`_at`, `cell`); no check has a `requires`. The rows of `rows` hold numbers as the
 // columns do: before its check a number is no index of anything. After the checks a row is read by `checked`, its indices as types;
 // definitions speak of the plain row all the same (specs/Checked).
+#![tactic(auto)]
+
 pub mod checked;
 pub mod checks;
 pub mod rows;

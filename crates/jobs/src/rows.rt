@@ -8,7 +8,7 @@ use columns::rows::shorter;
 
 // A segment of the virtual register: points from start to end, its value, its uses from first to before end, and flags: 1
 // live-in, 2 live-out, 4 fixed hint, 8 fixed def.
-#[derive(Drop)]
+#[derive(Clone, Copy)]
 pub struct Segment {
     pub start: u32,
     pub end: u32,
@@ -19,7 +19,7 @@ pub struct Segment {
 }
 
 // A use at an instruction.
-#[derive(Drop)]
+#[derive(Clone, Copy)]
 pub struct Use {
     pub position: u32,
     pub kind: u32,
@@ -27,7 +27,7 @@ pub struct Use {
 }
 
 // A reservation of a unit.
-#[derive(Drop)]
+#[derive(Clone, Copy)]
 pub struct Reservation {
     pub unit: u32,
     pub start: u32,
@@ -38,7 +38,7 @@ pub struct Reservation {
 }
 
 // A fixed use of a unit.
-#[derive(Drop)]
+#[derive(Clone, Copy)]
 pub struct FixedUse {
     pub unit: u32,
     pub point: u32,
@@ -46,7 +46,7 @@ pub struct FixedUse {
 }
 
 // What rows are held to: how many values, uses and spill weights there are, how many units, and the point at the last block's end.
-#[derive(Drop)]
+#[derive(Clone, Copy)]
 pub struct Limits {
     pub values: usize,
     pub uses: usize,

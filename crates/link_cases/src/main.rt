@@ -1,5 +1,7 @@
 // Document 01's case K: the lower links of frequencies 4, 2, 2 and 1, next and then previous; then the early and the late split
 // points of those blocks between any two instructions, a line for each `after`, with a refusal's number in brackets; then other lists.
+#![tactic(auto)]
+
 use libc::STDOUT_FILENO;
 use links::split::SplitPoint;
 use links::{lower, split};

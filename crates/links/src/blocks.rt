@@ -14,14 +14,14 @@ pub const ITEM_LIMIT: usize = 4096;
 const END_LIMIT: u32 = 262144;
 
 // A line of document 01's table, and its first offending place.
-#[derive(Drop)]
+#[derive(Clone, Copy)]
 pub struct Refusal {
     pub number: u32,
     pub place: u32,
 }
 
 // A table without fault, or its refusal.
-#[derive(Drop)]
+#[derive(Clone, Copy)]
 pub enum Checked {
     Sound,
     Refused(Refusal),

@@ -6,6 +6,8 @@
 // exactly if it breaks a line, by its first bad block; a link names the nearest lower block and nothing between is lower.
 // A caller should know: `check_blocks`, `count` and `find_optimal_split_point` have no `requires`. The other public functions serve
 // the layers above and rely on a block list that `check_blocks` has passed.
+#![tactic(auto)]
+
 pub mod blocks;
 pub mod lower;
 pub mod split;

@@ -8,7 +8,7 @@ ghost use Rattle.links.specs.Split.{reaches};
 use numbers::{Block, MaybeBlock};
 
 // The side of a block on which a lower one is looked for.
-#[derive(Drop)]
+#[derive(Clone, Copy)]
 pub enum Side {
     Previous,
     Next,

@@ -9,7 +9,7 @@ use crate::{blocks, lower};
 use numbers::{Block, Inst};
 
 // The instruction before which the split stands, or the refusal of the call.
-#[derive(Drop)]
+#[derive(Clone, Copy)]
 pub enum SplitPoint {
     At(Inst),
     Refused(Refusal),

@@ -7,6 +7,8 @@
 //
 // Each member's job is case J's: four instructions, a use at the first and at the last one. The best use's own gap is the first
 // instruction, so the use weight is the block's frequency. A fixed def on the third instruction keeps the region to that gap.
+#![tactic(auto)]
+
 ghost use Rattle.std.specs.Prelude.{◌≤◌, ◌≡◌, length};
 
 use libc::STDOUT_FILENO;
@@ -160,7 +162,7 @@ fn least_above(before: f32) -> u32
 }
 
 // A list of evictions as far as it goes: how many members, the bits of the last one's weight, and whether each was answered so.
-#[derive(Drop)]
+#[derive(Clone, Copy)]
 struct Evictions {
     members: u32,
     last: u32,

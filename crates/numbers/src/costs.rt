@@ -12,7 +12,7 @@ pub const SPILL_RELOAD_COST: f32 = 1.0;
 pub const MOVE_COST: f32 = 0.5;
 
 // The job's three scales for values that are computed again instead of reloaded.
-#[derive(Drop)]
+#[derive(Clone, Copy)]
 pub struct RematScales {
     pub cheaper_than_move: f32,
     pub cheaper_than_load: f32,

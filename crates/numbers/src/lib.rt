@@ -6,6 +6,8 @@
 // power -149, and a chain of weights above zero that each pass the weight test over the one before has at most 9,495 members.
 // A caller should know: no public function has a `requires` and none traps. What no accepted job holds (bits above the limits, a use
 // kind above 9) has an answer all the same, which the definition states.
+#![tactic(auto)]
+
 ghost use Rattle.std.specs.Prelude.{◌≡◌};
 ghost use Rattle.numbers.specs.Point.{inst_of, slot_of, round_up, slot_number};
 
@@ -15,41 +17,41 @@ pub mod pick;
 pub mod weights;
 
 // An instruction, by its place in the function.
-#[derive(Drop)]
+#[derive(Clone, Copy)]
 pub struct Inst(pub u32);
 
 // A block, by its place in the block list.
-#[derive(Drop)]
+#[derive(Clone, Copy)]
 pub struct Block(pub u32);
 
 // A value, by its place in the list of rematerialisation codes.
-#[derive(Drop)]
+#[derive(Clone, Copy)]
 pub struct Value(pub u32);
 
 // A unit of the physical register.
-#[derive(Drop)]
+#[derive(Clone, Copy)]
 pub struct Unit(pub u32);
 
 // A point, 4 times an instruction and a slot.
-#[derive(Drop)]
+#[derive(Clone, Copy)]
 pub struct Point(pub u32);
 
 // An instruction that may be absent.
-#[derive(Drop)]
+#[derive(Clone, Copy)]
 pub enum MaybeInst {
     At(Inst),
     Absent,
 }
 
 // A block that may be absent.
-#[derive(Drop)]
+#[derive(Clone, Copy)]
 pub enum MaybeBlock {
     At(Block),
     Absent,
 }
 
 // A slot within an instruction. No sound point has the last one.
-#[derive(Drop)]
+#[derive(Clone, Copy)]
 pub enum Slot {
     Boundary,
     Early,

@@ -17,7 +17,7 @@ pub const COST_LIMIT: u32 = 1199570944;
 const NAN_BITS: u32 = 2143289344;
 
 // A weight that may be absent, where bits are above their limit.
-#[derive(Drop)]
+#[derive(Clone, Copy)]
 pub enum MaybeWeight {
     At(f32),
     Absent,

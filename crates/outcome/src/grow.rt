@@ -11,7 +11,7 @@ use walks::meeting::Register;
 use work::fill::FilledTables;
 
 // What a job is answered: refused by document 01's table, none for want of a best use or of a region, or a proposal.
-#[derive(Drop)]
+#[derive(Clone, Copy)]
 pub enum Answer {
     Refused(Refusal),
     NoBestUse,
@@ -20,7 +20,7 @@ pub enum Answer {
 }
 
 // The answer, and how many rows of the use table, of the gaps and of the gap segments are used.
-#[derive(Drop)]
+#[derive(Clone, Copy)]
 pub struct Proposed {
     pub answer: Answer,
     pub uses: usize,

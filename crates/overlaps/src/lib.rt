@@ -5,5 +5,7 @@
 // behind those stored, and all other rows as they were. The laws of live instructions and of gap segments.
 // A caller should know: these functions serve the layer above. Each `requires` is a named predicate of specs/ that the checks of `jobs`,
 // or the gaps, establish.
+#![tactic(auto)]
+
 pub mod live;
 pub mod passing;

@@ -36,7 +36,7 @@ fn put_overlap(
 }
 
 // A segment on its way through the gaps: its points, its value, and its live instructions, from one to before another.
-#[derive(Drop)]
+#[derive(Clone, Copy)]
 pub struct PassingSegment {
     pub start: Point,
     pub end: Point,
@@ -65,7 +65,7 @@ pub fn segment_at(start: &[u32], end: &[u32], value: &[u32], i: usize, last: Ins
 }
 
 // The first gap that a later segment may lie in, how many live instructions are held of it, and how many gap segments are stored.
-#[derive(Drop)]
+#[derive(Clone, Copy)]
 pub struct Passed {
     pub gap: usize,
     pub held: u32,

@@ -6,4 +6,6 @@
 // two.
 // A caller should know: there is no `requires`. Columns of a table may differ in length; the shortest counts. A refused job changes
 // nothing.
+#![tactic(auto)]
+
 pub mod propose;

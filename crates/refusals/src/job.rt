@@ -7,7 +7,7 @@ use jobs::rows;
 use links::blocks;
 
 // The adjustment k, the bits of the three scales, and the number of units.
-#[derive(Drop)]
+#[derive(Clone, Copy)]
 pub struct Parameters {
     pub k: u32,
     pub cheaper_than_move: u32,
@@ -17,7 +17,7 @@ pub struct Parameters {
 }
 
 // How many items each input table has.
-#[derive(Drop)]
+#[derive(Clone, Copy)]
 pub struct Sizes {
     pub blocks: usize,
     pub values: usize,

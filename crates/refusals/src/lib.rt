@@ -6,6 +6,8 @@
 // it is broken. proofs/Accepted says what an accepted job satisfies.
 // A caller should know: it has no `requires`, and nothing is lent to be written. The functions of groups of lines (`lines`) are
 // for this crate alone: each relies on the lines before its own. Line 12 speaks of lent tables, and is asked in `rooms`.
+#![tactic(auto)]
+
 pub mod job;
 pub mod lines;
 pub mod refusals;

@@ -2,5 +2,7 @@
 //
 // Here: `find_in_tables`, and in it `find_split_region`, which grows the region try by try, each a walk over the gap segments of one gap.
 // Proved: what is found is the region of `growth`'s definition, for what growth sees of the lent columns.
+#![tactic(auto)]
+
 pub mod find;
 mod one_try;

@@ -10,7 +10,7 @@ use walks::both::Walkers;
 use walks::meeting::Register;
 
 // A try, and the walkers behind the gap that was tried.
-#[derive(Drop)]
+#[derive(Clone, Copy)]
 pub(crate) struct Attempt {
     pub tried: Tried,
     pub walkers: Walkers,

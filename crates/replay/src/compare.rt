@@ -44,7 +44,7 @@ fn answer_agrees(record: usize, out: &[u8], w: Written, recorded: &[u8]) -> bool
 }
 
 // The first line of a text that another text has not: its number, and where it starts.
-#[derive(Drop)]
+#[derive(Clone, Copy)]
 struct Line {
     number: usize,
     at: usize,

@@ -64,7 +64,7 @@ fn put(long: &mut [u32], at: usize, number: u32) {
 }
 
 // How many items of each kind were read; the kind whose table is lengthened, and to how many items.
-#[derive(Drop)]
+#[derive(Clone, Copy)]
 struct Sizes {
     read: [usize; KINDS],
     kind: usize,

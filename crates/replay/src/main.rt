@@ -3,6 +3,8 @@
 //
 // Of each file it prints how many records agree, or calls for the lower-cost split point, where its records are block lists. A difference
 // is named by its record, and by its line among the tables or its call; places count from 0.
+#![tactic(auto)]
+
 mod compare;
 mod long;
 mod points;
@@ -67,7 +69,7 @@ fn record_agrees(
 }
 
 // A record's end, behind its line `=`.
-#[derive(Drop)]
+#[derive(Clone, Copy)]
 struct Replayed {
     agrees: bool,
     end: usize,

@@ -66,7 +66,7 @@ fn call_width(text: &[u8], at: usize) -> usize
 }
 
 // How many calls were made, how many of them are answered as recorded, and where the text goes on.
-#[derive(Drop)]
+#[derive(Clone, Copy)]
 struct Called {
     calls: usize,
     agree: usize,

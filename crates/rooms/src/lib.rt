@@ -5,5 +5,7 @@
 // Proved: the answer is that of specs/Rooms, the list of lines of `refusals` with line 12 behind it. proofs/Refused says that a refusal
 // names a line and a place exactly if the line is broken there, at no place before, and no line before it is broken.
 // A caller should know: `check_job` has no `requires`, and nothing is lent to be written: a table is given by its number of rows.
+#![tactic(auto)]
+
 pub mod job;
 pub mod rooms;

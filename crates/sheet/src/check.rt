@@ -12,7 +12,7 @@ const BAD_LINE: u32 = 14;
 const TOO_MANY: u32 = 15;
 
 // What a text, or a reading, comes to: a number and a line where it is refused; no room where the lent cells are too few.
-#[derive(Drop)]
+#[derive(Clone, Copy)]
 pub enum Verdict {
     Sound,
     Refused(u32, u32),
@@ -20,7 +20,7 @@ pub enum Verdict {
 }
 
 // A verdict, and where it is Sound how many lines of each kind there are.
-#[derive(Drop)]
+#[derive(Clone, Copy)]
 pub struct Reading {
     pub verdict: Verdict,
     pub counts: [usize; kinds::KINDS],
@@ -109,7 +109,7 @@ fn is_complete(n: usize, m: usize) -> bool
 }
 
 // What stands at a place: a line in order, with its kind and where it ends, or none.
-#[derive(Drop)]
+#[derive(Clone, Copy)]
 enum Next {
     Line(usize, usize),
     Bad,

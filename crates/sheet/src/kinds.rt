@@ -26,7 +26,7 @@ pub const FEW: usize = 128;
 pub const MANY: usize = 256;
 
 // Whether a sheet has exactly one line of a kind, at most one, or any number up to the kind's limit.
-#[derive(Drop)]
+#[derive(Clone, Copy)]
 pub enum Asked {
     ExactlyOne,
     AtMostOne,
@@ -34,7 +34,7 @@ pub enum Asked {
 }
 
 // A kind: its letter, how many fields a line has, how many lines a sheet may have, and what is asked of their number.
-#[derive(Drop)]
+#[derive(Clone, Copy)]
 pub struct Kind {
     pub letter: u8,
     pub fields: usize,

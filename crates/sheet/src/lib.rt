@@ -10,6 +10,8 @@
 // A caller should know: no public entry point has a `requires`. Too few cells, or a buffer that is too short, is an
 // answer of its own. Column c of kind k starts at cell column_of(k, c), kinds by name (kinds::P and so on), and as many of
 // its cells as the kind has rows are in use. The limits belong to this layer alone.
+#![tactic(auto)]
+
 mod check;
 mod field;
 mod fill;

@@ -7,14 +7,14 @@ ghost use Rattle.sheet.specs.Answer.{end_text, ends_text, weights_text, figures_
 use crate::field::put_number;
 
 // An end of a proposal: an instruction, or none.
-#[derive(Drop)]
+#[derive(Clone, Copy)]
 pub enum End {
     At(u32),
     Absent,
 }
 
 // A proposal's record, and its normalised use weight in thousandths.
-#[derive(Drop)]
+#[derive(Clone, Copy)]
 pub struct Figures {
     pub left: End,
     pub right: End,
@@ -26,7 +26,7 @@ pub struct Figures {
 }
 
 // What a job is answered: a proposal, none with its kind, a refusal with its number and place.
-#[derive(Drop)]
+#[derive(Clone, Copy)]
 pub enum Answer {
     Proposal(Figures),
     NoneOf(u32),
@@ -34,7 +34,7 @@ pub enum Answer {
 }
 
 // How many bytes were written, or that the buffer is too short.
-#[derive(Drop)]
+#[derive(Clone, Copy)]
 pub enum Written {
     Bytes(usize),
     NoRoom,

@@ -1,6 +1,8 @@
 // Runs the sheets that standard input holds, and prints what each comes to: the refusal's line, or S, the counts and a sum
 // of the cells. Then too few cells, a line of a megabyte, and answers. gen.py writes the input and what is to be printed.
 // A sheet is a list of pieces: how often and how long, in six digits each, a line feed, the bytes; 0 times ends it.
+#![tactic(auto)]
+
 ghost use Rattle.std.specs.Prelude.{◌≡◌, ◌≤◌, ◌<◌, length};
 
 use sheet::kinds::KINDS;

@@ -4,6 +4,8 @@
 // and o. Where nothing can be read, one line on standard error says why, and nothing is answered. No more than 65,536 bytes are read:
 // those of a text that has more decide its answer (proofs/Front.antt of `answers`). The work tables have room for every sheet
 // (proofs/Rooms.antt there). What is read and written is not proved; the work is done by `answer_sheet`, on slices.
+#![tactic(auto)]
+
 ghost use Rattle.std.specs.Prelude.{◌≤◌, ◌≡◌, length};
 ghost use Rattle.io.specs.Counts.{IsPrefixLen};
 
@@ -14,14 +16,14 @@ use sheet::{Written, same};
 
 // What the arguments ask for: whether the tables are printed, and which argument names the sheet, 0 for standard input. Refused: it was
 // said why not.
-#[derive(Drop)]
+#[derive(Clone, Copy)]
 enum Asked {
     Sheet(bool, usize),
     Refused,
 }
 
 // How many bytes were read, or that reading failed.
-#[derive(Drop)]
+#[derive(Clone, Copy)]
 struct Got {
     bytes: usize,
     failed: bool,

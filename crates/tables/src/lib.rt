@@ -4,4 +4,6 @@
 // Proved: for every input its answer and all sixteen lent columns are those of specs/Filled.
 // A caller should know: there is no `requires`. Columns of a table may differ in length; the shortest counts. A refused job changes
 // nothing.
+#![tactic(auto)]
+
 pub mod fill;

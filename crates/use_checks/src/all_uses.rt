@@ -100,7 +100,7 @@ fn begins_lower(position: &[u32], kind: &[u32], cost: &[u32], s: Segment) -> boo
 }
 
 // How many segments have a list that strays, and how many one that begins lower than the list before ended.
-#[derive(Drop)]
+#[derive(Clone, Copy)]
 struct ListCounts {
     pub strays: usize,
     pub lower: usize,

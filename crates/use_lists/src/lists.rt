@@ -18,7 +18,7 @@ use use_rows::row::{Part, SplitUse, added_to, no_weights, part_of, put_use, use_
 
 // How far the collection is: the rows stored, the latest row, which is not, and the block of the latest use listed, from which the
 // next one's is found.
-#[derive(Drop)]
+#[derive(Clone, Copy)]
 pub struct Collected {
     pub rows: usize,
     pub latest: SplitUse,
@@ -149,7 +149,7 @@ fn count_use(
 }
 
 // A use and its block.
-#[derive(Drop)]
+#[derive(Clone, Copy)]
 struct FoundUse {
     pub row: PlacedUse,
     pub block: Block,

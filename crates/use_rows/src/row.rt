@@ -8,7 +8,7 @@ use jobs::checked::LiveSegment;
 use numbers::Inst;
 
 // Which of a row's weights a use adds to.
-#[derive(Drop)]
+#[derive(Clone, Copy)]
 pub enum Part {
     Main,
     Left,
@@ -16,7 +16,7 @@ pub enum Part {
 }
 
 // A row of the use table: an instruction, the weight of its uses, and what counts only if a region extends to its left or right.
-#[derive(Drop)]
+#[derive(Clone, Copy)]
 pub struct SplitUse {
     pub inst: Inst,
     pub weight: f32,
@@ -25,7 +25,7 @@ pub struct SplitUse {
 }
 
 // A row of the use table, or none.
-#[derive(Drop)]
+#[derive(Clone, Copy)]
 pub enum BestUse {
     At(usize),
     Nothing,

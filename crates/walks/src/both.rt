@@ -18,21 +18,21 @@ use links::lower::Side;
 use numbers::{Point, Unit};
 
 // Where the walks of one unit begin.
-#[derive(Drop)]
+#[derive(Clone, Copy)]
 struct Places {
     pub left: usize,
     pub right: usize,
 }
 
 // A walker to each side.
-#[derive(Drop)]
+#[derive(Clone, Copy)]
 pub struct Walkers {
     pub left: LeftWalker,
     pub right: RightWalker,
 }
 
 // What was met, and the walkers behind it.
-#[derive(Drop)]
+#[derive(Clone, Copy)]
 pub struct TookGap {
     pub met: Met,
     pub walkers: Walkers,

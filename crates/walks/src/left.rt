@@ -6,13 +6,13 @@ use crate::meeting::Met;
 use crate::walk::{Took, Walk};
 
 // A walk to the left.
-#[derive(Drop)]
+#[derive(Clone, Copy)]
 pub struct LeftWalker {
     pub walk: Walk,
 }
 
 // What was met, and the walker behind it.
-#[derive(Drop)]
+#[derive(Clone, Copy)]
 pub struct TookLeft {
     pub met: Met,
     pub walker: LeftWalker,

@@ -7,6 +7,8 @@
 // Both are exact in every case, the heaviest also where something is fixed. Each law is one for both sides (specs/Ways, proofs/Ways).
 // A caller should know: a walk traps on nothing if its places lie within the rows (`Fits`). It is exact if the rows and fixed uses are as lines
 // 10 and 11 leave them (proofs/Checked), gap segments are in order, and it stands at the gap's near edge (specs/Standing, specs/Gaps).
+#![tactic(auto)]
+
 pub mod both;
 mod gap_rows;
 pub mod left;

@@ -16,7 +16,7 @@ use numbers::weights::{heavier, weight_of};
 use numbers::{Point, Unit, Value};
 
 // A gap segment: points from one to before another, and a value.
-#[derive(Drop)]
+#[derive(Clone, Copy)]
 pub struct GapSegment {
     pub from: Point,
     pub to: Point,
@@ -24,14 +24,14 @@ pub struct GapSegment {
 }
 
 // A physical register: its first unit, and how many units it has.
-#[derive(Drop)]
+#[derive(Clone, Copy)]
 pub struct Register {
     pub first: Unit,
     pub units: u32,
 }
 
 // What was met so far: whether something counts as fixed, and the heaviest weight.
-#[derive(Drop)]
+#[derive(Clone, Copy)]
 pub struct Met {
     pub fixed: bool,
     pub heaviest: f32,

@@ -6,13 +6,13 @@ use crate::meeting::Met;
 use crate::walk::{Took, Walk};
 
 // A walk to the right.
-#[derive(Drop)]
+#[derive(Clone, Copy)]
 pub struct RightWalker {
     pub walk: Walk,
 }
 
 // What was met, and the walker behind it.
-#[derive(Drop)]
+#[derive(Clone, Copy)]
 pub struct TookRight {
     pub met: Met,
     pub walker: RightWalker,

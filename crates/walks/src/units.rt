@@ -9,7 +9,7 @@ use jobs::rows::{fixed_use_count, reservation_count};
 use numbers::Unit;
 
 // The rows of a unit: from one to before another.
-#[derive(Drop)]
+#[derive(Clone, Copy)]
 pub(crate) struct UnitRows {
     pub from: usize,
     pub to: usize,

@@ -15,21 +15,21 @@ use links::lower::Side;
 use numbers::Unit;
 
 // Where a walk stands: at a place among the gap segments' rows, and for each unit of the register, in turn, at a place among its rows.
-#[derive(Drop)]
+#[derive(Clone, Copy)]
 pub struct Walk {
     pub next: usize,
     pub at: [usize; 8],
 }
 
 // What was met, and the walk behind it.
-#[derive(Drop)]
+#[derive(Clone, Copy)]
 pub struct Took {
     pub met: Met,
     pub walk: Walk,
 }
 
 // What was met, and where the walk stands in the unit.
-#[derive(Drop)]
+#[derive(Clone, Copy)]
 struct Walked {
     pub at: usize,
     pub met: Met,

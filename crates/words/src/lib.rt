@@ -4,4 +4,6 @@
 // words, which whoever evicts enters for it.
 // Proved: the words are those of specs/Words for every answer, and so the bits for every input. Evictions end where each proposal is
 // entered with the normalised weight of its words (proofs/Entered).
+#![tactic(auto)]
+
 pub mod words;

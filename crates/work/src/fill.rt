@@ -14,7 +14,7 @@ use numbers::costs::RematScales;
 use use_rows::row::BestUse;
 
 // How many rows of the use table, of the gaps and of the gap segments are used, and which gap is the best use's own.
-#[derive(Drop)]
+#[derive(Clone, Copy)]
 pub struct ReadyTables {
     pub uses: usize,
     pub gaps: usize,
@@ -23,7 +23,7 @@ pub struct ReadyTables {
 }
 
 // What came of filling a job's tables: refused, filled with links and so many uses where there is no best use, or ready for growth.
-#[derive(Drop)]
+#[derive(Clone, Copy)]
 pub enum FilledTables {
     Refused(Refusal),
     NoBestUse(usize),

@@ -13,16 +13,8 @@ use lib.Dec.{ltb, leb}
 use lib.ListN.{length, get_or}
 use Rattle.columns.specs.First.{FirstIn, Rising}
 use Rattle.columns.proofs.Firsts.{split}
-use Rattle.columns.proofs.search.first_at_least.Statement.{statement}
-use Rattle.columns.proofs.search.first_at_least.Tie as tie
-
--- the first place lies from base on, and at most at base + size
-pub record Between (col : List ℕ) (lo hi x base size : ℕ) : Type 0 where
-  pub some : 0 < size
-  pub from : lo ≤ base
-  pub to : base + size ≤ hi
-  pub passed : Rising col lo hi → (k : ℕ) → lo ≤ k → k < base → get_or col k 0 < x
-  pub reached : Rising col lo hi → (k : ℕ) → base + size ≤ k → k < hi → x ≤ get_or col k 0
+use Rattle.columns.proofs.search.first_at_least.Invariants.{Between}
+use Rattle.columns.proofs.search.first_at_least.Goals as goal
 
 -- a number is below x, or it is not
 data Below (n x r : ℕ) : Type 0 where
@@ -115,129 +107,75 @@ ended col lo hi x base size r b h e = by (by_test (get_or col base 0) x r e)
           },
         )
 
-abbrev invariant-loop : tie.invariant-loop
-invariant-loop col lo hi x base₀ size₀ base size =
-    Between col lo hi x base size
-
-abbrev decreases-loop : tie.decreases-loop
-decreases-loop col lo hi x base₀ size₀ base size = size
-
-returns : tie.Need-returns invariant-loop decreases-loop
-returns c =
-    let o = c.before.before.requires.0 in
+pub returns-then-lo-hi : goal.returns-then-lo-hi
+returns-then-lo-hi c =
+    let o = c.requires.0 in
     (o, omega arith, λ s. record { from = o; to = omega arith; passed = λ k p q. absurd (omega arith); found = λ p. absurd (omega arith) })
 
-sub-size : tie.Need-overflow-sub-size invariant-loop decreases-loop
-sub-size c = let o = c.before.before.requires.0 in omega arith
+pub overflow_sub-size : goal.overflow_sub-size
+overflow_sub-size c = let o = c.requires.0 in omega arith
 
-loop-holds : tie.Need-loop-init invariant-loop decreases-loop
-loop-holds c =
-    let o = c.before.before.requires.0 in
+pub loop-size-init : goal.loop-size-init
+loop-size-init c =
+    let o = c.requires.0 in
     record { some = omega arith; from = omega arith; to = omega arith; passed = λ s k p q. absurd (omega arith); reached = λ s k p q. absurd (omega arith) }
 
-add-below : tie.Need-overflow-add-below invariant-loop decreases-loop
-add-below c = omega arith
+pub offset_bounds-col-base : goal.offset_bounds-col-base
+offset_bounds-col-base c =
+    let i = c.requires.1 in
+    let t = c.loop-size.invariant.to in
+    let n = c.loop-size-test.true in
+    scaled_Fits _ (length c.args.col.now) 4 (omega arith) c.well_formed.0.1
 
-mul-below : tie.Need-overflow-mul-below invariant-loop decreases-loop
-mul-below c =
-    let i = c.before.before.before.before.requires.1 in
-    let t = c.before.loop.invariant.to in
-    let n = c.loop-test.true in
-    scaled_Fits _ (length c.before.before.before.before.args.col.now) 4 (omega arith) c.before.before.before.before.well-formed.0.1
-
-shared-slice-read-below : tie.Need-shared-slice-read-below invariant-loop decreases-loop
-shared-slice-read-below c =
-    let i = c.before.before.before.before.before.requires.1 in
-    let t = c.before.before.loop.invariant.to in
+pub bounds-col-base : goal.bounds-col-base
+bounds-col-base c =
+    let i = c.requires.1 in
+    let t = c.loop-size.invariant.to in
     omega arith
 
-below-requires : tie.Need-below-requires invariant-loop decreases-loop
-below-requires c κs = tt
-
-mul-base : tie.Need-overflow-mul-base invariant-loop decreases-loop
-mul-base c =
-    let at-loop = c.before.before.before in
-    let at-args = at-loop.before.before.before in
-    let m = at_most (at-loop.loop.size / 2) (get_or at-args.args.col.now (at-loop.loop.base + at-loop.loop.size / 2) 0)
-    at-args.args.x c.below.result c.below.ensures in
+pub overflow_mul-base : goal.overflow_mul-base
+overflow_mul-base c =
+    let m = at_most (c.loop-size.size / 2) (get_or c.args.col.now (c.loop-size.base + c.loop-size.size / 2) 0)
+    c.args.x c.below.result c.below.ensures in
     omega (arith, m)
 
-add-base : tie.Need-overflow-add-base invariant-loop decreases-loop
-add-base c =
-    let at-loop = c.before.before.before in
-    let at-args = at-loop.before.before.before in
-    let m = at_most (at-loop.loop.size / 2) (get_or at-args.args.col.now (at-loop.loop.base + at-loop.loop.size / 2) 0)
-    at-args.args.x c.below.result c.below.ensures in
-    let t = at-loop.loop.invariant.to in
+pub overflow_add-base-in-loop-size : goal.overflow_add-base-in-loop-size
+overflow_add-base-in-loop-size c =
+    let m = at_most (c.loop-size.size / 2) (get_or c.args.col.now (c.loop-size.base + c.loop-size.size / 2) 0)
+    c.args.x c.below.result c.below.ensures in
+    let t = c.loop-size.invariant.to in
     omega (arith, m, t)
 
-sub-size-2 : tie.Need-overflow-sub-size-2 invariant-loop decreases-loop
-sub-size-2 c = omega arith
-
-loop-less : tie.Need-loop-smaller invariant-loop decreases-loop
-loop-less c = omega arith
-
-loop-again : tie.Need-loop-preserved invariant-loop decreases-loop
-loop-again c =
-    let at-loop = c.before.before.before in
-    let at-args = at-loop.before.before.before in
-    let a = at-args.args in
-    let l = at-loop.loop in
+pub loop-size-preserved : goal.loop-size-preserved
+loop-size-preserved c =
+    let a = c.args in
+    let l = c.loop-size in
     halved a.col.now a.lo a.hi a.x l.base l.size c.below.result l.invariant (omega arith)
     c.below.ensures
 
-mul-below-2 : tie.Need-overflow-mul-below-2 invariant-loop decreases-loop
-mul-below-2 c =
-    let i = c.before.before.before.before.requires.1 in
-    let t = c.before.loop.invariant.to in
-    let n = c.before.loop.invariant.some in
-    scaled_Fits _ (length c.before.before.before.before.args.col.now) 4 (omega arith) c.before.before.before.before.well-formed.0.1
+pub offset_bounds-col-base-2 : goal.offset_bounds-col-base-2
+offset_bounds-col-base-2 c =
+    let i = c.requires.1 in
+    let t = c.loop-size.invariant.to in
+    let n = c.loop-size.invariant.some in
+    scaled_Fits _ (length c.args.col.now) 4 (omega arith) c.well_formed.0.1
 
-shared-slice-read-below-2 : tie.Need-shared-slice-read-below-2 invariant-loop decreases-loop
-shared-slice-read-below-2 c =
-    let i = c.before.before.before.before.before.requires.1 in
-    let t = c.before.before.loop.invariant.to in
-    let n = c.before.before.loop.invariant.some in
+pub bounds-col-base-2 : goal.bounds-col-base-2
+bounds-col-base-2 c =
+    let i = c.requires.1 in
+    let t = c.loop-size.invariant.to in
+    let n = c.loop-size.invariant.some in
     omega arith
 
-below-requires-2 : tie.Need-below-requires-2 invariant-loop decreases-loop
-below-requires-2 c κs = tt
-
-add-result : tie.Need-overflow-add-result invariant-loop decreases-loop
-add-result c =
-    let at-loop = c.before.before.before in
-    let at-args = at-loop.before.before.before in
-    let m = at_most 1 (get_or at-args.args.col.now at-loop.loop.base 0) at-args.args.x c.below2.result
-    c.below2.ensures in
-    let t = at-loop.loop.invariant.to in
+pub overflow_add-result : goal.overflow_add-result
+overflow_add-result c =
+    let m = at_most 1 (get_or c.args.col.now c.loop-size.base 0) c.args.x c.below-2.result
+    c.below-2.ensures in
+    let t = c.loop-size.invariant.to in
     omega (arith, m, t)
 
-returns-2 : tie.Need-returns-2 invariant-loop decreases-loop
-returns-2 c =
-    let a = c.before.before.before.before.before.before.args in
-    let l = c.before.before.before.loop in
-    ended a.col.now a.lo a.hi a.x l.base l.size c.below2.result l.invariant (omega arith) c.below2.ensures
-
-pub first-at-least-spec : {M : Type 1} → statement M
-first-at-least-spec =
-    tie.close
-    (tie.spec
-    invariant-loop
-    decreases-loop
-    returns
-    sub-size
-    loop-holds
-    add-below
-    mul-below
-    shared-slice-read-below
-    below-requires
-    mul-base
-    add-base
-    sub-size-2
-    loop-less
-    loop-again
-    mul-below-2
-    shared-slice-read-below-2
-    below-requires-2
-    add-result
-    returns-2)
+pub returns : goal.returns
+returns c =
+    let a = c.args in
+    let l = c.loop-size in
+    ended a.col.now a.lo a.hi a.x l.base l.size c.below-2.result l.invariant (omega arith) c.below-2.ensures

@@ -4,12 +4,10 @@ use mathlib.Core.Logic.{⊎_elim}
 use mathlib.Core.Bool.{Bool, cond}
 use Prim.Native.Nat.{ℕ, ◌+◌, ◌-◌, ◌/◌, ◌≤◌, ◌<◌}
 use native.Mathlib.Omega.{arith}
-use borrow.Author.Rules.{rules}
 use borrow.Author.Tests.{lt-ltb, le-ltb}
 use lib.Dec.{ltb}
 use Rattle.columns.proofs.Firsts.{split}
-use Rattle.columns.proofs.search.below.Statement.{statement}
-use Rattle.columns.proofs.search.below.Tie as tie
+use Rattle.columns.proofs.search.below.Goals as goal
 
 -- the difference reaches 2 ^ 63 exactly if n is below x
 carry : (n x : ℕ) → n < 4294967296 → x < 4294967296 → (x + 9223372036854775807 - n) / 9223372036854775808 ≡ cond (ltb n x) 1 0
@@ -21,14 +19,5 @@ carry n x a b =
     ∙ sym (ap (λ (t : Bool). cond t 1 0) (le-ltb n x h)))
     (split n x)
 
-add-result : tie.Need-overflow-add-result
-add-result c = search rules
-
-sub-result : tie.Need-overflow-sub-result
-sub-result c = search rules
-
-returns : tie.Need-returns
+pub returns : goal.returns
 returns c = carry c.args.n c.args.x (omega arith) (omega arith)
-
-pub below-spec : {M : Type 1} → statement M
-below-spec = tie.close (tie.spec add-result sub-result returns)

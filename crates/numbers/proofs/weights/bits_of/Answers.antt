@@ -6,9 +6,7 @@ use lib.Ieee.{Float, nan, inf, fin, ne, is_nan}
 use lib.Ieee.Compare.{differs_from_itself, nan_differs}
 use denote.Floats.{passes}
 use Rattle.numbers.proofs.Bits.{nan_bits}
-use borrow.Author.Rules.{rules}
-use Rattle.numbers.proofs.weights.bits_of.Statement.{statement}
-use Rattle.numbers.proofs.weights.bits_of.Tie as tie
+use Rattle.numbers.proofs.weights.bits_of.Goals as goal
 
 not_nan : (x : Float) → ne x x ≡ false → T (not (is_nan x))
 unfolding is_nan
@@ -16,14 +14,8 @@ not_nan nan e = absurd (true≢false (sym nan_differs ∙ e))
 not_nan (inf s) e = tt
 not_nan (fin s m e) h = tt
 
-returns : tie.Need-returns
-returns c = nan_bits c.before.args.w (differs_from_itself c.before.args.w (passes _ c.if1.true))
+pub returns-then-w : goal.returns-then-w
+returns-then-w c = nan_bits c.args.w (differs_from_itself c.args.w (passes _ c.if-w.true))
 
-float-to-bits-result : tie.Need-float-to-bits-result
-float-to-bits-result c = not_nan c.before.args.w c.if1.false
-
-returns-2 : tie.Need-returns-2
-returns-2 c = search rules
-
-pub bits-of-spec : {M : Type 1} → statement M
-bits-of-spec = tie.close (tie.spec returns float-to-bits-result returns-2)
+pub float_to_bits-result : goal.float_to_bits-result
+float_to_bits-result c = not_nan c.args.w c.if-w.false
