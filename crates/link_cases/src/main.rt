@@ -2,63 +2,73 @@
 // points of those blocks between any two instructions, a line for each `after`, with a refusal's number in brackets; then other lists.
 #![tactic(auto)]
 
-use libc::STDOUT_FILENO;
 use links::split::SplitPoint;
 use links::{lower, split};
 use numbers::Inst;
+use std::io;
 
-fn print_number(n: u32) {
-    io::write_all(STDOUT_FILENO, b" ");
-    io::print_decimal(STDOUT_FILENO, n as u64);
+fn print_number(rt: &impl Print, n: u32) -> io::Result<()> {
+    print!(rt; " {n}")
 }
 
-fn end_line() {
-    io::write_all(STDOUT_FILENO, b"\n");
+fn end_line(rt: &impl Print) -> io::Result<()> {
+    println!(rt; "")
 }
 
-fn print_links(column: &[u32]) {
+fn print_links(rt: &impl Print, column: &[u32]) -> io::Result<()> {
     let mut i = 0;
     while i < column.len() {
-        print_number(column[i]);
+        print_number(rt, column[i])?;
         i += 1;
     }
-    end_line();
+    end_line(rt)
 }
 
-fn print_point(p: SplitPoint) {
+fn print_point(rt: &impl Print, p: SplitPoint) -> io::Result<()> {
     match p {
-        SplitPoint::At(i) => {
-            print_number(i.0);
-        }
-        SplitPoint::Refused(r) => {
-            io::write_all(STDOUT_FILENO, b" (");
-            io::print_decimal(STDOUT_FILENO, r.number as u64);
-            io::write_all(STDOUT_FILENO, b")");
-        }
+        SplitPoint::At(i) => print_number(rt, i.0),
+        SplitPoint::Refused(r) => print!(rt; " ({})", r.number),
     }
 }
 
-fn print_row(freq: &[u32], first: &[u32], end: &[u32], after: u32, prefer_early: bool) {
+fn print_row(
+    rt: &impl Print,
+    freq: &[u32],
+    first: &[u32],
+    end: &[u32],
+    after: u32,
+    prefer_early: bool,
+) -> io::Result<()> {
     for before in 0..12 {
-        print_point(split::find_optimal_split_point(
-            freq,
-            first,
-            end,
-            Inst(after),
-            Inst(before),
-            prefer_early,
-        ));
+        print_point(
+            rt,
+            split::find_optimal_split_point(
+                freq,
+                first,
+                end,
+                Inst(after),
+                Inst(before),
+                prefer_early,
+            ),
+        )?;
     }
-    end_line();
+    end_line(rt)
 }
 
-fn print_points(freq: &[u32], first: &[u32], end: &[u32], prefer_early: bool) {
+fn print_points(
+    rt: &impl Print,
+    freq: &[u32],
+    first: &[u32],
+    end: &[u32],
+    prefer_early: bool,
+) -> io::Result<()> {
     for after in 0..11 {
-        print_row(freq, first, end, after, prefer_early);
+        print_row(rt, freq, first, end, after, prefer_early)?;
     }
+    Ok(())
 }
 
-fn main() {
+fn main(rt: HostRuntime) -> io::Result<()> {
     let freq = [1082130432u32, 1073741824, 1073741824, 1065353216];
     let first = [0u32, 2, 5, 6];
     let end = [2u32, 5, 6, 10];
@@ -66,15 +76,15 @@ fn main() {
     let mut prev = [7u32; 5];
     let mut next = [7u32; 5];
     lower::prepare(&freq, &mut prev, &mut next);
-    print_links(&next);
-    print_links(&prev);
-    print_points(&freq, &first, &end, true);
-    print_points(&freq, &first, &end, false);
+    print_links(&rt, &next)?;
+    print_links(&rt, &prev)?;
+    print_points(&rt, &freq, &first, &end, true)?;
+    print_points(&rt, &freq, &first, &end, false)?;
     // the same blocks with frequencies 1, 2, 2, 4: late split points have links to follow
     let rising = [1065353216u32, 1073741824, 1073741824, 1082130432];
-    print_points(&rising, &first, &end, true);
-    print_points(&rising, &first, &end, false);
+    print_points(&rt, &rising, &first, &end, true)?;
+    print_points(&rt, &rising, &first, &end, false)?;
     // no block, and a hole
-    print_points(&[], &[], &[], true);
-    print_points(&freq, &[0u32, 2, 4, 6], &end, true);
+    print_points(&rt, &[], &[], &[], true)?;
+    print_points(&rt, &freq, &[0u32, 2, 4, 6], &end, true)
 }

@@ -11,12 +11,12 @@
 
 ghost use Rattle.std.specs.Prelude.{◌≤◌, ◌≡◌, length};
 
-use libc::STDOUT_FILENO;
 use numbers::normal::{normalize_spill_weight, strictly_exceeds};
 use numbers::weights::{FREQUENCY_LIMIT, bits_of, weight_of};
 use outcome::grow::Answer;
 use proposer::propose::propose_split;
 use refusals::job::Parameters;
+use std::io;
 
 // The bits of 1.0.
 const ONE: u32 = 1065353216;
@@ -195,28 +195,23 @@ fn run() -> Evictions {
     }
 }
 
-fn print_number(name: &[u8], n: u32) {
-    io::write_all(STDOUT_FILENO, name);
-    io::print_decimal(STDOUT_FILENO, n as u64);
-    io::write_all(STDOUT_FILENO, b"\n");
+fn print_number(rt: &impl Print, name: &str, n: u32) -> io::Result<()> {
+    println!(rt; "{name}{n}")
 }
 
-fn main() {
+fn main(rt: HostRuntime) -> io::Result<()> {
     let e = run();
-    io::print_decimal(STDOUT_FILENO, e.members as u64);
+    let members = e.members;
     if e.agree {
-        io::write_all(
-            STDOUT_FILENO,
-            b" proposals, each meets the weight of the one before\n",
-        );
+        println!(rt; "{members} proposals, each meets the weight of the one before")?;
     } else {
-        io::write_all(STDOUT_FILENO, b" proposals, and then another answer\n");
+        println!(rt; "{members} proposals, and then another answer")?;
     }
-    print_number(b"first ", least_above(0.0));
-    print_number(b"last ", e.last);
+    print_number(&rt, "first ", least_above(0.0))?;
+    print_number(&rt, "last ", e.last)?;
     if strictly_exceeds(weight_of(FREQUENCY_LIMIT), weight_of(e.last)) {
-        io::write_all(STDOUT_FILENO, b"a weight passes over the last\n");
+        println!(rt; "a weight passes over the last")
     } else {
-        io::write_all(STDOUT_FILENO, b"no weight passes over the last\n");
+        println!(rt; "no weight passes over the last")
     }
 }
