@@ -1,45 +1,39 @@
 // One record: its sheet is answered, and the bytes of the answer and of the tables are held to those recorded.
+//
+// A print that fails is passed over, here and in the other files: the counts are what the program is for.
 use crate::text::{line_at, part};
 use answers::answer::answer_sheet;
 use answers::room::{ANSWER_BYTES, TABLE_BYTES};
 use filling::lent::Rooms;
-use libc::STDOUT_FILENO;
 use sheet::{Written, same};
 
 // Names a record.
-pub(crate) fn tell(record: usize) {
-    io::write_all(STDOUT_FILENO, b"record ");
-    io::print_decimal(STDOUT_FILENO, record as u64);
-    io::write_all(STDOUT_FILENO, b": ");
+pub(crate) fn tell(rt: &impl Print, record: usize) {
+    let _ = print!(rt; "record {record}: ");
 }
 
 // Says that a file ends before its records do, or goes on behind them.
-pub(crate) fn tell_broken(record: usize) {
-    io::write_all(STDOUT_FILENO, b"broken off at record ");
-    io::print_decimal(STDOUT_FILENO, record as u64);
-    io::write_all(STDOUT_FILENO, b"\n");
+pub(crate) fn tell_broken(rt: &impl Print, record: usize) {
+    let _ = println!(rt; "broken off at record {record}");
 }
 
 // How many agree, and of how many.
-pub(crate) fn print_count(agree: usize, all: usize, what: &[u8]) {
-    io::print_decimal(STDOUT_FILENO, agree as u64);
-    io::write_all(STDOUT_FILENO, b" of ");
-    io::print_decimal(STDOUT_FILENO, all as u64);
-    io::write_all(STDOUT_FILENO, what);
+pub(crate) fn print_count(rt: &impl Print, agree: usize, all: usize, what: &str) {
+    let _ = println!(rt; "{agree} of {all}{what}");
 }
 
 // Whether the answer's bytes are those recorded.
-fn answer_agrees(record: usize, out: &[u8], w: Written, recorded: &[u8]) -> bool {
+fn answer_agrees(rt: &impl Print, record: usize, out: &[u8], w: Written, recorded: &[u8]) -> bool {
     let Written::Bytes(n) = w else {
-        tell(record);
-        io::write_all(STDOUT_FILENO, b"no room for the answer\n");
+        tell(rt, record);
+        let _ = println!(rt; "no room for the answer");
         return false;
     };
     if same(part(out, 0, n), recorded) {
         return true;
     }
-    tell(record);
-    io::write_all(STDOUT_FILENO, b"answer differs\n");
+    tell(rt, record);
+    let _ = println!(rt; "answer differs");
     false
 }
 
@@ -66,20 +60,20 @@ fn first_apart(text: &[u8], other: &[u8]) -> Line {
 }
 
 // Prints a line of a text; an empty one past its end.
-fn print_line(what: &[u8], text: &[u8], at: usize) {
-    io::write_all(STDOUT_FILENO, what);
-    io::write_all(STDOUT_FILENO, line_at(text, at));
+fn print_line(rt: &impl Print, what: &str, text: &[u8], at: usize) {
+    let _ = print!(rt; "{what}");
+    let _ = rt.write_all(line_at(text, at));
     if text.len() <= at {
-        io::write_all(STDOUT_FILENO, b"\n");
+        let _ = println!(rt; "");
     }
 }
 
 // Whether the bytes of the tables are those recorded; else the first line that differs is named, and printed as it is recorded and as it
 // is answered.
-fn tables_agree(record: usize, out: &[u8], w: Written, recorded: &[u8]) -> bool {
+fn tables_agree(rt: &impl Print, record: usize, out: &[u8], w: Written, recorded: &[u8]) -> bool {
     let Written::Bytes(n) = w else {
-        tell(record);
-        io::write_all(STDOUT_FILENO, b"no room for the tables\n");
+        tell(rt, record);
+        let _ = println!(rt; "no room for the tables");
         return false;
     };
     let found = part(out, 0, n);
@@ -87,17 +81,16 @@ fn tables_agree(record: usize, out: &[u8], w: Written, recorded: &[u8]) -> bool 
         return true;
     }
     let apart = first_apart(recorded, found);
-    tell(record);
-    io::write_all(STDOUT_FILENO, b"tables differ at line ");
-    io::print_decimal(STDOUT_FILENO, apart.number as u64);
-    io::write_all(STDOUT_FILENO, b"\n");
-    print_line(b"recorded: ", recorded, apart.at);
-    print_line(b"answered: ", found, apart.at);
+    tell(rt, record);
+    let _ = println!(rt; "tables differ at line {}", apart.number);
+    print_line(rt, "recorded: ", recorded, apart.at);
+    print_line(rt, "answered: ", found, apart.at);
     false
 }
 
 // Whether what was written agrees with what is recorded.
 pub(crate) fn written_agrees(
+    rt: &impl Print,
     record: usize,
     out: &[u8],
     answer_written: Written,
@@ -106,13 +99,14 @@ pub(crate) fn written_agrees(
     answer: &[u8],
     tables: &[u8],
 ) -> bool {
-    let a = answer_agrees(record, out, answer_written, answer);
-    let t = tables_agree(record, lines, tables_written, tables);
+    let a = answer_agrees(rt, record, out, answer_written, answer);
+    let t = tables_agree(rt, record, lines, tables_written, tables);
     a && t
 }
 
 // Answers a record's sheet with tables of the rows lent, and says whether the answer and the tables agree with those recorded.
 pub(crate) fn replay_record(
+    rt: &impl Print,
     record: usize,
     text: &[u8],
     answer: &[u8],
@@ -124,5 +118,5 @@ pub(crate) fn replay_record(
     let r = answer_sheet(text, lent, &mut out, &mut lines);
     let a = r.answer;
     let t = r.tables;
-    written_agrees(record, &out, a, &lines, t, answer, tables)
+    written_agrees(rt, record, &out, a, &lines, t, answer, tables)
 }

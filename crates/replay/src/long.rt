@@ -4,7 +4,6 @@ ghost use Rattle.std.specs.Prelude.{◌≤◌, ◌<◌, ◌+◌};
 use crate::compare::{tell, written_agrees};
 use answers::job::answer_job;
 use answers::room::{ANSWER_BYTES, TABLE_BYTES, sheet_rooms};
-use libc::STDOUT_FILENO;
 use refusals::job::Parameters;
 use sheet::kinds::{B, E, F, KINDS, P, S, U, V, W, fields_of};
 use sheet::{CELLS, Verdict, column_of, read_sheet};
@@ -148,6 +147,7 @@ fn parameters_in(cells: &[u32]) -> Parameters {
 
 // Answers the job whose columns are stored, and says whether the answer and the tables agree with those recorded.
 fn replay_stored(
+    rt: &impl Print,
     record: usize,
     long: &[u32],
     sizes: Sizes,
@@ -190,7 +190,7 @@ fn replay_stored(
     );
     let a = r.answer;
     let t = r.tables;
-    written_agrees(record, &out, a, &lines, t, answer, tables)
+    written_agrees(rt, record, &out, a, &lines, t, answer, tables)
 }
 
 // The kind that a record's number stands for; none for a number too high.
@@ -203,6 +203,7 @@ fn kind_at(table: usize) -> usize {
 
 // Reads a record's sheet, lengthens a table, and says whether the answer and the tables agree with those recorded.
 pub(crate) fn replay_long(
+    rt: &impl Print,
     record: usize,
     text: &[u8],
     answer: &[u8],
@@ -214,8 +215,8 @@ pub(crate) fn replay_long(
     let reading = read_sheet(text, &mut cells);
     let v = reading.verdict;
     let Verdict::Sound = v else {
-        tell(record);
-        io::write_all(STDOUT_FILENO, b"no sheet\n");
+        tell(rt, record);
+        let _ = println!(rt; "no sheet");
         return false;
     };
     let read = reading.counts;
@@ -226,5 +227,13 @@ pub(crate) fn replay_long(
     };
     let mut long = [0u32; ALL];
     lengthen(&mut long, &cells, sizes);
-    replay_stored(record, &long, sizes, parameters_in(&cells), answer, tables)
+    replay_stored(
+        rt,
+        record,
+        &long,
+        sizes,
+        parameters_in(&cells),
+        answer,
+        tables,
+    )
 }

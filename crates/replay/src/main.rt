@@ -11,14 +11,17 @@ mod points;
 mod text;
 
 ghost use Rattle.std.specs.Prelude.{◌≤◌, ◌<◌, ◌≡◌, length};
-ghost use Rattle.io.specs.Counts.{IsPrefixLen};
+ghost use Rattle.std.specs.Prelude.{take};
 
 use answers::room::sheet_rooms;
 use compare::{print_count, replay_record, tell_broken};
 use filling::lent::Rooms;
-use libc::STDOUT_FILENO;
 use long::replay_long;
 use points::replay_points;
+use std::env::{Env, FillError};
+use std::fs;
+use std::io::Read;
+use std::str::from_utf8;
 use text::{byte_at, closed_at, field, part};
 
 // A line t has the rows of the tables that are lent; without one there is room for every sheet.
@@ -51,6 +54,7 @@ fn head_at(text: &[u8], at: usize) -> usize
 
 // Whether the record at a place agrees. A line n says which table is lengthened, and to how many items.
 fn record_agrees(
+    rt: &impl Print,
     text: &[u8],
     at: usize,
     record: usize,
@@ -63,9 +67,9 @@ fn record_agrees(
     if byte_at(text, at) == b'n' {
         let table = field(text, at, 0);
         let items = field(text, at, 1);
-        return replay_long(record, sheet, answer, tables, table, items);
+        return replay_long(rt, record, sheet, answer, tables, table, items);
     }
-    replay_record(record, sheet, answer, tables, lent_at(text, at))
+    replay_record(rt, record, sheet, answer, tables, lent_at(text, at))
 }
 
 // A record's end, behind its line `=`.
@@ -76,7 +80,7 @@ struct Replayed {
 }
 
 // Replays the record at a place. Its line s has the lengths of the sheet and of the answer; the tables end before the line `=`.
-fn replay_at(text: &[u8], at: usize, record: usize) -> Replayed
+fn replay_at(rt: &impl Print, text: &[u8], at: usize, record: usize) -> Replayed
     requires { at ≤ 1048576 }
     ensures { (at < result.end) × (result.end ≤ 999999999) }
 {
@@ -87,6 +91,7 @@ fn replay_at(text: &[u8], at: usize, record: usize) -> Replayed
     let rest = body + sheet + answer;
     let tables = closed_at(part(text, rest, 999999));
     let agrees = record_agrees(
+        rt,
         text,
         at,
         record,
@@ -105,7 +110,7 @@ fn counted(agrees: bool) -> usize
 }
 
 // Replays a file's records, and prints how many agree. Its first line has their number.
-fn replay_text(text: &[u8]) {
+fn replay_text(rt: &impl Print, text: &[u8]) {
     let records = field(text, 0, 0);
     let mut agree: usize = 0;
     let mut record: usize = 0;
@@ -117,16 +122,16 @@ fn replay_text(text: &[u8]) {
         if at > 1048576 {
             break;
         }
-        let r = replay_at(text, at, record);
+        let r = replay_at(rt, text, at, record);
         agree += counted(r.agrees);
         at = r.end;
         record += 1;
     }
     if record == records && at == text.len() {
-        print_count(agree, records, b" records agree\n");
+        print_count(rt, agree, records, " records agree");
         return;
     }
-    tell_broken(record);
+    tell_broken(rt, record);
 }
 
 // Room for the largest file.
@@ -136,33 +141,77 @@ fn room(b: u8) -> [u8; 1048576]
     [b; 1048576]
 }
 
-fn replay_open(fd: i32) {
+// One read; one that fails is the end.
+fn read_some(from: &mut impl Read, buf: &mut [u8]) -> usize
+    ensures { (result ≤ length buf.new) × (result ≡ length (take result buf.new)) }
+{
+    match from.read(buf) {
+        Ok(n) => n,
+        Err(_) => 0,
+    }
+}
+
+// Reads until the buffer is full or the file ends, and answers how many bytes were read.
+fn read_full(from: &mut impl Read, buf: &mut [u8]) -> usize
+    ensures { (result ≤ length buf.new) × (result ≡ length (take result buf.new)) }
+{
+    let mut done: usize = 0;
+    while done < buf.len() {
+        let n = read_some(from, &mut buf[done..]);
+        if n == 0 {
+            break;
+        }
+        done += n;
+    }
+    done
+}
+
+fn replay_open(rt: &impl Print, file: &mut impl Read) {
     let mut text = room(0);
-    let n = io::read_full(fd, &mut text);
+    let n = read_full(file, &mut text);
     if byte_at(&text, 13) == b'b' {
-        replay_points(&text[..n]);
+        replay_points(rt, &text[..n]);
         return;
     }
-    replay_text(&text[..n]);
+    replay_text(rt, &text[..n]);
 }
 
-fn replay_named(i: usize) {
-    let mut path = io::buffer();
-    let n = os::arg(i, &mut path);
-    io::write_all(STDOUT_FILENO, &path[..n]);
-    io::write_all(STDOUT_FILENO, b": ");
-    let fd = os::open_read(&path[..n]);
-    if fd < 0 {
-        io::write_all(STDOUT_FILENO, b"can't be opened\n");
+fn replay_path(rt: &HostRuntime, path: &[u8]) {
+    let _ = rt.write_all(path);
+    let _ = print!(rt; ": ");
+    let Ok(name) = from_utf8(path) else {
+        let _ = println!(rt; "can't be opened");
         return;
-    }
-    replay_open(fd);
-    libc::close(fd);
+    };
+    let Ok(mut file) = fs::open(rt, name) else {
+        let _ = println!(rt; "can't be opened");
+        return;
+    };
+    replay_open(rt, &mut file);
 }
 
-fn main() {
-    let n = os::arg_count();
-    for i in 1..n {
-        replay_named(i);
+// An argument longer than the buffer names nothing.
+fn replay_named(rt: &HostRuntime, i: usize) {
+    let mut path = [0u8; 4096];
+    match rt.arg(i, &mut path) {
+        Ok(n) => replay_path(rt, &path[..n]),
+        Err(_) => replay_path(rt, b""),
+    }
+}
+
+// Whether there is an argument at a place.
+fn is_argument(rt: &impl Env, i: usize) -> bool {
+    match rt.arg(i, &mut []) {
+        Err(FillError::NotPresent) => false,
+        _ => true,
+    }
+}
+
+fn main(rt: HostRuntime) {
+    for i in 1..usize::MAX {
+        if !is_argument(&rt, i) {
+            break;
+        }
+        replay_named(&rt, i);
     }
 }

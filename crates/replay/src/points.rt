@@ -3,7 +3,6 @@ ghost use Rattle.std.specs.Prelude.{◌≤◌, ◌<◌};
 
 use crate::compare::{print_count, tell, tell_broken};
 use crate::text::{byte_at, field, number};
-use libc::STDOUT_FILENO;
 use links::split::{SplitPoint, find_optimal_split_point};
 use numbers::Inst;
 
@@ -75,6 +74,7 @@ struct Called {
 
 // 1 for a call that is answered as recorded; else 0, and it is named by its list and its place there.
 fn call_counts(
+    rt: &impl Print,
     record: usize,
     call: usize,
     text: &[u8],
@@ -89,15 +89,14 @@ fn call_counts(
     if call_agrees(text, at, freq, first, end) {
         return 1;
     }
-    tell(record);
-    io::write_all(STDOUT_FILENO, b"call ");
-    io::print_decimal(STDOUT_FILENO, call as u64);
-    io::write_all(STDOUT_FILENO, b" differs\n");
+    tell(rt, record);
+    let _ = println!(rt; "call {call} differs");
     0
 }
 
 // Makes the calls on one block list, whose lines stand one behind the other.
 fn make_calls(
+    rt: &impl Print,
     record: usize,
     text: &[u8],
     at: usize,
@@ -116,7 +115,7 @@ fn make_calls(
         if place > 1048576 {
             break;
         }
-        agree += call_counts(record, call, text, place, freq, first, end);
+        agree += call_counts(rt, record, call, text, place, freq, first, end);
         place += call_width(text, place);
         call += 1;
     }
@@ -128,7 +127,7 @@ fn make_calls(
 }
 
 // Replays the block list at a place. What has too many blocks goes on past the end.
-fn replay_list(record: usize, text: &[u8], at: usize) -> Called
+fn replay_list(rt: &impl Print, record: usize, text: &[u8], at: usize) -> Called
     requires { at ≤ 1048576 }
     ensures { (result.calls < 1000000) × (result.agree < 1000000) × (result.end ≤ 1100002) }
 {
@@ -146,6 +145,7 @@ fn replay_list(record: usize, text: &[u8], at: usize) -> Called
     let first = column(text, lines, 1);
     let end = column(text, lines, 2);
     let made = make_calls(
+        rt,
         record,
         text,
         lines + 35 * blocks,
@@ -162,7 +162,7 @@ fn replay_list(record: usize, text: &[u8], at: usize) -> Called
 }
 
 // Replays a file's block lists, and prints how many calls agree.
-pub(crate) fn replay_points(text: &[u8]) {
+pub(crate) fn replay_points(rt: &impl Print, text: &[u8]) {
     let records = field(text, 0, 0);
     let mut calls: usize = 0;
     let mut agree: usize = 0;
@@ -175,15 +175,15 @@ pub(crate) fn replay_points(text: &[u8]) {
         if at > 1048576 {
             break;
         }
-        let r = replay_list(record, text, at);
+        let r = replay_list(rt, record, text, at);
         calls += r.calls;
         agree += r.agree;
         at = r.end;
         record += 1;
     }
     if record == records && at == text.len() {
-        print_count(agree, calls, b" calls agree\n");
+        print_count(rt, agree, calls, " calls agree");
         return;
     }
-    tell_broken(record);
+    tell_broken(rt, record);
 }
