@@ -41,18 +41,22 @@ fn complain(rt: &HostRuntime, what: &[u8], with: &[u8]) {
     let _ = err.write_all(b"\n");
 }
 
-// The same, with what the system says: std's words without the error's number behind them.
+// What std says of an error, without the number behind it.
+fn without_number(said: &str) -> &str {
+    match said.split_once(" (os error ") {
+        Some((words, _)) => words,
+        None => said,
+    }
+}
+
+// The same, with what the system says.
 fn complain_error(rt: &HostRuntime, what: &[u8], e: Error) {
     let err = rt.stderr();
     let _ = err.write_all(b"splitsheet: ");
     let _ = err.write_all(what);
     let _ = err.write_all(b": ");
     if let Ok(said) = format!(in rt.alloc(); "{e}") {
-        let words = match said.as_str().split_once(" (os error ") {
-            Some((words, _)) => words,
-            None => said.as_str(),
-        };
-        let _ = err.write_all(words.as_bytes());
+        let _ = err.write_all(without_number(said.as_str()).as_bytes());
     }
     let _ = err.write_all(b"\n");
 }
