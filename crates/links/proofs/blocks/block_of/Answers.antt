@@ -7,10 +7,8 @@ use lib.Dec.{leb}
 use lib.ListN.{get_or}
 use Rattle.columns.specs.First.{FirstIn}
 use Rattle.columns.proofs.Firsts.{first_is}
-use borrow.Author.Rules.{rules}
 use Rattle.links.specs.Blocks.{block_in}
-use Rattle.links.proofs.blocks.block_of.Statement.{statement}
-use Rattle.links.proofs.blocks.block_of.Tie as tie
+use Rattle.links.proofs.blocks.block_of.Goals as goal
 
 -- at least p + 1 is above p
 above : (ends : List ℕ) (n p r : ℕ) → FirstIn (λ (k : ℕ). leb (p + 1) (get_or ends k 0)) 0 n r → r ≡ block_in ends n p
@@ -22,19 +20,8 @@ above ends n p r f =
       found = λ m. ap (λ (x : ℕ). leb x (get_or ends r 0)) (sym (add-one p)) ∙ f.found m;
     })
 
-add-first-at-least : tie.Need-overflow-add-first-at-least
-add-first-at-least c = search rules
+pub first_at_least-at-requires : goal.first_at_least-at-requires
+first_at_least-at-requires c = let s = c.requires.searchable in (s.order, s.inside)
 
-first-at-least-requires : tie.Need-first-at-least-requires
-first-at-least-requires c κs = let s = c.before.before.requires.searchable in (s.order, s.inside)
-
-cast-t5 : tie.Need-overflow-cast-t5
-cast-t5 c = search rules
-
-returns : tie.Need-returns
-returns c =
-    let at-args = c.before.before.before in
-    above at-args.args.end.now at-args.args.n at-args.args.inst.0 _ (c.first_at_least.ensures.2 at-args.requires.searchable.rising)
-
-pub block-of-spec : {M : Type 1} → statement M
-block-of-spec = tie.close (tie.spec add-first-at-least first-at-least-requires cast-t5 returns)
+pub returns : goal.returns
+returns c = above c.args.end.now c.args.n c.args.inst.0 _ (c.first_at_least-at.ensures.2 c.requires.searchable.rising)
