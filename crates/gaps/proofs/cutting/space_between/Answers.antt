@@ -2,15 +2,13 @@
 use mathlib.Core.Path.{◌≡◌, sym, ap, ap₂, ◌∙◌}
 use mathlib.Core.List.{List}
 use Prim.Native.Nat.{ℕ, ◌+◌, ◌-◌}
-use borrow.Author.Rules.{rules}
 use Rattle.links.specs.declared.lower.Side.{Side}
 use Rattle.links.specs.declared.lower.Side.TheVariants.{Previous, Next}
 use Rattle.use_rows.specs.declared.row.SplitUse.{SplitUse}
 use Rattle.links.specs.Blocks.{block_in}
 use Rattle.gaps.specs.Cutting.{space_of}
 use Rattle.gaps.specs.declared.cutting.Space.{Space}
-use Rattle.gaps.proofs.cutting.space_between.Statement.{statement}
-use Rattle.gaps.proofs.cutting.space_between.Tie as tie
+use Rattle.gaps.proofs.cutting.space_between.Goals as goal
 
 space_left : (ends : List ℕ) (n : ℕ) (u v : SplitUse) {x y : ℕ} → x ≡ block_in ends n (v.inst.0 - 1) → y ≡ block_in ends n u.inst.0
     → ◌≡◌ {A = Space} (record {
@@ -60,57 +58,14 @@ space_right ends n u v p q =
       last = record { 0 = y };
     }) p q
 
-enum_told : tie.Need-enum-told
-enum_told c = search rules
+pub returns-in-Previous : goal.returns-in-Previous
+returns-in-Previous c =
+    let a = c.args in
+    space_left a.end.now a.n a.u a.v c.block_near-block.ensures c.block_near-last.ensures
+    ∙ ap (λ (s : Side). space_of s a.end.now a.n a.u a.v) (sym c.in-Previous.is)
 
-block-near-requires : tie.Need-block-near-requires
-block-near-requires c κs = search rules
-
-sub-t14 : tie.Need-overflow-sub-t14
-sub-t14 c = search rules
-
-block-near-requires-2 : tie.Need-block-near-requires-2
-block-near-requires-2 c κs = search rules
-
-returns : tie.Need-returns
+pub returns : goal.returns
 returns c =
-    let a = c.before.before.before.before.before.before.before.before.args in
-    space_left a.end.now a.n a.u a.v c.block-near2.ensures c.before.before.block_near.ensures
-    ∙ ap (λ (s : Side). space_of s a.end.now a.n a.u a.v) (sym c.before.before.before.enum_told.given.1)
-
-enum-told-2 : tie.Need-enum-told-2
-enum-told-2 c = search rules
-
-add-t16 : tie.Need-overflow-add-t16
-add-t16 c = search rules
-
-block-near-requires-3 : tie.Need-block-near-requires-3
-block-near-requires-3 c κs = search rules
-
-block-near-requires-4 : tie.Need-block-near-requires-4
-block-near-requires-4 c κs = search rules
-
-add-t16-2 : tie.Need-overflow-add-t16-2
-add-t16-2 c = search rules
-
-returns-2 : tie.Need-returns-2
-returns-2 c =
-    let a = c.before.before.before.before.before.before.before.before.before.args in
-    space_right a.end.now a.n a.u a.v c.before.before.block-near3.ensures c.before.block-near4.ensures
-    ∙ ap (λ (s : Side). space_of s a.end.now a.n a.u a.v) (sym c.before.before.before.before.enum-told2.given.1)
-
-pub space-between-spec : {M : Type 1} → statement M
-space-between-spec =
-    tie.close
-    (tie.spec
-    enum_told
-    block-near-requires
-    sub-t14
-    block-near-requires-2
-    returns
-    enum-told-2
-    add-t16
-    block-near-requires-3
-    block-near-requires-4
-    add-t16-2
-    returns-2)
+    let a = c.args in
+    space_right a.end.now a.n a.u a.v c.block_near-block-2.ensures c.block_near-last-2.ensures
+    ∙ ap (λ (s : Side). space_of s a.end.now a.n a.u a.v) (sym c.in_default.is)
