@@ -38,13 +38,13 @@ pub fn fill_gap_tables(
     segment_value: &mut [u32],
     segment_gap: &mut [u32],
 ) -> GapCounts
-    requires fact { let uses = use_columns inst.now weight.now left_weight.now right_weight.now in
+    requires inside { let uses = use_columns inst.now weight.now left_weight.now right_weight.now in
         CutInside rows uses (length freq.now) prev_lower_freq.now next_lower_freq.now segments start.now segment_end.now value.now }
-    requires fact_2 { let uses = use_columns (take rows inst.now) (take rows weight.now) (take rows left_weight.now) (take rows right_weight.now) in
+    requires cuttable { let uses = use_columns (take rows inst.now) (take rows weight.now) (take rows left_weight.now) (take rows right_weight.now) in
         Cuttable freq.now first.now end.now (take (length freq.now) prev_lower_freq.now)
         (take (length freq.now) next_lower_freq.now) uses best
         × Valued (take segments start.now) (take segments segment_end.now) (take segments value.now) }
-    requires fact_3 { let uses = use_columns (take rows inst.now) (take rows weight.now) (take rows left_weight.now) (take rows right_weight.now) in
+    requires room { let uses = use_columns (take rows inst.now) (take rows weight.now) (take rows left_weight.now) (take rows right_weight.now) in
         let gaps = gaps_of (blocks_of freq.now first.now end.now) (uses_in uses) best in
         let found = gap_segments_of gaps (take segments start.now) (take segments segment_end.now) (take segments value.now) in
         Rows (length gaps) (gap_columns gap_from.old gap_to.old gap_weight.old live.old min_freq.old gap_block.old)

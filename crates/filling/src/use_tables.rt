@@ -42,13 +42,13 @@ pub fn fill_uses(
     left_weight: &mut [f32],
     right_weight: &mut [f32],
 ) -> UseTables
-    requires fact { let source = source_of
+    requires checked { let source = source_of
         (uses_of position.now kind.now cost.now)
         (segments_of start.now segment_end.now value.now first_use.now end_use.now flags.now)
         code.now scales
         (blocks_of freq.now first.now end.now) in
         SoundColumns freq.now first.now end.now × CheckedUses source × FromBits scales }
-    requires freq_in_bounds { (length freq.now ≤ length prev_lower_freq.old) × (length freq.now ≤ length next_lower_freq.old)
+    requires room { (length freq.now ≤ length prev_lower_freq.old) × (length freq.now ≤ length next_lower_freq.old)
         × Inside (length (uses_of position.now kind.now cost.now) + 1)
         (use_columns inst.old weight.old left_weight.old right_weight.old) }
     ensures { let source = source_of

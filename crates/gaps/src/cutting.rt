@@ -180,7 +180,7 @@ fn cut_space(
     s: Space,
 ) -> usize
     requires leads { Leads side links.now × Alike freq.now edges.now links.now × (s.block.0 < length links.now) }
-    requires fact { let gaps = space_gaps side freq.now edges.now links.now s in
+    requires room { let gaps = space_gaps side freq.now edges.now links.now s in
         let lent = cut_columns from.old to.old weight.old min_freq.old gap_block.old in
         CutRows (n + length gaps) lent }
     ensures { let gaps = space_gaps side freq.now edges.now links.now s in
@@ -252,9 +252,9 @@ fn cut_side(
     n: usize,
 ) -> usize
     requires leads { Leads side links.now × Alike freq.now edges.now links.now }
-    requires fact { let uses = use_columns inst.now weight.now left_weight.now right_weight.now in
+    requires in_order { let uses = use_columns inst.now weight.now left_weight.now right_weight.now in
         InOrder end.now (length freq.now) uses i last }
-    requires fact_2 { let uses = use_columns inst.now weight.now left_weight.now right_weight.now in
+    requires room { let uses = use_columns inst.now weight.now left_weight.now right_weight.now in
         let gaps = side_gaps side freq.now end.now edges.now links.now uses i (last - i) in
         let lent = cut_columns from.old to.old out_weight.old min_freq.old gap_block.old in
         CutRows (n + length gaps) lent }
@@ -344,9 +344,9 @@ pub(crate) fn cut_gaps(
     min_freq: &mut [f32],
     gap_block: &mut [u32],
 ) -> GapsCut
-    requires fact { let uses = use_columns inst.now weight.now left_weight.now right_weight.now in
+    requires cuttable { let uses = use_columns inst.now weight.now left_weight.now right_weight.now in
         Cuttable freq.now first.now end.now prev_lower_freq.now next_lower_freq.now uses best }
-    requires fact_2 { let blocks = blocks_of freq.now first.now end.now in
+    requires room { let blocks = blocks_of freq.now first.now end.now in
         let uses = use_columns inst.now weight.now left_weight.now right_weight.now in
         let gaps = gaps_of blocks (uses_in uses) best in
         let lent = cut_columns from.old to.old out_weight.old min_freq.old gap_block.old in

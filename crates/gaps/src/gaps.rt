@@ -43,10 +43,10 @@ pub fn build_gaps(
     segment_value: &mut [u32],
     segment_gap: &mut [u32],
 ) -> GapCounts
-    requires fact { let uses = use_columns inst.now weight.now left_weight.now right_weight.now in
+    requires cuttable { let uses = use_columns inst.now weight.now left_weight.now right_weight.now in
         Cuttable freq.now first.now end.now prev_lower_freq.now next_lower_freq.now uses best
         × Valued start.now segment_end.now value.now }
-    requires fact_2 { let uses = use_columns inst.now weight.now left_weight.now right_weight.now in
+    requires room { let uses = use_columns inst.now weight.now left_weight.now right_weight.now in
         let gaps = gaps_of (blocks_of freq.now first.now end.now) (uses_in uses) best in
         let segments = gap_segments_of gaps start.now segment_end.now value.now in
         Rows (length gaps) (gap_columns gap_from.old gap_to.old gap_weight.old live.old min_freq.old gap_block.old)

@@ -21,7 +21,7 @@ pub(crate) fn fill_segments(
     segment_gap: &mut [u32],
 ) -> usize
     requires valued { Valued start.now end.now value.now × Gaps from.now to.now × (length from.now ≤ length live.old) }
-    requires fact { let found = gap_segments from.now to.now start.now end.now value.now in
+    requires room { let found = gap_segments from.now to.now start.now end.now value.now in
         let lent = segment_columns segment_from.old segment_to.old segment_value.old segment_gap.old 0 in
         SegmentRoom (length found) lent }
     ensures { let counted = live_column start.now end.now from.now to.now in

@@ -1,7 +1,7 @@
 -- The order of tries on three gaps: a computed table
 use mathlib.Core.Path.{◌≡◌, refl}
 use Prim.Native.Nat.{ℕ}
-use mathlib.Core.Bool.{Bool, true, false}
+use mathlib.Core.Bool.{Bool, false}
 use mathlib.Core.List.{List, [], ◌∷◌, map}
 use lib.Ieee.{Float, binary32, of_bits, add, mul, div, round, lt, of_int}
 use lib.ListN.{get_or, length}

@@ -3,7 +3,7 @@ use Rattle.std.specs.Prelude.{ℕ, ◌≤◌, ◌<◌, ◌≡◌, List, [], ◌�
 use Rattle.std.specs.Float.{binary32}
 use Rattle.std.specs.Float.Ieee.{to_bits}
 use Rattle.columns.specs.Table.{Each}
-use Rattle.numbers.specs.Weight.{Finite, units_of, zero_weight, heaviest, Weights, Among}
+use Rattle.numbers.specs.Weight.{Finite, zero_weight, heaviest, Weights, Among}
 use Rattle.numbers.specs.Normal.{normalised, exceeds}
 use Rattle.numbers.specs.Chain.{longest}
 use Rattle.growth.specs.declared.proposal.SplitProposal.{SplitProposal}

@@ -29,7 +29,7 @@ pub enum Region {
 // Where the region begins, absent at the table's start.
 fn left_end(from: &[u32], gaps: usize, g: Grown) -> MaybeInst
     requires inside_gaps { InsideGaps gaps g }
-    requires gaps_in_bounds { gaps ≤ length from.now }
+    requires from_long { gaps ≤ length from.now }
     ensures { result ≡ end_of Previous gaps (number_at from.now) (span_of g) }
 {
     let left = g.left;
@@ -54,7 +54,7 @@ fn right_end(from: &[u32], gaps: usize, g: Grown) -> MaybeInst
 // The frequency of the gap just left of the region.
 fn left_split_cost(freq: &[f32], gaps: usize, g: Grown) -> f32
     requires inside_gaps { InsideGaps gaps g }
-    requires gaps_in_bounds { gaps ≤ length freq.now }
+    requires freq_long { gaps ≤ length freq.now }
     ensures { result ≡ freq_outside Previous gaps (float_at freq.now) (span_of g) }
 {
     let left = g.left;
@@ -79,7 +79,7 @@ fn right_split_cost(freq: &[f32], gaps: usize, g: Grown) -> f32
 // The split cost, estimated by the frequencies just before and after the region.
 fn split_cost(freq: &[f32], gaps: usize, g: Grown) -> f32
     requires inside_gaps { InsideGaps gaps g }
-    requires gaps_in_bounds { gaps ≤ length freq.now }
+    requires freq_long { gaps ≤ length freq.now }
     ensures { result ≡ split_cost gaps (float_at freq.now) (span_of g) }
 {
     left_split_cost(freq, gaps, g) + right_split_cost(freq, gaps, g)
@@ -88,8 +88,8 @@ fn split_cost(freq: &[f32], gaps: usize, g: Grown) -> f32
 // The proposal that a region is.
 pub fn proposal_of(from: &[u32], freq: &[f32], gaps: usize, g: Grown) -> SplitProposal
     requires inside_gaps { InsideGaps gaps g }
-    requires gaps_in_bounds { gaps ≤ length from.now }
-    requires gaps_in_bounds_2 { gaps ≤ length freq.now }
+    requires from_long { gaps ≤ length from.now }
+    requires freq_long { gaps ≤ length freq.now }
     ensures { result ≡ proposal_with gaps (number_at from.now) (float_at freq.now) (span_of g) g.heaviest }
 {
     let left = left_end(from, gaps, g);

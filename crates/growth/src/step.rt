@@ -55,8 +55,8 @@ pub enum Turn {
 // instructions, and left if both have as many.
 fn prefers_left(freq: &[f32], live: &[u32], gaps: usize, g: Grown) -> bool
     requires has_neighbours { HasNeighbours gaps g }
-    requires gaps_in_bounds { gaps ≤ length freq.now }
-    requires gaps_in_bounds_2 { gaps ≤ length live.now }
+    requires freq_long { gaps ≤ length freq.now }
+    requires live_long { gaps ≤ length live.now }
     ensures { result ≡ prefers_left (float_at freq.now) (number_at live.now) (span_of g) }
 {
     let left = g.left - 1;
@@ -94,8 +94,8 @@ fn can_grow_right(gaps: usize, g: Grown, barred: bool) -> bool
 // Whether growth goes on, and on which side.
 fn grow_next(freq: &[f32], live: &[u32], gaps: usize, growth: Growth) -> Turn
     requires inside_gaps { InsideGaps gaps growth.region }
-    requires gaps_in_bounds { gaps ≤ length freq.now }
-    requires gaps_in_bounds_2 { gaps ≤ length live.now }
+    requires freq_long { gaps ≤ length freq.now }
+    requires live_long { gaps ≤ length live.now }
     ensures { result ≡ side_tried gaps (float_at freq.now) (number_at live.now) (state_of growth) }
 {
     let g = growth.region;
@@ -119,8 +119,8 @@ fn grow_next(freq: &[f32], live: &[u32], gaps: usize, growth: Growth) -> Turn
 // Whether growth goes on, from a region that may have no gap: its own gap has failed then, and nothing is tried any more.
 pub fn next_turn(freq: &[f32], live: &[u32], gaps: usize, growth: Growth) -> Turn
     requires inside_gaps { growth.region.left < growth.region.right → InsideGaps gaps growth.region }
-    requires gaps_in_bounds { gaps ≤ length freq.now }
-    requires gaps_in_bounds_2 { gaps ≤ length live.now }
+    requires freq_long { gaps ≤ length freq.now }
+    requires live_long { gaps ≤ length live.now }
     ensures { result ≡ turn_of gaps (float_at freq.now) (number_at live.now) growth }
 {
     let g = growth.region;

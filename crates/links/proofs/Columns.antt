@@ -208,7 +208,7 @@ module _ (fs ss es : List ℕ) (after before : ℕ) (w : Between fs ss es after 
 -- between neighbours there is one point
 pub split_neighbours : (side : Side) (blocks : List BlockRow) (after before : ℕ) → after + 1 ≡ before → before ≡ split_point side blocks after before
 unfolding split_point
-split_neighbours side blocks after before e = sym (cond_true before _ (eq-eqb (after + 1) before e))
+split_neighbours side _ after before e = sym (cond_true before _ (eq-eqb (after + 1) before e))
 
 -- a search for the block of an instruction before the last end finds one
 pub ends_inside : (ends : List ℕ) (n p : ℕ) → Ends ends n p → block_in ends n p < n

@@ -238,9 +238,9 @@ value_back {w} p = value_is weight_limit (to_bits binary32 w) (weight_bits p) �
 
 -- ---- what is no weight has bits too
 -- a NaN's
-pub nan_bits : (x : Float) → x ≡ nan → 2143289344 ≡ to_bits binary32 x
+pub nan_bits_lem : (x : Float) → x ≡ nan → 2143289344 ≡ to_bits binary32 x
 unfolding to_bits
-nan_bits x e = ap (to_bits binary32) (sym e)
+nan_bits_lem x e = ap (to_bits binary32) (sym e)
 
 -- without its sign a value is a weight
 pub fits_unsigned : (m : ℕ) (e : ℤ) → T (fits binary32 (fin true m e)) → T (fits binary32 (fin false m e))

@@ -154,4 +154,4 @@ zero_units = refl
 
 -- nothing is lighter than zero
 pub zero_least : (x : Float) → units_of zero_weight ≤ units_of x
-zero_least x = subst (λ (u : ℕ). u ≤ units_of x) (sym zero_units) Prim.Native.Nat.zero_le
+zero_least x = subst (λ (u : ℕ). u ≤ units_of x) (sym zero_units) Prim.Native.Nat.zero-le

@@ -13,7 +13,7 @@ use Rattle.columns.proofs.Firsts.{split}
 use Rattle.columns.specs.Table.{row_before}
 use Rattle.jobs.proofs.Walk.{before_next}
 use Rattle.overlaps.specs.Live.{Gaps, Segments}
-use Rattle.overlaps.specs.GapSegments.{Overlap, nonempty, overlap_with, overlaps_of, gap_segments, EndedBy}
+use Rattle.overlaps.specs.GapSegments.{Overlap, overlap_with, overlaps_of, gap_segments, EndedBy}
 use Rattle.overlaps.proofs.GapRows.{overlaps_from, overlaps_end, behind_later}
 use Rattle.columns.proofs.Joining.{joined_next, from_on, from_on_all, from_on_end}
 

@@ -88,7 +88,7 @@ pub fn pass_gaps(
     used: usize,
 ) -> Passed
     requires gaps { Gaps from.now to.now × Passing from.now to.now s gap held × (length from.now ≤ gap + length live.old) }
-    requires fact { let overlaps = overlaps_of from.now to.now s.start.0 s.end.0 s.value.0 in
+    requires room { let overlaps = overlaps_of from.now to.now s.start.0 s.end.0 s.value.0 in
         let lent = segment_columns segment_from.old segment_to.old segment_value.old segment_gap.old used in
         SegmentRoom (length overlaps) lent }
     ensures { let overlaps = overlaps_of from.now to.now s.start.0 s.end.0 s.value.0 in

@@ -30,7 +30,7 @@ fn grow<'a, 'b>(
     k: u32,
     walkers: Walkers,
 ) -> Grown
-    requires fact { let seen = seen_by register (reserved_in (map (λ x. x.now) reserved)) (segments_in (map (λ x. x.now) segments))
+    requires ready { let seen = seen_by register (reserved_in (map (λ x. x.now) reserved)) (segments_in (map (λ x. x.now) segments))
         from.now weight.now live.now min_freq.now initial k in
         InTable seen weight.now live.now min_freq.now }
     requires begun { Begun register (reserved_in (map (λ x. x.now) reserved)) (segments_in (map (λ x. x.now) segments)) initial walkers }
@@ -78,7 +78,7 @@ fn find_split_region<'a, 'b>(
     register: Register,
     k: u32,
 ) -> Region
-    requires fact { let seen = seen_by register (reserved_in (map (λ x. x.now) reserved)) (segments_in (map (λ x. x.now) segments))
+    requires ready { let seen = seen_by register (reserved_in (map (λ x. x.now) reserved)) (segments_in (map (λ x. x.now) segments))
         from.now weight.now live.now min_freq.now initial k in
         InTable seen weight.now live.now min_freq.now }
     requires walking { Walking register (reserved_in (map (λ x. x.now) reserved)) (segments_in (map (λ x. x.now) segments)) }
@@ -139,7 +139,7 @@ pub fn find_in_tables<'a, 'b>(
     requires rows_inside { RowsInside
         gaps from.now weight.now live.now min_freq.now
         segments segment_from.now segment_to.now segment_value.now segment_gap.now }
-    requires fact { let reserved = reserved_of
+    requires ready { let reserved = reserved_of
         unit.now start.now end.now kind.now index.now fixed.now
         f_unit.now f_point.now f_value.now spill_weight.now in
         let gap_segments = segment_columns

@@ -14,7 +14,6 @@ use lib.Dec.{eqb, leb}
 use native.Mathlib.Decide.{ℕ_discrete}
 use borrow.Author.Tests.{eq-eqb, ne_eqb, leb-true, lt-ltb, le-ltb}
 use Rattle.sheet.specs.Kinds.{pick, kinds, limit, once, needed, width, kind_of, lines_to, most_lines}
-use Rattle.sheet.specs.Sheet.{line}
 use Rattle.sheet.specs.Refusal.{lines_of, is_line, kind_of_line, latest, of_kind, is_in_order, fault, judged, verdict_below, verdict, row_of, sheet_of, Counted}
 use Rattle.sheet.specs.Refusal.{open_kind, none_needed, is_complete, Checked}
 use Rattle.sheet.specs.Next.{next_at}

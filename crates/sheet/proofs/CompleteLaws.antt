@@ -6,7 +6,7 @@ use mathlib.Core.Bool.{Bool, true, false}
 use mathlib.Core.List.{List, [], ◌∷◌, ◌++◌, append_assoc, append-nil, map}
 use native.Mathlib.Omega.{arith}
 use native.Mathlib.Decide.{ℕ_discrete}
-use lib.ListN.{length, length-append, length-map}
+use lib.ListN.{length, length-append}
 use borrow.Author.Tests.{eq-eqb, ne_eqb, le-leb}
 use Rattle.sheet.specs.Kinds.{pick, kinds, limit, once, needed}
 use Rattle.sheet.specs.Sheet.{line, lines_text, Sheet, text_from, render, IsRow, AreRows, IsSheet, Within}

@@ -1,6 +1,6 @@
 -- The kinds of lines of a sheet: one table. A kind is its place there, and all else about kinds follows from the table.
 -- Assumes nothing.
-use Rattle.std.specs.Prelude.{ℕ, zero, suc, ◌+◌, ◌*◌, max, Bool, true, false, List, [], ◌∷◌, length, get_or, eqb}
+use Rattle.std.specs.Prelude.{ℕ, zero, suc, ◌+◌, ◌*◌, max, Bool, true, false, List, [], ◌∷◌, get_or, eqb}
 use Rattle.sheet.specs.declared.kinds.Asked.{Asked}
 use Rattle.sheet.specs.declared.kinds.Asked.TheVariants.{ExactlyOne, AtMostOne, Any}
 use Rattle.sheet.specs.declared.kinds.Kind.{Kind}

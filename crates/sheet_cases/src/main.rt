@@ -3,30 +3,32 @@
 // A sheet is a list of pieces: how often and how long, in six digits each, a line feed, the bytes; 0 times ends it.
 #![tactic(auto)]
 
-ghost use Rattle.std.specs.Prelude.{◌≡◌, ◌≤◌, ◌<◌, length};
+ghost use Rattle.std.specs.Prelude.{◌≡◌, ◌≤◌, ◌<◌, length, IfOk};
 
 use sheet::kinds::KINDS;
 use sheet::{Answer, CELLS, End, Figures, Verdict, Written};
+use std::io;
+use std::io::{BufWriter, Read, Write};
 
 // More cells than a sheet needs, and fewer.
 const MORE: usize = CELLS + 99;
 
 const FEWER: usize = CELLS - 1;
 
-fn print_byte(b: u8) {
+fn print_byte<W: Write>(to: &mut W, b: u8) -> io::Result<()> {
     let text = [b];
-    io::write_all(1, &text);
+    to.write_all(&text)
 }
 
 // A sum of all cells that tells their places apart.
-fn print_sum(cells: &[u32]) {
+fn print_sum<W: Write>(to: &mut W, cells: &[u32]) -> io::Result<()> {
     let mut sum: u64 = 0;
     let mut i: usize = 0;
     while i < cells.len() {
         sum = (sum % 4294967291 * 31 + wide(cells[i])) % 4294967291;
         i += 1;
     }
-    io::print_decimal(1, sum);
+    write!(to, "{sum}")
 }
 
 fn wide(x: u32) -> u64
@@ -35,67 +37,60 @@ fn wide(x: u32) -> u64
     x as u64
 }
 
-fn print_answer(a: Answer) {
+fn print_answer<W: Write>(to: &mut W, a: Answer) -> io::Result<()> {
     let mut out = [b'.'; 90];
     match sheet::write_answer(&mut out, a) {
         Written::Bytes(n) => {
-            io::print_decimal(1, n as u64);
-            print_byte(b'\n');
-            io::write_all(1, &out);
+            write!(to, "{n}")?;
+            print_byte(to, b'\n')?;
+            to.write_all(&out)?;
         }
         Written::NoRoom => {
-            io::write_all(1, b"no room");
+            to.write_all(b"no room")?;
         }
     }
-    print_byte(b'\n');
+    print_byte(to, b'\n')
 }
 
-fn print_refusal(n: u32, line: u32) {
+fn print_refusal<W: Write>(to: &mut W, n: u32, line: u32) -> io::Result<()> {
     let mut out = [0u8; 24];
     match sheet::write_answer(&mut out, Answer::Refused(n, line)) {
-        Written::Bytes(_) => {
-            io::write_all(1, &out);
-        }
-        Written::NoRoom => {
-            io::write_all(1, b"no room\n");
-        }
+        Written::Bytes(_) => to.write_all(&out),
+        Written::NoRoom => to.write_all(b"no room\n"),
     }
 }
 
-fn print_counts(counts: [usize; KINDS]) {
-    print_byte(b'S');
+fn print_counts<W: Write>(to: &mut W, counts: [usize; KINDS]) -> io::Result<()> {
+    print_byte(to, b'S')?;
     let mut k: usize = 0;
     while k < KINDS {
-        print_byte(b' ');
-        io::print_decimal(1, counts[k] as u64);
+        print_byte(to, b' ')?;
+        let count = counts[k];
+        write!(to, "{count}")?;
         k += 1;
     }
-    print_byte(b' ');
+    print_byte(to, b' ')
 }
 
 // Reads a text into the lent cells.
-fn report(text: &[u8], cells: &mut [u32]) {
+fn report<W: Write>(to: &mut W, text: &[u8], cells: &mut [u32]) -> io::Result<()> {
     let r = sheet::read_sheet(text, cells);
     let v = r.verdict;
     match v {
         Verdict::Sound => {
             let counts = r.counts;
-            print_counts(counts);
-            print_sum(cells);
-            print_byte(b'\n');
+            print_counts(to, counts)?;
+            print_sum(to, cells)?;
+            print_byte(to, b'\n')
         }
-        Verdict::Refused(n, line) => {
-            print_refusal(n, line);
-        }
-        Verdict::NoRoom => {
-            io::write_all(1, b"too few cells\n");
-        }
+        Verdict::Refused(n, line) => print_refusal(to, n, line),
+        Verdict::NoRoom => to.write_all(b"too few cells\n"),
     }
 }
 
-fn show(text: &[u8]) {
+fn show<W: Write>(to: &mut W, text: &[u8]) -> io::Result<()> {
     let mut cells = [7u32; MORE];
-    report(text, &mut cells);
+    report(to, text, &mut cells)
 }
 
 fn digit(b: u8) -> usize {
@@ -158,67 +153,74 @@ fn repeat(text: &mut [u8], used: usize, piece: &[u8], times: usize) -> usize
     n
 }
 
-fn run(input: &[u8], text: &mut [u8]) {
+fn run<W: Write>(to: &mut W, input: &[u8], text: &mut [u8]) -> io::Result<()> {
     let mut used: usize = 0;
     let mut at: usize = 0;
     while at < input.len() {
         if input.len() - at < 13 {
-            return;
+            return Ok(());
         }
         let times = six(input, at);
         let size = six(input, at + 6);
         let from = at + 13;
         if input.len() - from < size {
-            return;
+            return Ok(());
         }
         let end = from + size;
         if times == 0 {
-            show(&text[..used]);
+            show(to, &text[..used])?;
             used = 0;
         } else {
             used = repeat(text, used, &input[from..end], times);
         }
         at = end;
     }
+    Ok(())
 }
 
-fn answers() {
-    print_answer(Answer::Proposal(Figures {
-        left: End::Absent,
-        right: End::Absent,
-        use_weight: 1073741824,
-        live_insts: 4,
-        interference_weight: 0,
-        split_cost: 0,
-        thousandths: 500,
-    }));
-    print_answer(Answer::Proposal(Figures {
-        left: End::At(0),
-        right: End::At(4294967295),
-        use_weight: 4294967295,
-        live_insts: 10,
-        interference_weight: 99,
-        split_cost: 100,
-        thousandths: 999999999,
-    }));
-    print_answer(Answer::NoneOf(2));
-    print_answer(Answer::Refused(5, 1000000000));
+fn answers<W: Write>(to: &mut W) -> io::Result<()> {
+    print_answer(
+        to,
+        Answer::Proposal(Figures {
+            left: End::Absent,
+            right: End::Absent,
+            use_weight: 1073741824,
+            live_insts: 4,
+            interference_weight: 0,
+            split_cost: 0,
+            thousandths: 500,
+        }),
+    )?;
+    print_answer(
+        to,
+        Answer::Proposal(Figures {
+            left: End::At(0),
+            right: End::At(4294967295),
+            use_weight: 4294967295,
+            live_insts: 10,
+            interference_weight: 99,
+            split_cost: 100,
+            thousandths: 999999999,
+        }),
+    )?;
+    print_answer(to, Answer::NoneOf(2))?;
+    print_answer(to, Answer::Refused(5, 1000000000))?;
     let mut out = [b'.'; 12];
-    print_short(&mut out);
-    print_byte(b'\n');
+    print_short(to, &mut out)?;
+    print_byte(to, b'\n')
 }
 
 // A buffer that is too short for the answer is left as it was.
-fn print_short(out: &mut [u8]) {
+fn print_short<W: Write>(to: &mut W, out: &mut [u8]) -> io::Result<()> {
     match sheet::write_answer(out, Answer::NoneOf(1)) {
         Written::Bytes(_) => {
-            io::write_all(1, b"bytes\n");
+            to.write_all(b"bytes\n")?;
         }
         Written::NoRoom => {
-            io::write_all(1, b"no room\n");
+            to.write_all(b"no room\n")?;
         }
     }
-    io::write_all(1, out);
+    to.write_all(out)
 }
 
 // A megabyte of one byte.
@@ -229,20 +231,20 @@ fn megabyte(b: u8) -> [u8; 1048576]
 }
 
 // A line of a megabyte, and a megabyte of line feeds.
-fn long() {
+fn long<W: Write>(to: &mut W) -> io::Result<()> {
     let spaces = megabyte(b' ');
-    show(&spaces);
+    show(to, &spaces)?;
     let feeds = megabyte(b'\n');
-    show(&feeds);
+    show(to, &feeds)
 }
 
 // An empty text, with enough cells and with one too few.
-fn empty() {
+fn empty<W: Write>(to: &mut W) -> io::Result<()> {
     let text = [0u8; 1];
     let mut cells = [7u32; CELLS];
-    report(&text[..0], &mut cells);
+    report(to, &text[..0], &mut cells)?;
     let mut few = [7u32; FEWER];
-    report(&text[..0], &mut few);
+    report(to, &text[..0], &mut few)
 }
 
 // Room for the whole input.
@@ -252,12 +254,29 @@ fn room() -> [u8; 131072]
     [0; 131072]
 }
 
-fn main() {
+// Reads until the buffer is full or the input ends, and answers how many bytes were read.
+fn read_full<R: Read>(from: &mut R, buf: &mut [u8]) -> io::Result<usize>
+    ensures { IfOk result (λ n. n ≤ length buf.new) }
+{
+    let mut done: usize = 0;
+    while done < buf.len() {
+        let n = from.read(&mut buf[done..])?;
+        if n == 0 {
+            break;
+        }
+        done += n;
+    }
+    Ok(done)
+}
+
+fn main(rt: HostRuntime) -> io::Result<()> {
     let mut input = room();
-    let n = io::read_full(0, &mut input);
-    let mut text = io::large_buffer();
-    run(&input[..n], &mut text);
-    empty();
-    long();
-    answers();
+    let n = read_full(&mut rt.reader(), &mut input)?;
+    let mut text = [0u8; 65536];
+    let mut to = BufWriter::new(rt.alloc(), io::writer(&rt))?;
+    run(&mut to, &input[..n], &mut text)?;
+    empty(&mut to)?;
+    long(&mut to)?;
+    answers(&mut to)?;
+    to.flush()
 }

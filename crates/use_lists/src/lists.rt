@@ -135,7 +135,7 @@ fn count_use(
     done: Collected,
 ) -> Collected
     requires inside { Inside done.rows (use_columns inst.old weight.old left_weight.old right_weight.old) }
-    requires b_in_bounds { b.0 < length freq.now }
+    requires block_inside { b.0 < length freq.now }
     ensures { let lent = use_columns inst.old weight.old left_weight.old right_weight.old in
         let after = use_columns inst.new weight.new left_weight.new right_weight.new in
         collecting after result ≡ counted freq.now (plain_segment s) p.0 b.0 cost (collecting lent done) }
@@ -166,9 +166,9 @@ fn find_use(
     i: usize,
     from: Block,
 ) -> FoundUse
-    requires fact { let uses = uses_of position.now kind.now cost.now in
+    requires use_inside { let uses = uses_of position.now kind.now cost.now in
         (i < length uses) × Ends end.now n (get_or uses i no_use).position }
-    requires fact_2 { let block = block_in_use end.now n (uses_of position.now kind.now cost.now) in
+    requires from_before { let block = block_in_use end.now n (uses_of position.now kind.now cost.now) in
         (from.0 ≡ number_before block i) × (from.0 ≤ block i + 1) }
     ensures { let uses = uses_of position.now kind.now cost.now in
         (plain_use result.row ≡ get_or uses i no_use) × (result.block.0 ≡ block_in_use end.now n uses i) }
@@ -198,7 +198,7 @@ fn collect_list(
     done: Collected,
 ) -> Collected
     requires listing { Listing (uses_of position.now kind.now cost.now) end.now (length freq.now) (plain_segment s) }
-    requires fact { let lent = use_columns inst.old weight.old left_weight.old right_weight.old in
+    requires room { let lent = use_columns inst.old weight.old left_weight.old right_weight.old in
         RowsLeft (s.end_use - s.first_use) (collecting lent done) }
     requires near_value { let block = block_in_use end.now (length freq.now) (uses_of position.now kind.now cost.now) in
         done.near.0 ≡ number_before block s.first_use }
@@ -257,10 +257,10 @@ pub fn collect_lists(
     right_weight: &mut [f32],
     done: Collected,
 ) -> Collected
-    requires fact { let uses = uses_of position.now kind.now cost.now in
+    requires checked { let uses = uses_of position.now kind.now cost.now in
         let segments = segments_of start.now end.now value.now first_use.now end_use.now flags.now in
         Listings uses block_end.now (length freq.now) (length code.now) segments }
-    requires fact_2 { let uses = uses_of position.now kind.now cost.now in
+    requires room { let uses = uses_of position.now kind.now cost.now in
         let lent = use_columns inst.old weight.old left_weight.old right_weight.old in
         RowsLeft (length uses) (collecting lent done) }
     requires near_value { done.near.0 ≡ 0 }

@@ -63,11 +63,11 @@ pub fn collect_uses(
     right_weight: &mut [f32],
 ) -> usize
     requires sound_columns { SoundColumns freq.now block_first.now block_end.now }
-    requires fact { let blocks = blocks_of freq.now block_first.now block_end.now in
+    requires checked { let blocks = blocks_of freq.now block_first.now block_end.now in
         let uses = uses_of position.now kind.now cost.now in
         let segments = segments_of start.now end.now value.now first_use.now end_use.now flags.now in
         CheckedUses (source_of uses segments code.now scales blocks) }
-    requires fact_2 { let uses = uses_of position.now kind.now cost.now in
+    requires room { let uses = uses_of position.now kind.now cost.now in
         let lent = use_columns inst.old weight.old left_weight.old right_weight.old in
         Inside (length uses + 1) lent }
     ensures { let blocks = blocks_of freq.now block_first.now block_end.now in

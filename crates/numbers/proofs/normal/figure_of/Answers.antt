@@ -1,8 +1,7 @@
 -- `figure_of` is its definition: nothing, less than a half, or the nearest whole number between 1 and the ceiling
 use native.Mathlib.Omega.{arith}
-use lib.Pow.{pow_pos}
 use borrow.Author.Rules.{rules}
-use Rattle.numbers.proofs.FigureBits.{figure_none, figure_least, one_shifted, rest_fits, whole_fits, figure_by}
+use Rattle.numbers.proofs.FigureBits.{figure_none, figure_least, rest_fits, whole_fits, figure_by}
 use Rattle.numbers.proofs.normal.figure_of.Goals as goal
 
 pub returns-then-n-eq0 : goal.returns-then-n-eq0

@@ -6,7 +6,7 @@ use Rattle.numbers.proofs.weights.value_of.Goals as goal
 
 pub returns-in_default : goal.returns-in_default
 unfolding of_bits
-returns-in_default c = value_absent _ _ (sym c.value_from_bits-value.ensures ∙ c.enum_told-1.given.1)
+returns-in_default c = value_absent _ _ (sym c.value_from_bits-value.ensures ∙ c.in_default.is)
 
 pub returns : goal.returns
-returns c = value_at _ _ _ (sym c.value_from_bits-value.ensures ∙ c.value-1.given.1)
+returns c = value_at _ _ _ (sym c.value_from_bits-value.ensures ∙ c.in-At.is)
