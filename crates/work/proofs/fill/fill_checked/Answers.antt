@@ -65,9 +65,8 @@ returns-in_default c =
     let cols : UseColumns = use_columns c.fill_uses-filled.new.inst c.fill_uses-filled.new.weight
     c.fill_uses-filled.new.left_weight c.fill_uses-filled.new.right_weight in
     let q = c.requires in
-    let l = c.fill_uses-filled.last in
     none_filled source c.args.scales lent q.0 q.1 q.2 q.3
-    l.1.1.1.1.1.1.1.1.1.1.1.1.1.1.0 l.1.1.1.1.1.1.1.1.1.1.1.1.1.1.1.0 cols c.fill_uses-filled.result.rows
+    c.fill_uses-filled.new.prev_lower_freq c.fill_uses-filled.new.next_lower_freq cols c.fill_uses-filled.result.rows
     c.fill_uses-filled.result.best c.fill_uses-filled.ensures c.in_default.is
 
 pub fill_gap_tables-t-requires : goal.fill_gap_tables-t-requires
@@ -87,24 +86,23 @@ fill_gap_tables-t-requires c =
     let cols : UseColumns = use_columns c.fill_uses-filled.new.inst c.fill_uses-filled.new.weight
     c.fill_uses-filled.new.left_weight c.fill_uses-filled.new.right_weight in
     let q = c.requires in
-    let l = c.fill_uses-filled.last in
     let n = c.segment_count-segments in record {
       inside = cut_inside source c.args.scales lent q.0 q.1 q.2 q.3
-          l.1.1.1.1.1.1.1.1.1.1.1.1.1.1.0 l.1.1.1.1.1.1.1.1.1.1.1.1.1.1.1.0 cols c.fill_uses-filled.result.rows
+          c.fill_uses-filled.new.prev_lower_freq c.fill_uses-filled.new.next_lower_freq cols c.fill_uses-filled.result.rows
           c.fill_uses-filled.result.best c.fill_uses-filled.ensures
           c.in-At.best c.in-At.is n.result n.ensures;
       cuttable = (
         cut_cuttable source c.args.scales lent q.0 q.1 q.2 q.3
-            l.1.1.1.1.1.1.1.1.1.1.1.1.1.1.0 l.1.1.1.1.1.1.1.1.1.1.1.1.1.1.1.0 cols c.fill_uses-filled.result.rows
+            c.fill_uses-filled.new.prev_lower_freq c.fill_uses-filled.new.next_lower_freq cols c.fill_uses-filled.result.rows
             c.fill_uses-filled.result.best c.fill_uses-filled.ensures
             c.in-At.best c.in-At.is,
         cut_valued source c.args.scales lent q.0 q.1 q.2 q.3
-            l.1.1.1.1.1.1.1.1.1.1.1.1.1.1.0 l.1.1.1.1.1.1.1.1.1.1.1.1.1.1.1.0 cols c.fill_uses-filled.result.rows
+            c.fill_uses-filled.new.prev_lower_freq c.fill_uses-filled.new.next_lower_freq cols c.fill_uses-filled.result.rows
             c.fill_uses-filled.result.best c.fill_uses-filled.ensures
             c.in-At.best c.in-At.is n.result n.ensures,
       );
       room = cut_room source c.args.scales lent q.0 q.1 q.2 q.3
-          l.1.1.1.1.1.1.1.1.1.1.1.1.1.1.0 l.1.1.1.1.1.1.1.1.1.1.1.1.1.1.1.0 cols c.fill_uses-filled.result.rows
+          c.fill_uses-filled.new.prev_lower_freq c.fill_uses-filled.new.next_lower_freq cols c.fill_uses-filled.result.rows
           c.fill_uses-filled.result.best c.fill_uses-filled.ensures
           c.in-At.best c.in-At.is n.result n.ensures;
     }
@@ -174,16 +172,13 @@ returns c =
     let cols : UseColumns = use_columns c.fill_uses-filled.new.inst c.fill_uses-filled.new.weight
     c.fill_uses-filled.new.left_weight c.fill_uses-filled.new.right_weight in
     let q = c.requires in
-    let l = c.fill_uses-filled.last in
     let d = c.fill_gap_tables-t in
-    let g = d.last.1.1.1.1.1.1.1.1.1.1.1.1.1.1.1 in
-    let t = g.1.1.1.1.1.1 in
     let n =
     c.segment_count-segments in
     all_filled source c.args.scales lent q.0 q.1 q.2 q.3
-    l.1.1.1.1.1.1.1.1.1.1.1.1.1.1.0 l.1.1.1.1.1.1.1.1.1.1.1.1.1.1.1.0 cols c.fill_uses-filled.result.rows
+    c.fill_uses-filled.new.prev_lower_freq c.fill_uses-filled.new.next_lower_freq cols c.fill_uses-filled.result.rows
     c.fill_uses-filled.result.best c.fill_uses-filled.ensures
     c.in-At.best c.in-At.is n.result n.ensures
-    (gap_columns g.0 g.1.0 g.1.1.0 g.1.1.1.0 g.1.1.1.1.0 g.1.1.1.1.1.0)
-    (segment_columns t.0 t.1.0 t.1.1.0 t.1.1.1.0 d.result.segments)
+    (gap_columns d.last.1.1.1.1.1.1.1.1.1.1.1.1.1.1.1.0 d.last.1.1.1.1.1.1.1.1.1.1.1.1.1.1.1.1.0 d.last.1.1.1.1.1.1.1.1.1.1.1.1.1.1.1.1.1.0 d.last.1.1.1.1.1.1.1.1.1.1.1.1.1.1.1.1.1.1.0 d.last.1.1.1.1.1.1.1.1.1.1.1.1.1.1.1.1.1.1.1.0 d.last.1.1.1.1.1.1.1.1.1.1.1.1.1.1.1.1.1.1.1.1.0)
+    (segment_columns d.last.1.1.1.1.1.1.1.1.1.1.1.1.1.1.1.1.1.1.1.1.1.0 d.last.1.1.1.1.1.1.1.1.1.1.1.1.1.1.1.1.1.1.1.1.1.1.0 d.last.1.1.1.1.1.1.1.1.1.1.1.1.1.1.1.1.1.1.1.1.1.1.1.0 d.last.1.1.1.1.1.1.1.1.1.1.1.1.1.1.1.1.1.1.1.1.1.1.1.1.0 d.result.segments)
     d.result.gaps d.result.initial d.ensures
