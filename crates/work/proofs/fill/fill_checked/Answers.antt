@@ -179,6 +179,6 @@ returns c =
     c.fill_uses-filled.new.prev_lower_freq c.fill_uses-filled.new.next_lower_freq cols c.fill_uses-filled.result.rows
     c.fill_uses-filled.result.best c.fill_uses-filled.ensures
     c.in-At.best c.in-At.is n.result n.ensures
-    (gap_columns d.last.1.1.1.1.1.1.1.1.1.1.1.1.1.1.1.0 d.last.1.1.1.1.1.1.1.1.1.1.1.1.1.1.1.1.0 d.last.1.1.1.1.1.1.1.1.1.1.1.1.1.1.1.1.1.0 d.last.1.1.1.1.1.1.1.1.1.1.1.1.1.1.1.1.1.1.0 d.last.1.1.1.1.1.1.1.1.1.1.1.1.1.1.1.1.1.1.1.0 d.last.1.1.1.1.1.1.1.1.1.1.1.1.1.1.1.1.1.1.1.1.0)
-    (segment_columns d.last.1.1.1.1.1.1.1.1.1.1.1.1.1.1.1.1.1.1.1.1.1.0 d.last.1.1.1.1.1.1.1.1.1.1.1.1.1.1.1.1.1.1.1.1.1.1.0 d.last.1.1.1.1.1.1.1.1.1.1.1.1.1.1.1.1.1.1.1.1.1.1.1.0 d.last.1.1.1.1.1.1.1.1.1.1.1.1.1.1.1.1.1.1.1.1.1.1.1.1.0 d.result.segments)
+    (gap_columns d.new.gap_from d.new.gap_to d.new.gap_weight d.new.live d.new.min_freq d.new.gap_block)
+    (segment_columns d.new.segment_from d.new.segment_to d.new.segment_value d.new.segment_gap d.result.segments)
     d.result.gaps d.result.initial d.ensures
