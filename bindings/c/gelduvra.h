@@ -1,4 +1,4 @@
-/* The proved split proposal, for programs in C: the three functions of target/staticlib/libexports.a, which `rt staticlib exports` writes.
+/* The proved split proposal, for programs in C: the three functions of crates/exports/out/libexports.a, which `bin/archive` makes.
  *
  * A column is a pointer and how many items it has; a table has as many rows as its shortest column. A pointer is never null, not
  * even of an empty column, and is aligned. No column that is written overlaps another. Nothing else is asked of the arguments: what
@@ -17,7 +17,8 @@ extern "C" {
 #endif
 
 /* The symbols of the functions end in the version of this interface and in what to do, so that an archive of another version does not
- * link, and the linker's own message says how to get one that does. Programs use the plain names. */
+ * link, and the linker's own message says how to get one that does, by the command's older name: today it is `bin/archive`. Programs use the
+ * plain names. */
 #define GELDUVRA_VERSIONED(name) name##_v3_else_run_rt_staticlib_exports
 #define gelduvra_propose_split GELDUVRA_VERSIONED(gelduvra_propose_split)
 #define gelduvra_find_optimal_split_point GELDUVRA_VERSIONED(gelduvra_find_optimal_split_point)

@@ -1,4 +1,4 @@
-//! Finds the static library: in the folder that GELDUVRA_LIB_DIR names, else where the repository's `rt staticlib exports` writes it. One of
+//! Finds the static library: in the folder that GELDUVRA_LIB_DIR names, else where the repository's `bin/archive` puts it. One of
 //! another version than this crate's is not taken.
 
 use std::env;
@@ -12,13 +12,13 @@ fn main() {
     let here = PathBuf::from(env::var_os("CARGO_MANIFEST_DIR").expect("cargo sets it"));
     let folder = match env::var_os("GELDUVRA_LIB_DIR") {
         Some(named) => PathBuf::from(named),
-        None => here.join("../../target/staticlib"),
+        None => here.join("../../crates/exports/out"),
     };
     let archive = folder.join("libexports.a");
     println!("cargo::rerun-if-changed={}", archive.display());
     let Ok(archive) = archive.canonicalize() else {
         println!(
-            "cargo::error={} is missing: `rt staticlib exports` in the repository's root makes it, or GELDUVRA_LIB_DIR names its folder",
+            "cargo::error={} is missing: `bin/archive` in the repository's root makes it, or GELDUVRA_LIB_DIR names its folder",
             archive.display()
         );
         return;
@@ -28,7 +28,7 @@ fn main() {
     let bytes = fs::read(&archive).unwrap_or_default();
     if !bytes.windows(symbol.len()).any(|window| window == symbol) {
         println!(
-            "cargo::error={} is of another version than the crate gelduvra, which calls {}: `rt staticlib exports` in the repository's root \
+            "cargo::error={} is of another version than the crate gelduvra, which calls {}: `bin/archive` in the repository's root \
              makes it anew, or GELDUVRA_LIB_DIR names the folder of one that fits",
             archive.display(),
             symbol!("gelduvra_propose_split"),

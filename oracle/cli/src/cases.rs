@@ -11,6 +11,11 @@ pub fn recorded() -> PathBuf {
     PathBuf::from(env!("CARGO_MANIFEST_DIR")).join("../../recorded")
 }
 
+/// Its copy, on which the program `replay` is run: the two are kept equal.
+pub fn replayed() -> PathBuf {
+    PathBuf::from(env!("CARGO_MANIFEST_DIR")).join("../../crates/replay/data")
+}
+
 pub fn cases() -> ExitCode {
     let folder = recorded().join("cases");
     let mut names: Vec<String> = fs::read_dir(&folder)

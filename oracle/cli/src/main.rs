@@ -23,7 +23,7 @@ usage: oracle/run COMMAND
   damage [OPTIONS]         damaged jobs and texts as records; refusals rest on the second reading
   compare [OPTIONS]        the Rust against the second reading on accepted jobs
   points [OPTIONS]         the same for the lower-cost split point
-  record                   writes recorded/*.txt again
+  record                   writes recorded/*.txt again, and the copies in crates/replay/data
   replay                   the Rust and the second reading against recorded/*.txt
   slips                    for each slip the recorded sheets that notice it
   library [OPTIONS]        the Rust against the proved static library on accepted and damaged jobs and split points

@@ -11,7 +11,7 @@ use sheet::{
     write_sheet, write_tables,
 };
 
-use crate::cases::recorded;
+use crate::cases::{recorded, replayed};
 use crate::{print, rust};
 
 const SEED: u64 = 20_261_115;
@@ -50,7 +50,9 @@ fn record(sheet: &[u8], answer: &Answer, tables: &Tables, by_rust: bool) -> Vec<
 fn save(name: &str, records: &[Vec<u8>]) {
     let mut text = fields('c', &[records.len() as u32]).into_bytes();
     text.extend(records.concat());
-    fs::write(recorded().join(name), &text).unwrap();
+    for folder in [recorded(), replayed()] {
+        fs::write(folder.join(name), &text).unwrap();
+    }
     println!("{name}: {} records, {} bytes", records.len(), text.len());
 }
 
