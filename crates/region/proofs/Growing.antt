@@ -10,7 +10,7 @@ use lib.Dec.{T, leb}
 use lib.Ieee.{Float}
 use lib.ListN.{length, get_or}
 use borrow.Author.Tests.{lt-ltb, le-ltb, eq-eqb, ne_eqb}
-use Rattle.numbers.specs.Weight.{Weight, finite, units_of, zero_weight, heavier, heaviest}
+use Rattle.numbers.specs.Weight.{Weight, finite, units_of, zero_weight, heavier}
 use Rattle.columns.proofs.Tests.{cond_true, cond_false}
 use Rattle.numbers.proofs.Units.{units_inj, zero_finite, zero_units}
 use Rattle.numbers.proofs.Heaviest.{heavier_weight, heavier_units, heaviest_weight}
