@@ -2,7 +2,7 @@
 use mathlib.Core.List.{List, [], ◌∷◌}
 use Prim.Native.Nat.{ℕ, ◌+◌, ◌-◌}
 use lib.Dec.{lit≤}
-use lib.Ieee.{Float}
+use lib.Ieee.{Float, add, binary32}
 use lib.ListN.{length}
 use Rattle.numbers.specs.Weight.{Weight, Finite, finite, zero_weight, frequency_limit, Weights}
 use Rattle.numbers.proofs.Units.{zero_finite}
@@ -35,7 +35,7 @@ pub record Weighty (u : SplitUse) : Type 0 where
 plus_weight : (w : Float) (ws : List Float) → Weight w → Weights ws → Weight (plus w ws)
 unfolding plus
 plus_weight w [] p q = p
-plus_weight w (v ∷ vs) p q = plus_weight _ vs (sum_weight p q.0) q.1
+plus_weight w (v ∷ vs) p q = plus_weight (add binary32 w v) vs (sum_weight p q.0) q.1
 
 block_finite : (blocks : List BlockRow) (b : ℕ) → Finite (frequency_of blocks b)
 block_finite blocks b = value_finite frequency_limit (block_at blocks b).frequency (lit≤ tt)

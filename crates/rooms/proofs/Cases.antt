@@ -15,7 +15,6 @@ use Rattle.jobs.specs.declared.rows.Use.{Use}
 use Rattle.jobs.specs.declared.rows.Reservation.{Reservation}
 use Rattle.jobs.specs.declared.rows.FixedUse.{FixedUse}
 use Rattle.filling.specs.declared.lent.Rooms.{Rooms}
-use Rattle.refusals.specs.Job.{Job}
 use Rattle.refusals.specs.Refusals.{first_broken, bad_parameters, some_long, bad_sizes}
 use Rattle.rooms.specs.Rooms.{refusal_of}
 
