@@ -6,7 +6,6 @@ use native.Mathlib.Omega.{arith}
 use lib.Ieee.{Float, binary32, to_bits}
 use lib.ListN.{length, get_or, drop, length-map, get_or-append}
 use Rattle.columns.specs.Below.{joined}
-use Rattle.columns.specs.Table.{filled}
 use Rattle.sheet.specs.Sheet.{line_text}
 use Rattle.numbers.specs.Weight.{zero_weight}
 use Rattle.use_rows.specs.declared.row.SplitUse.{SplitUse}

@@ -2,20 +2,12 @@
 use Prim.Native.Nat.{◌*◌, ◌/◌}
 use native.Mathlib.Nat.{mul_comm, div-lt_iff_lt-mul, le-div_iff_mul-le}
 use native.Mathlib.Omega.{arith}
-use borrow.Author.Rules.{rules}
 use Rattle.table_text.proofs.TextLaws.{leb_same}
-use Rattle.table_text.proofs.write.fit.Statement.{statement}
-use Rattle.table_text.proofs.write.fit.Tie as tie
+use Rattle.table_text.proofs.write.fit.Goals as goal
 
-div-result : tie.Need-nonzero-div-result
-div-result c = search rules
-
-returns : tie.Need-returns
+pub returns : goal.returns
 returns c =
     let a = c.args in
     leb_same a.rows (a.bytes / a.width) (a.width * a.rows) a.bytes
     (λ h. omega (arith, (le-div_iff_mul-le c.requires).0 h, mul_comm a.width a.rows))
     (λ h. omega (arith, (div-lt_iff_lt-mul c.requires).0 h, mul_comm a.width a.rows))
-
-pub fit_spec : {M : Type 1} → statement M
-fit_spec = tie.close (tie.spec div-result returns)
