@@ -1,9 +1,9 @@
 -- None of kind 2: when the best use's own gap fails, in the job's own rows
-use mathlib.Core.Path.{◌≡◌, sym, ap, ap₂, ◌∙◌, subst}
+use mathlib.Core.Path.{◌≡◌, sym, ap, ◌∙◌, subst}
 use mathlib.Core.Logic.{◌⊎◌, inl, inr, ⊎_elim, ◌↔◌}
 use mathlib.Core.Bool.{Bool, not}
 use mathlib.Core.List.{List}
-use Prim.Native.Nat.{ℕ, ◌+◌, ◌^◌, ◌≤◌, ◌<◌}
+use Prim.Native.Nat.{ℕ, ◌+◌, ◌≤◌, ◌<◌}
 use native.Mathlib.Nat.{le_refl, le_trans, le_of_eq}
 use native.Mathlib.Omega.{arith}
 use lib.Dec.{T, lit≤, T_not, not_T}
@@ -22,7 +22,7 @@ use Rattle.growth.proofs.Meetings.{met_weights, met_of_gap, gap_of_met}
 use Rattle.growth.proofs.Proposals.{nothing_exactly}
 use Rattle.refusals.specs.Job.{Job}
 use Rattle.refusals.proofs.Accepted.{Accepted}
-use Rattle.tables.specs.JobTables.{uses_of_job, own_of_job}
+use Rattle.tables.specs.JobTables.{uses_of_job}
 use Rattle.views.specs.View.{seen_of_job}
 use Rattle.views.specs.Met.{gap_of_segment, FixedMet, WeightMet, AtBest}
 use Rattle.views.proofs.JobView.{gap_weighs, gap_weighed_by, gap_fixed_exactly, job_sound}

@@ -1,7 +1,7 @@
 -- The premise of the ring and chain law can be met: a list of two jobs and their proposals, by computation
 use mathlib.Core.Path.{◌≡◌, refl}
-use mathlib.Core.List.{List, [], ◌∷◌, map}
-use Prim.Native.Nat.{ℕ, ◌<◌}
+use mathlib.Core.List.{[], ◌∷◌, map}
+use Prim.Native.Nat.{ℕ}
 use lib.Dec.{lit<}
 use lib.Ieee.{binary32, of_bits, to_bits, add, sub, mul, div, round, lt, eq, of_int}
 use Rattle.numbers.specs.Weight.{value_of}
