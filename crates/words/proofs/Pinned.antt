@@ -1,6 +1,6 @@
 -- The layout of words and columns, pinned by computed cases in which all fields differ
 use mathlib.Core.Path.{◌≡◌, refl}
-use mathlib.Core.List.{List, [], ◌∷◌, map}
+use mathlib.Core.List.{List, [], ◌∷◌}
 use Prim.Native.Nat.{ℕ}
 use lib.Ieee.{Float, binary32, of_bits, to_bits, div, round, lt, of_int}
 use Rattle.numbers.specs.Weight.{value_of}
@@ -10,8 +10,8 @@ use Rattle.columns.specs.Table.{table}
 use Rattle.links.specs.declared.split.SplitPoint.TheVariants as SplitPoint·is
 use Rattle.growth.specs.declared.proposal.SplitProposal.{SplitProposal}
 use Rattle.outcome.specs.declared.grow.Answer.TheVariants as Answer·is
-use Rattle.filling.specs.SourceTables.{WorkColumns, work_columns}
-use Rattle.refusals.specs.Job.{Job, job_columns, job_of}
+use Rattle.filling.specs.SourceTables.{work_columns}
+use Rattle.refusals.specs.Job.{job_columns, job_of}
 use Rattle.words.specs.Words.{proposed_words, split_point_words, normalised_bits}
 
 -- ---- the words of `gelduvra_propose_split`

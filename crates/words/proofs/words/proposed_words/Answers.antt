@@ -6,9 +6,7 @@ use lib.ListN.{get_or}
 use Rattle.outcome.specs.declared.grow.Answer.{Answer}
 use Rattle.outcome.specs.declared.grow.Answer.TheVariants as Answer·is
 use Rattle.words.specs.Words.{answer_words}
-use borrow.Author.Rules.{rules}
-use Rattle.words.proofs.words.proposed_words.Statement.{statement}
-use Rattle.words.proofs.words.proposed_words.Tie as tie
+use Rattle.words.proofs.words.proposed_words.Goals as goal
 
 -- the seven words of an answer, one behind the other
 spread : (a : Answer) (w : List ℕ) → w ≡ answer_words a → (u g s : ℕ)
@@ -23,45 +21,7 @@ spread a w e u g s =
     by Answer·is.NoRegion = refl
     by (Answer·is.Refused r) = refl
 
-answer-words-requires : tie.Need-answer-words-requires
-answer-words-requires c κs = search rules
-
-array-read-t7 : tie.Need-array-read-t7
-array-read-t7 c = search rules
-
-array-read-t10 : tie.Need-array-read-t10
-array-read-t10 c = search rules
-
-array-read-t13 : tie.Need-array-read-t13
-array-read-t13 c = search rules
-
-array-read-t16 : tie.Need-array-read-t16
-array-read-t16 c = search rules
-
-array-read-t19 : tie.Need-array-read-t19
-array-read-t19 c = search rules
-
-array-read-t22 : tie.Need-array-read-t22
-array-read-t22 c = search rules
-
-array-read-t25 : tie.Need-array-read-t25
-array-read-t25 c = search rules
-
-returns : tie.Need-returns
+pub returns : goal.returns
 returns c =
-    let p = c.before.args.proposed in
-    spread p.answer _ c.answer_words.ensures p.uses p.gaps p.gap_segments
-
-pub proposed-words-spec : {M : Type 1} → statement M
-proposed-words-spec =
-    tie.close
-    (tie.spec
-    answer-words-requires
-    array-read-t7
-    array-read-t10
-    array-read-t13
-    array-read-t16
-    array-read-t19
-    array-read-t22
-    array-read-t25
-    returns)
+    let p = c.args.proposed in
+    spread p.answer _ c.answer_words-w.ensures p.uses p.gaps p.gap_segments
