@@ -1,11 +1,10 @@
 -- What is answered, put together: a job from its proposal, a text from its reading and the answer to its job
-use Prim.Native.Nat.{ℕ, zero, suc, ◌+◌, ◌≤◌}
+use Prim.Native.Nat.{ℕ, zero, suc, ◌+◌}
 use mathlib.Core.Path.{◌≡◌, refl, sym, ap, ◌∙◌, subst}
 use mathlib.Core.Bool.{Bool, true, false}
 use mathlib.Core.List.{List, [], ◌∷◌, ◌++◌}
 use native.Mathlib.Omega.{arith}
-use lib.ListN.{length, drop, length-map, length-append, length-drop}
-use lib.Dec.{eqb}
+use lib.ListN.{length, length-map}
 use borrow.Author.Tests.{le-ltb}
 use Rattle.sheet.specs.Kinds.{pick}
 use Rattle.sheet.specs.Refusal.{lines_of, fault, judged, verdict_below, verdict, sheet_of, latest, is_complete}
@@ -21,12 +20,7 @@ use Rattle.links.specs.declared.lower.Side.TheVariants.{Previous}
 use Rattle.links.specs.declared.blocks.Checked.{Checked}
 use Rattle.links.specs.declared.blocks.Checked.TheVariants as Checked·is
 use Rattle.columns.specs.Below.{joined}
-use Rattle.columns.specs.Table.{filled}
 use Rattle.columns.proofs.Tables.{table_length}
-use Rattle.use_rows.specs.declared.row.SplitUse.{SplitUse}
-use Rattle.overlaps.specs.GapSegments.{Overlap}
-use Rattle.gaps.specs.Gaps.{Gap}
-use Rattle.table_text.proofs.TextLaws.{text_bytes}
 use Rattle.use_rows.specs.declared.row.BestUse.{BestUse}
 use Rattle.use_rows.specs.declared.row.BestUse.TheVariants as BestUse·is
 use Rattle.filling.specs.UseTables.{best_of}
@@ -45,8 +39,8 @@ use Rattle.tables.specs.JobTables.{if_accepted, no_tables, tables_of}
 use Rattle.filling.specs.SourceTables.{freqs_of, tables_of_best, WorkColumns, rooms_of}
 use Rattle.figures.specs.Figures.{shown_of}
 use Rattle.cells.specs.SheetJob.{job_of_sheet}
-use Rattle.table_text.specs.TablesText.{columns_text, columns_of_tables, rows_of_tables, tables_text, bytes_of_rows}
-use Rattle.answers.specs.SheetRooms.{sheet_rooms, rooms_within}
+use Rattle.table_text.specs.TablesText.{columns_text, rows_of_tables, tables_text}
+use Rattle.answers.specs.SheetRooms.{rooms_within}
 use Rattle.answers.specs.JobAnswer.{shown_of_job, links_used, rows_of_proposed, IsAnsweredJob}
 use Rattle.answers.specs.SheetAnswer.{of_verdict, if_read, IsAnswered}
 use Rattle.answers.specs.declared.job.Answered.{Answered}

@@ -1,5 +1,5 @@
 -- What the H figure of a job's answer tells
-use Rattle.std.specs.Prelude.{◌≡◌, ℕ, ◌<◌}
+use Rattle.std.specs.Prelude.{◌≡◌, ◌<◌}
 use Rattle.numbers.specs.Weight.{units_of}
 use Rattle.numbers.specs.Normal.{normalised}
 use Rattle.numbers.specs.Figure.{Tells}

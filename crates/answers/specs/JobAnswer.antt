@@ -1,5 +1,5 @@
 -- What a job is answered as text
-use Rattle.std.specs.Prelude.{ℕ, ◌≤◌, List, length}
+use Rattle.std.specs.Prelude.{ℕ, List}
 use Rattle.sheet.specs.Answer.{answer_text, Wrote}
 use Rattle.sheet.specs.declared.write.Answer as Shown
 use Rattle.filling.specs.declared.lent.Rooms.{Rooms}

@@ -1,5 +1,5 @@
 -- What a sheet's text is answered
-use Rattle.std.specs.Prelude.{ℕ, ◌≤◌, List, length}
+use Rattle.std.specs.Prelude.{ℕ, List}
 use Rattle.sheet.specs.Refusal.{verdict, sheet_of}
 use Rattle.sheet.specs.Answer.{answer_text, Wrote}
 use Rattle.sheet.specs.declared.check.Verdict.{Verdict}

@@ -298,7 +298,7 @@ returns c =
     let proposed = c.propose_split-proposed.ensures in
     let rooms = lent_rooms args.asked e in
     let more = behind_of q.result in
-    let blocks = c.count.ensures ∙ ap (λ (x : JobColumns). length (job_of args.parameters x).blocks) (columns_taken args.t1) in
+    let blocks = c.count.ensures ∙ ap (λ (x : JobColumns). length (job_of args.parameters x).blocks) (columns_taken args.columns) in
     record {
       answer = subst
           (λ (x : Shown.Answer). Wrote (answer_text x) args.out.now c.write_answer.new.out c.write_answer.result)
