@@ -1,9 +1,9 @@
 // splitsheet [--tables] [SHEET]: answers the sheet that a file holds, or standard input where none is named, or where it is named `-`.
 //
 // The answer is document 01's: Q and H, N, or R. With --tables the tables follow it: links, uses, gaps and gap segments, lines l, u, g
-// and o. Where nothing can be read, one line on standard error says why, nothing is answered, and the exit status is 2. No more than
-// 65,536 bytes are read: those of a text that has more decide its answer (proofs/Front.antt of `answers`). The work tables have room for
-// every sheet (proofs/Rooms.antt there). What is read and written is not proved; the work is done by `answer_sheet`, on slices.
+// and o. Where nothing can be read, one line on standard error says why, and nothing is answered. No more than 65,536 bytes are read:
+// those of a text that has more decide its answer (proofs/Front.antt of `answers`). The work tables have room for every sheet
+// (proofs/Rooms.antt there). What is read and written is not proved; the work is done by `answer_sheet`, on slices.
 #![tactic(auto)]
 
 ghost use Rattle.std.specs.Prelude.{◌≤◌, ◌≡◌, length, take};
@@ -13,7 +13,6 @@ use answers::room::{ANSWER_BYTES, TABLE_BYTES, sheet_rooms};
 use sheet::{Written, same};
 use std::env::{Env, FillError};
 use std::io::{Error, ErrorKind, Read};
-use std::process::ExitCode;
 use std::str::from_utf8;
 use std::{fs, io};
 
@@ -252,21 +251,18 @@ fn print_answer(rt: &impl Print, text: &[u8], tables: bool) -> io::Result<()> {
     print_written(rt, &lines, rows)
 }
 
-fn main(rt: HostRuntime) -> ExitCode {
-    let refused = ExitCode::from(2);
+fn main(rt: HostRuntime) {
     let a = read_arguments(&rt);
     let Asked::Sheet(tables, at) = a else {
-        return refused;
+        return;
     };
     let mut text = [0u8; 65536];
     let got = read_asked(&rt, at, &mut text);
     if got.failed.is_some() {
-        return refused;
+        return;
     }
     let n = got.bytes;
     if let Err(e) = print_answer(&rt, &text[..n], tables) {
         complain_error(&rt, b"standard output", e);
-        return refused;
     }
-    ExitCode::SUCCESS
 }
