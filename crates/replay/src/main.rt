@@ -10,8 +10,7 @@ mod long;
 mod points;
 mod text;
 
-ghost use Rattle.std.specs.Prelude.{◌≤◌, ◌<◌, ◌≡◌, length};
-ghost use Rattle.std.specs.Prelude.{take};
+ghost use Rattle.std.specs.Prelude.{◌≤◌, ◌<◌, ◌≡◌, length, take};
 
 use answers::room::sheet_rooms;
 use compare::{print_count, replay_record, tell_broken};
