@@ -49,7 +49,7 @@ fn without_number(said: &str) -> &str {
 }
 
 // The same, with what the system says.
-fn complain_error(rt: &HostRuntime, what: &[u8], e: Error) {
+fn complain_errno(rt: &HostRuntime, what: &[u8], e: Error) {
     let err = rt.stderr();
     let _ = err.write_all(b"splitsheet: ");
     let _ = err.write_all(what);
@@ -182,12 +182,12 @@ fn read_path(rt: &HostRuntime, path: &[u8], buf: &mut [u8]) -> Got
         Ok(mut file) => {
             let got = read_text(&mut file, buf);
             if let Some(e) = got.failed {
-                complain_error(rt, path, e);
+                complain_errno(rt, path, e);
             }
             got
         }
         Err(e) => {
-            complain_error(rt, path, e);
+            complain_errno(rt, path, e);
             Got {
                 bytes: 0,
                 failed: Some(e),
@@ -216,7 +216,7 @@ fn read_asked(rt: &HostRuntime, at: usize, buf: &mut [u8]) -> Got
     }
     let got = read_text(&mut rt.stdin(), buf);
     if let Some(e) = got.failed {
-        complain_error(rt, b"standard input", e);
+        complain_errno(rt, b"standard input", e);
     }
     got
 }
@@ -263,6 +263,6 @@ fn main(rt: HostRuntime) {
     }
     let n = got.bytes;
     if let Err(e) = print_answer(&rt, &text[..n], tables) {
-        complain_error(&rt, b"standard output", e);
+        complain_errno(&rt, b"standard output", e);
     }
 }
