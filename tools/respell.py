@@ -1,12 +1,15 @@
 #!/usr/bin/env python3
 """Spells the repository's own definitions and lemmas in snake case: once, at the top, after the kit's port script.
 
-usage: respell.py [--check] [ROOT]
+usage: respell.py [--check] [--all-the-same] [ROOT]
 
 A name that a text of specs/ or proofs/ declares, and that has a dash or a capital inside, gets underscores: first-found and firstFound
-both become first_found. A name of the Rust source that a text spells with dashes is spelled as the source has it. Words that a file
-imports from a library stay there, as do functions of src/, strings, and names that the check itself makes of the code.
-What would fall together with another name in some file is told, and nothing is written.
+both become first_found. A name of the Rust source that a text spells with dashes is spelled as the source has it. A lemma that would get the
+name of the function that it is about ends in _lem (LEMMAS, SPELLED). Words that a file imports from a library stay there, as do functions of
+src/, strings, and names that the check itself makes of the code. Names between backticks in README.md and docs/ are turned too, and the texts
+of must-fail edits.
+Where a name would meet another in some file, that is told, and nothing is written; --all-the-same writes, once those places have been read.
+--check writes nothing in any case.
 """
 import collections
 import os
