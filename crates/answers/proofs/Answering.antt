@@ -1,32 +1,23 @@
 -- What is answered, put together: a job from its proposal, a text from its reading and the answer to its job
-use Prim.Native.Nat.{ℕ, zero, suc, ◌+◌}
+use Prim.Native.Nat.{ℕ}
 use mathlib.Core.Path.{◌≡◌, refl, sym, ap, ◌∙◌, subst}
-use mathlib.Core.Bool.{Bool, true, false}
-use mathlib.Core.List.{List, [], ◌∷◌, ◌++◌}
+use mathlib.Core.List.{List, []}
 use native.Mathlib.Omega.{arith}
 use lib.ListN.{length, length-map}
 use borrow.Author.Tests.{le-ltb}
-use Rattle.sheet.specs.Kinds.{pick}
-use Rattle.sheet.specs.Refusal.{lines_of, fault, judged, verdict_below, verdict, sheet_of, latest, is_complete}
+use Rattle.sheet.specs.Refusal.{Verdict, verdict, sheet_of}
 use Rattle.sheet.specs.Answer.{answer_text, Wrote}
-use Rattle.sheet.specs.declared.check.Verdict.{Verdict}
-use Rattle.sheet.specs.declared.check.Verdict.TheVariants as Verdict·is
 use Rattle.sheet.specs.declared.write.Answer.TheVariants as Shown·is
-use Rattle.sheet.specs.declared.write.Written.{Written}
-use Rattle.sheet.specs.declared.write.Written.TheVariants as Written·is
+use Rattle.std.specs.Prelude.{Result, Ok, Err}
+use Rattle.sheet.specs.declared.check.BadLine.{BadLine}
+use Rattle.sheet.specs.declared.write.NoRoom.{NoRoom}
 use Rattle.links.specs.Links.{lower_link}
-use Rattle.links.specs.Blocks.{BlockRow}
+use Rattle.links.specs.Blocks.{BlockRow, Checked}
 use Rattle.links.specs.declared.lower.Side.TheVariants.{Previous}
-use Rattle.links.specs.declared.blocks.Checked.{Checked}
-use Rattle.links.specs.declared.blocks.Checked.TheVariants as Checked·is
 use Rattle.columns.specs.Below.{joined}
 use Rattle.columns.proofs.Tables.{table_length}
-use Rattle.use_rows.specs.declared.row.BestUse.{BestUse}
-use Rattle.use_rows.specs.declared.row.BestUse.TheVariants as BestUse·is
 use Rattle.filling.specs.UseTables.{best_of}
 use Rattle.growth.specs.Proposal.{region_of}
-use Rattle.growth.specs.declared.proposal.Region.{Region}
-use Rattle.growth.specs.declared.proposal.Region.TheVariants as Region·is
 use Rattle.filling.specs.declared.lent.Rooms.{Rooms}
 use Rattle.refusals.specs.Job.{Job, source_of_job}
 use Rattle.rooms.specs.Rooms.{refusal_of}
@@ -46,43 +37,26 @@ use Rattle.answers.specs.SheetAnswer.{of_verdict, if_read, IsAnswered}
 use Rattle.answers.specs.declared.job.Answered.{Answered}
 use Rattle.table_text.proofs.FilledText.{filled_begun, longer, longer_begun, begun_text}
 use Rattle.answers.proofs.EvenTables.{tables_even}
-
--- no text's verdict is NoRoom
-below_never : (ls above : List (List ℕ)) → verdict_below above ls ≡ Verdict·is.NoRoom → ⊥
-unfolding verdict_below
-below_never [] above e = at_end (is_complete (length above) (latest above)) e
-  where
-    at_end : (b : Bool) → pick b Verdict·is.Sound (Verdict·is.Refused 14 (length above + 1)) ≡ Verdict·is.NoRoom → ⊥
-    at_end true q = let z : ◌≡◌ {A = ℕ} 0 1 = cc in omega arith
-    at_end false q = let z : ◌≡◌ {A = ℕ} 0 1 = cc in omega arith
-below_never (l ∷ ls) above e = by (fault above l) e (below_never ls (above ++ (l ∷ [])))
-  where
-    by : (n : ℕ) → judged n (length above + 1) (verdict_below (above ++ (l ∷ [])) ls) ≡ Verdict·is.NoRoom
-        → (verdict_below (above ++ (l ∷ [])) ls ≡ Verdict·is.NoRoom → ⊥) → ⊥
-    by zero q later = later q
-    by (suc n) q later = let z : ◌≡◌ {A = ℕ} 0 1 = cc in omega arith
-
-pub verdict_never : (text : List ℕ) → verdict text ≡ Verdict·is.NoRoom → ⊥
-unfolding verdict
-verdict_never text e = below_never (lines_of text) [] e
+use Rattle.std.specs.Prelude.{Option, Some, None}
+use Rattle.growth.specs.declared.proposal.SplitProposal.{SplitProposal}
 
 -- one link a block, none where the job is refused
 module _ (job : Job) (n : ℕ) (counted : n ≡ length job.blocks) where
-  links_long : n ≡ length (tables_of_best (source_of_job job) BestUse·is.Nothing).prevs
+  links_long : n ≡ length (tables_of_best (source_of_job job) None).prevs
   links_long =
       counted
       ∙ sym (length-map job.blocks (λ (b : BlockRow). b.frequency))
       ∙ sym (table_length (lower_link Previous (freqs_of (source_of_job job))) (length (freqs_of (source_of_job job))))
 
-  links_region : (r : Region) → links_used (of_region r) n ≡ n
-  links_region (Region·is.Found p) = refl
-  links_region Region·is.Nothing = refl
+  links_region : (r : Option SplitProposal) → links_used (of_region r) n ≡ n
+  links_region (Some p) = refl
+  links_region None = refl
 
-  links_checked : (c : Checked) (b : BestUse) → links_used (of_checked c (of_best job b)) n
+  links_checked : (c : Checked) (b : Option ℕ) → links_used (of_checked c (of_best job b)) n
       ≡ length (if_accepted c (tables_of_best (source_of_job job) b) no_tables).prevs
-  links_checked (Checked·is.Refused r) b = refl
-  links_checked Checked·is.Sound (BestUse·is.At best) = links_region (region_of (seen_of_job job best)) ∙ links_long
-  links_checked Checked·is.Sound BestUse·is.Nothing = links_long
+  links_checked (Err r) b = refl
+  links_checked (Ok u) (Some best) = links_region (region_of (seen_of_job job best)) ∙ links_long
+  links_checked (Ok u) None = links_long
 
   pub links_filled : (rooms : Rooms) → links_used (answer_of job rooms) n ≡ length (tables_of job rooms).prevs
   links_filled rooms = links_checked (refusal_of job rooms) (best_of (source_of_job job))
@@ -109,7 +83,7 @@ module _ {job : Job} (asked : Rooms) {lent now : WorkColumns} {p : Proposed} (pr
   answer_said = ap (shown_of job.k) proposed.answer ∙ ap (λ (r : Rooms). shown_of job.k (answer_of job r)) rooms
 
 -- no text at all
-pub nothing_wrote : (out : List ℕ) → Wrote [] out out (Written·is.Bytes 0)
+pub nothing_wrote : (out : List ℕ) → Wrote [] out out (Ok 0)
 nothing_wrote out = let e = le-ltb (length out) 0 (omega arith) in record { answer = rw e; bytes = rw e }
 
 -- no tables have no text
@@ -118,19 +92,19 @@ unfolding joined
 no_text = refl
 
 -- a text that is refused
-pub refused_answered : (text : List ℕ) (asked : Rooms) (number line : ℕ) → verdict text ≡ Verdict·is.Refused number line
-    → {out out-now : List ℕ} (tables : List ℕ) {w : Written} → Wrote (answer_text (Shown·is.Refused number line)) out out-now w
-    → IsAnswered text asked out out-now tables tables (record { answer = w; tables = Written·is.Bytes 0 })
-refused_answered text asked number line e {out} {out-now} tables {w} wrote =
+pub refused_answered : (text : List ℕ) (asked : Rooms) (bad : BadLine) → verdict text ≡ Err bad
+    → {out out-now : List ℕ} (tables : List ℕ) {w : Result ℕ NoRoom} → Wrote (answer_text (Shown·is.Refused bad.number bad.line)) out out-now w
+    → IsAnswered text asked out out-now tables tables (record { answer = w; tables = Ok 0 })
+refused_answered text asked bad e {out} {out-now} tables {w} wrote =
     let job = job_of_sheet (sheet_of text) in
     record {
       answer = subst (λ (v : Verdict). Wrote (answer_text (of_verdict v (shown_of_job job (rooms_within asked)))) out out-now w) (sym e) wrote;
-      tables = subst (λ (v : Verdict). Wrote (tables_text (if_read v (tables_of job (rooms_within asked)))) tables tables (Written·is.Bytes 0)) (sym e)
-          (subst (λ (x : List ℕ). Wrote x tables tables (Written·is.Bytes 0)) (sym no_text) (nothing_wrote tables));
+      tables = subst (λ (v : Verdict). Wrote (tables_text (if_read v (tables_of job (rooms_within asked)))) tables tables (Ok 0)) (sym e)
+          (subst (λ (x : List ℕ). Wrote x tables tables (Ok 0)) (sym no_text) (nothing_wrote tables));
     }
 
 -- a sheet, by the answer to its job
-pub sheet_answered : (text : List ℕ) (asked : Rooms) → verdict text ≡ Verdict·is.Sound → {job : Job} → job ≡ job_of_sheet (sheet_of text)
+pub sheet_answered : (text : List ℕ) (asked : Rooms) → verdict text ≡ Ok tt → {job : Job} → job ≡ job_of_sheet (sheet_of text)
     → {out out-now tables tables-now : List ℕ} {a : Answered} → IsAnsweredJob job asked out out-now tables tables-now a
     → IsAnswered text asked out out-now tables tables-now a
 sheet_answered text asked e {job} same {out} {out-now} {tables} {tables-now} {a} said =

@@ -5,14 +5,13 @@ use Prim.Native.String.{String, [] as []ᵗ, ◌∷◌ as ◌∷ᵗ◌}
 use mathlib.Core.Path.{◌≡◌, refl}
 use mathlib.Core.List.{List, [], ◌∷◌, ◌++◌, map}
 use lib.Ieee.{of_bits, to_bits, add, sub, mul, div, round, lt, eq, of_int}
-use Rattle.sheet.specs.Kinds.{kind_at, letter, fields, limit, once, needed, width, position, kind_of}
-use Rattle.sheet.specs.Field.{digit_or_blank, digits, field, value_behind, value, same_text, is_field}
+use Rattle.sheet.specs.Kinds.{kind_at, letter, fields, limit, once, needed, width, kind_of}
+use Rattle.sheet.specs.Field.{digit_or_blank, digits, field, value_behind, value, is_field}
 use Rattle.sheet.specs.Sheet.{fields_text, line_text, line, lines_text, text_from, render}
 use Rattle.sheet.specs.Refusal.{lines_of, are_fields, is_line, kind_of_line, latest, of_kind, fault, verdict_below, verdict, numbers, row_of, sheet_of}
 use Rattle.sheet.specs.Refusal.{open_kind, none_needed, is_in_order, is_complete}
 use Rattle.sheet.specs.Cells.{column}
-use Rattle.sheet.specs.declared.write.End.{End}
-use Rattle.sheet.specs.declared.write.End.TheVariants.{At, Absent}
+use Rattle.std.specs.Prelude.{Option, Some, None}
 use Rattle.sheet.specs.declared.write.Answer as Printed
 use Rattle.sheet.specs.declared.write.Answer.TheVariants as Printed·is
 use Rattle.sheet.specs.Answer.{end_text, ends_text, weights_text, figures_text, answer_text}
@@ -107,7 +106,7 @@ abbrev case : Shown → Shown → Case
 case given said = record { given = given; said = said }
 
 -- document 01's Q with its H, N and R, and its sign for an absent end
-abbrev Q : End → End → ℕ → ℕ → ℕ → ℕ → ℕ → Shown
+abbrev Q : Option ℕ → Option ℕ → ℕ → ℕ → ℕ → ℕ → ℕ → Shown
 Q left right weight insts met cost H =
     Figures
     (Printed·is.Proposal
@@ -127,11 +126,11 @@ N kind = Figures (Printed·is.NoneOf kind)
 abbrev R : ℕ → ℕ → Shown
 R number place = Figures (Printed·is.Refused number place)
 
-abbrev no : End
-no = Absent
+abbrev no : Option ℕ
+no = None
 
-abbrev inst : ℕ → End
-inst n = At n
+abbrev inst : ℕ → Option ℕ
+inst n = Some n
 
 -- A, from its sheet's bytes to its answer's, which are those that document 01 prints
 abbrev case_a : List Case
@@ -190,7 +189,7 @@ cases = case_a ++ others
 
 -- every case holds; the text is computed by itself, as it takes most steps
 sheet_read : answer_of_text text_of_a sheet_rooms ≡ printed_of_a
-unfolding text_of_a printed_of_a kind_at letter fields limit once needed width position kind_of digit_or_blank digits field value_behind value same_text is_field
+unfolding text_of_a printed_of_a kind_at letter fields limit once needed width kind_of digit_or_blank digits field value_behind value is_field
     fields_text line_text line lines_text text_from render lines_of are_fields is_line kind_of_line latest of_kind open_kind none_needed is_in_order is_complete fault
     verdict_below verdict numbers row_of sheet_of column end_text ends_text weights_text figures_text answer_text figure_of figure units_of to_bits first_broken
     bad_parameters some_long bad_sizes is_bad bad_bounds bad_list bad_def bad_use bad_end bad_span bad_kind bad_fixed_use count_below any_below best_use use_table rows_from

@@ -1,17 +1,15 @@
 -- A job's tables have no more rows than the work tables, so the programs' buffer holds their text
+use Rattle.std.specs.Prelude.{ℕ}
+use Rattle.std.specs.Prelude.{Ok}
 use Prim.Native.Nat.{◌≤◌}
 use mathlib.Core.Path.{◌≡◌, refl}
 use native.Mathlib.Nat.{le_trans, min-le_right}
 use native.Mathlib.Omega.{arith}
 use lib.ListN.{length, length-map}
 use Rattle.columns.proofs.Tables.{table_length}
-use Rattle.links.specs.Blocks.{BlockRow}
+use Rattle.links.specs.Blocks.{BlockRow, Checked, no_refusal}
 use Rattle.links.specs.Links.{lower_link, link_column}
 use Rattle.links.specs.declared.lower.Side.TheVariants.{Previous}
-use Rattle.links.specs.declared.blocks.Checked.{Checked}
-use Rattle.links.specs.declared.blocks.Checked.TheVariants as Checked·is
-use Rattle.use_rows.specs.declared.row.BestUse.{BestUse}
-use Rattle.use_rows.specs.declared.row.BestUse.TheVariants as BestUse·is
 use Rattle.use_rows.specs.Uses.{Source, use_table_of}
 use Rattle.uses.proofs.UseTable.{use_table_few}
 use Rattle.filling.specs.UseTables.{best_of}
@@ -26,6 +24,7 @@ use Rattle.proposer.proofs.JobTheorems.{job_best_inside}
 use Rattle.table_text.specs.TablesText.{tables_text, columns_of_tables, rows_of_tables, bytes_of_rows}
 use Rattle.table_text.proofs.TextLaws.{text_bytes}
 use Rattle.answers.specs.SheetRooms.{sheet_rooms, rooms_within}
+use Rattle.std.specs.Prelude.{Err, Option, Some, None}
 
 -- tables that have no more rows than these
 pub record Fits (rows rooms : Rooms) : Type 0 where
@@ -35,7 +34,7 @@ pub record Fits (rows rooms : Rooms) : Type 0 where
   pub links : rows.links ≤ rooms.links
 
 -- the tables of an accepted job
-module _ (job : Job) (rooms : Rooms) (sound : refusal_of job rooms ≡ Checked·is.Sound) where
+module _ (job : Job) (rooms : Rooms) (sound : refusal_of job rooms ≡ no_refusal) where
   abbrev source : Source
   source = source_of_job job
 
@@ -51,9 +50,9 @@ module _ (job : Job) (rooms : Rooms) (sound : refusal_of job rooms ≡ Checked·
   uses_few : length (use_table_of source) ≤ rooms.uses
   uses_few = omega (arith, use_table_few source, (job_roomy job rooms sound).uses)
 
-  best_fit : (b : BestUse) → best_of source ≡ b → Fits (rows_of_tables (tables_of_best source b)) rooms
-  best_fit BestUse·is.Nothing e = record { uses = uses_few; gaps = omega arith; segments = omega arith; links = links_few }
-  best_fit (BestUse·is.At best) e =
+  best_fit : (b : Option ℕ) → best_of source ≡ b → Fits (rows_of_tables (tables_of_best source b)) rooms
+  best_fit None e = record { uses = uses_few; gaps = omega arith; segments = omega arith; links = links_few }
+  best_fit (Some best) e =
       let a = job_accepted job rooms sound in
       let h = job_best_inside job a best e in
       let r = job_roomy job rooms sound in
@@ -69,8 +68,8 @@ pub tables_fit : (job : Job) (rooms : Rooms) → Fits (rows_of_tables (tables_of
 tables_fit job rooms = by (refusal_of job rooms) refl
   where
     by : (c : Checked) → refusal_of job rooms ≡ c → Fits (rows_of_tables (if_accepted c (tables_of_best (source_of_job job) (best_of (source_of_job job))) no_tables)) rooms
-    by (Checked·is.Refused r) e = record { uses = omega arith; gaps = omega arith; segments = omega arith; links = omega arith }
-    by Checked·is.Sound e = best_fit job rooms e (best_of (source_of_job job)) refl
+    by (Err r) e = record { uses = omega arith; gaps = omega arith; segments = omega arith; links = omega arith }
+    by (Ok u) e = best_fit job rooms e (best_of (source_of_job job)) refl
 
 -- so their text is no longer than that of all rows
 pub tables_short : (job : Job) (asked : Rooms) → length (tables_text (tables_of job (rooms_within asked))) ≤ bytes_of_rows sheet_rooms

@@ -8,11 +8,12 @@ use lib.ListN.{length, get_or}
 use lib.Dec.{ltb}
 use borrow.Author.Tests.{le-ltb}
 use Rattle.sheet.specs.Kinds.{pick, kind, kind_table, kind_p, kinds, kind_at, needed, cell_count}
-use Rattle.sheet.specs.Refusal.{verdict, sheet_of}
-use Rattle.sheet.specs.Cells.{cells_after, Read}
+use Rattle.sheet.specs.Refusal.{Verdict, verdict, sheet_of}
+use Rattle.sheet.specs.Cells.{cells_after, as_read, Read}
 use Rattle.sheet.specs.declared.kinds.Asked.TheVariants.{Any}
-use Rattle.sheet.specs.declared.check.Verdict.{Verdict}
-use Rattle.sheet.specs.declared.check.Verdict.TheVariants.{Sound}
+use Rattle.std.specs.Prelude.{Ok, Err}
+use Rattle.sheet.specs.declared.check.BadLine.{BadLine}
+use Rattle.sheet.specs.declared.fill.ReadError.TheVariants.{Refused, NoRoom}
 use Rattle.sheet.proofs.SoundLaws.{sound_sheet}
 use Rattle.sheet.proofs.CellLaws.{stored_length}
 use Rattle.sheet.proofs.Exact as exact
@@ -44,25 +45,36 @@ needed_first : needed kind_p ≡ true
 unfolding needed kind_at
 needed_first = refl
 
-module _ {text cells cells-now counts : List ℕ} {v : Verdict} (read : Read text cells cells-now v counts) (sound : v ≡ Sound) where
+module _ {text cells cells-now counts : List ℕ} (read : Read text cells cells-now (Ok counts)) where
   -- what a sheet was read into
   pub read_cells : InCells cells-now counts
   unfolding cells_after
-  read_cells =
-      let a : cells-now ≡ cells_after Sound (sheet_of text) cells = read.cells ∙ ap (λ (w : Verdict). cells_after w (sheet_of text) cells) sound in
-      record {
-        room = omega (arith, exact.read_room text cells cells-now v counts read sound, ap length a, stored_length (sheet_of text) cells);
-        one = read.counted.sound sound kind_p (omega arith)
-            ∙ (sound_sheet text (exact.sound text cells cells-now v counts read sound)).sheet.one kind_p (omega arith) needed_first;
-        within = read.counted.within;
-      }
+  read_cells = record {
+    room = omega (arith, exact.read_room text cells cells-now counts read, ap length read.cells, stored_length (sheet_of text) cells);
+    one = read.counted.rows kind_p (omega arith)
+        ∙ (sound_sheet text (exact.sound text cells cells-now counts read)).sheet.one kind_p (omega arith) needed_first;
+    within = read.counted.within;
+  }
 
   -- the job there
   pub read_job : job_of_columns (cells_column cells-now counts) ≡ job_of_sheet (sheet_of text)
   read_job =
       job_same (cells_column cells-now counts) (columns_of (sheet_of text))
-      (λ k c i. exact.read_column text cells cells-now v counts read sound k c i.kind i.field)
+      (λ k c i. exact.read_column text cells cells-now counts read k c i.kind i.field)
 
--- with as many cells as a sheet needs the verdict is the text's own
-pub read_verdict : {text cells cells-now counts : List ℕ} {v : Verdict} → Read text cells cells-now v counts → cell_count ≤ length cells → v ≡ verdict text
-read_verdict {text} {cells} read h = read.answer ∙ rw (le-ltb (length cells) cell_count h)
+-- with as many cells as a sheet needs a refusal is the text's own
+pub read_refusal : {text cells cells-now : List ℕ} {bad : BadLine} → Read text cells cells-now (Err (Refused bad)) → cell_count ≤ length cells
+    → verdict text ≡ Err bad
+read_refusal {text} {cells} {cells-now} {bad} read h = by (verdict text) (rw (le-ltb (length cells) cell_count h) at read.answer)
+  where
+    by : (v : Verdict) → Err (Refused bad) ≡ as_read v → v ≡ Err bad
+    by (Ok u) e = let z : ◌≡◌ {A = ℕ} 0 1 = cc in absurd (omega arith)
+    by (Err b) e = cc
+
+-- and there is room
+pub read_roomy : {text cells cells-now : List ℕ} → Read text cells cells-now (Err NoRoom) → cell_count ≤ length cells → ⊥
+read_roomy {text} {cells} read h = by (verdict text) (rw (le-ltb (length cells) cell_count h) at read.answer)
+  where
+    by : (v : Verdict) → Err NoRoom ≡ as_read v → ⊥
+    by (Ok u) e = let z : ◌≡◌ {A = ℕ} 0 1 = cc in omega arith
+    by (Err b) e = let z : ◌≡◌ {A = ℕ} 0 1 = cc in omega arith

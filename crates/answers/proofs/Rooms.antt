@@ -1,4 +1,5 @@
 -- Work tables of `sheet_rooms` rows are never too short for a sheet: refusal 12 is not given
+use Rattle.std.specs.Prelude.{Ok}
 use Prim.Native.Nat.{ℕ, zero, suc, ◌≤◌}
 use mathlib.Core.Path.{◌≡◌, refl, sym, ◌∙◌}
 use mathlib.Core.List.{List, [], ◌∷◌, ◌++◌}
@@ -10,15 +11,12 @@ use Rattle.sheet.specs.Kinds.{kind_b, kind_s, kind_u, kind_at, limit_of, limit}
 use Rattle.sheet.specs.Sheet.{Sheet, Within}
 use Rattle.sheet.specs.Refusal.{verdict, sheet_of}
 use Rattle.sheet.specs.Cells.{column}
-use Rattle.sheet.specs.declared.check.Verdict.TheVariants as Verdict·is
 use Rattle.sheet.specs.Answer.{answer_text}
 use Rattle.sheet.specs.declared.write.Answer as Shown
 use Rattle.sheet.specs.declared.write.Answer.TheVariants as Shown·is
 use Rattle.sheet.proofs.SoundLaws.{sound_sheet}
 use Rattle.sheet.proofs.WriteLaws.{figures_length, line_length_one, line_length_two}
 use Rattle.columns.specs.Table.{table, shortest}
-use Rattle.links.specs.declared.blocks.Checked.{Checked}
-use Rattle.links.specs.declared.blocks.Checked.TheVariants as Checked·is
 use Rattle.columns.proofs.Tables.{table_length, shortest_at_most}
 use Rattle.filling.specs.declared.lent.Rooms.{Rooms}
 use Rattle.refusals.specs.Job.{sizes_of}
@@ -27,6 +25,8 @@ use Rattle.rooms.specs.Rooms.{rooms_needed, line12, refusal_of}
 use Rattle.refusals.proofs.FirstBroken.{answer_passed, empty_sound, refused_stays, sound_goes_on}
 use Rattle.cells.specs.SheetJob.{job_of_sheet}
 use Rattle.answers.specs.SheetRooms.{sheet_rooms}
+use Rattle.links.specs.Blocks.{Checked}
+use Rattle.std.specs.Prelude.{Err}
 
 -- tables with room for every sheet
 pub record Enough (r : Rooms) : Type 0 where
@@ -47,8 +47,8 @@ last_passed : (ls : List Line) (l : Line) → Passed l → first_broken (ls ++ (
 last_passed ls l p = by (first_broken ls) refl
   where
     by : (c : Checked) → first_broken ls ≡ c → first_broken (ls ++ (l ∷ [])) ≡ first_broken ls
-    by (Checked·is.Refused r) e = refused_stays ls (l ∷ []) r e ∙ sym e
-    by Checked·is.Sound e = sound_goes_on ls (l ∷ []) e ∙ answer_passed l [] p ∙ empty_sound ∙ sym e
+    by (Err r) e = refused_stays ls (l ∷ []) r e ∙ sym e
+    by (Ok u) e = sound_goes_on ls (l ∷ []) e ∙ answer_passed l [] p ∙ empty_sound ∙ sym e
 
 -- a table has no more rows than its first column
 first_most : {A : Type 0} (row : ℕ → A) (n m : ℕ) (ns : List ℕ) → length (table row (shortest (n ∷ m ∷ ns))) ≤ n
@@ -88,14 +88,14 @@ module _ (s : Sheet) (within : Within s) where
   enough_passed r h (suc (suc (suc (suc p)))) l = absurd (omega arith)
 
 -- a sheet's job is refused only by lines 1 to 11
-pub rooms_enough : (text : List ℕ) → verdict text ≡ Verdict·is.Sound → (r : Rooms) → Enough r
+pub rooms_enough : (text : List ℕ) → verdict text ≡ Ok tt → (r : Rooms) → Enough r
     → refusal_of (job_of_sheet (sheet_of text)) r ≡ table_refusal_of (job_of_sheet (sheet_of text))
 rooms_enough text e r h =
     let s = sheet_of text in
     last_passed (job_lines (job_of_sheet s)) (line12 (sizes_of (job_of_sheet s)) r) (enough_passed s (sound_sheet text e).within r h)
 
 -- with tables of just these rows
-pub sheet_rooms_enough : (text : List ℕ) → verdict text ≡ Verdict·is.Sound
+pub sheet_rooms_enough : (text : List ℕ) → verdict text ≡ Ok tt
     → refusal_of (job_of_sheet (sheet_of text)) sheet_rooms ≡ table_refusal_of (job_of_sheet (sheet_of text))
 sheet_rooms_enough text e =
     rooms_enough text e sheet_rooms (record { uses = omega arith; gaps = omega arith; segments = omega arith; links = omega arith })

@@ -1,9 +1,7 @@
 -- What a sheet's text is answered
-use Rattle.std.specs.Prelude.{ℕ, List}
-use Rattle.sheet.specs.Refusal.{verdict, sheet_of}
+use Rattle.std.specs.Prelude.{ℕ, List, Ok, Err}
+use Rattle.sheet.specs.Refusal.{Verdict, verdict, sheet_of}
 use Rattle.sheet.specs.Answer.{answer_text, Wrote}
-use Rattle.sheet.specs.declared.check.Verdict.{Verdict}
-use Rattle.sheet.specs.declared.check.Verdict.TheVariants as Verdict·is
 use Rattle.sheet.specs.declared.write.Answer as Shown
 use Rattle.sheet.specs.declared.write.Answer.TheVariants as Shown·is
 use Rattle.filling.specs.declared.lent.Rooms.{Rooms}
@@ -15,11 +13,10 @@ use Rattle.answers.specs.SheetRooms.{rooms_within}
 use Rattle.answers.specs.JobAnswer.{shown_of_job}
 use Rattle.answers.specs.declared.job.Answered.{Answered}
 
--- a text that is refused has that answer, and a sheet that of its job; no text's verdict is NoRoom
+-- a text that is refused has that answer, and a sheet that of its job
 abbrev pub of_verdict : Verdict → Shown.Answer → Shown.Answer
-of_verdict (Verdict·is.Refused number line) answer = Shown·is.Refused number line
-of_verdict Verdict·is.Sound answer = answer
-of_verdict Verdict·is.NoRoom answer = answer
+of_verdict (Err bad) answer = Shown·is.Refused bad.number bad.line
+of_verdict (Ok u) answer = answer
 
 -- what a text is answered, as text, where the work tables have so many rows
 abbrev pub answer_of_text : List ℕ → Rooms → List ℕ
@@ -27,9 +24,8 @@ answer_of_text text rooms = answer_text (of_verdict (verdict text) (shown_of_job
 
 -- a text that is refused has no tables
 abbrev pub if_read : Verdict → Tables → Tables
-if_read (Verdict·is.Refused number line) tables = no_tables
-if_read Verdict·is.Sound tables = tables
-if_read Verdict·is.NoRoom tables = tables
+if_read (Err bad) tables = no_tables
+if_read (Ok u) tables = tables
 
 -- the tables of a text's job
 abbrev pub tables_of_text : List ℕ → Rooms → Tables

@@ -2,9 +2,9 @@
 ghost use Rattle.answers.specs.SheetAnswer.{IsAnswered};
 
 use crate::job::{Answered, answer_job};
-use cells::cells::{columns_of, parameters_of};
+use cells::cells::job_of;
 use filling::lent::Rooms;
-use sheet::{CELLS, Verdict, Written, read_sheet, write_answer};
+use sheet::{CELLS, NoRoom, ReadError, read_sheet, write_answer};
 
 // Writes the answer to a text to the front of `out`, and the text of its job's tables to the front of `tables`: a text that is refused,
 // and a job that is refused, has none. The tables are lent as many rows as are asked for, and no more than a sheet can need.
@@ -13,27 +13,16 @@ pub fn answer_sheet(text: &[u8], asked: Rooms, out: &mut [u8], tables: &mut [u8]
         out.old out.new tables.old tables.new result }
 {
     let mut cells = [0u32; CELLS];
-    let reading = read_sheet(text, &mut cells);
-    let v = reading.verdict;
-    match v {
-        Verdict::Refused(number, line) => Answered {
-            answer: write_answer(out, sheet::Answer::Refused(number, line)),
-            tables: Written::Bytes(0),
+    match read_sheet(text, &mut cells) {
+        Ok(counts) => answer_job(&job_of(&cells, counts), asked, out, tables),
+        Err(ReadError::Refused(bad)) => Answered {
+            answer: write_answer(out, sheet::Answer::Refused(bad.number, bad.line)),
+            tables: Ok(0),
         },
-        Verdict::Sound => {
-            let counts = reading.counts;
-            answer_job(
-                columns_of(&cells, counts),
-                parameters_of(&cells, counts),
-                asked,
-                out,
-                tables,
-            )
-        }
         // never: there are as many cells as a sheet needs
-        Verdict::NoRoom => Answered {
-            answer: Written::NoRoom,
-            tables: Written::NoRoom,
+        Err(ReadError::NoRoom) => Answered {
+            answer: Err(NoRoom),
+            tables: Err(NoRoom),
         },
     }
 }

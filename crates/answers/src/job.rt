@@ -1,6 +1,5 @@
 // The answer to a job and its tables, as text. The work tables stand here.
-ghost use Rattle.std.specs.Prelude.{◌≡◌, map};
-ghost use Rattle.refusals.specs.Job.{job_of, job_columns_in};
+ghost use Rattle.std.specs.Prelude.{◌≡◌};
 ghost use Rattle.answers.specs.JobAnswer.{links_used, rows_of_proposed, IsAnsweredJob};
 
 use crate::room::{GAP_ROWS, GAP_SEGMENT_ROWS, LINK_ROWS, USE_ROWS, rooms_lent};
@@ -9,15 +8,15 @@ use filling::lent::Rooms;
 use links::blocks::count;
 use outcome::grow::{Answer, Proposed};
 use proposer::propose::propose_split;
-use refusals::job::Parameters;
-use sheet::{Written, write_answer};
+use refusals::job::Job;
+use sheet::{NoRoom, write_answer};
 use table_text::write::write_tables;
 
-// What was written: the answer, and the tables.
-#[derive(Clone, Copy)]
+// How many bytes were written: of the answer, and of the tables.
+#[derive(Clone, Copy, Debug, PartialEq, Eq)]
 pub struct Answered {
-    pub answer: Written,
-    pub tables: Written,
+    pub answer: Result<usize, NoRoom>,
+    pub tables: Result<usize, NoRoom>,
 }
 
 // How many links are filled: one a block, and none where the job is refused.
@@ -46,16 +45,9 @@ fn rows_used(p: Proposed, blocks: usize) -> Rooms
 }
 
 // Writes the answer to a job to the front of `out`, and the text of its tables to the front of `tables`; a refused job has none. The
-// tables are lent as many rows as are asked for, and no more than a sheet can need. The job's columns are in the order of `job_columns_in`.
-pub fn answer_job<'a>(
-    columns: [&'a [u32]; 23],
-    parameters: Parameters,
-    asked: Rooms,
-    out: &mut [u8],
-    tables: &mut [u8],
-) -> Answered
-    ensures { let job = job_of parameters (job_columns_in (map (λ x. x.now) columns.entry)) in
-        IsAnsweredJob job asked out.old out.new tables.old tables.new result }
+// tables are lent as many rows as are asked for, and no more than a sheet can need.
+pub fn answer_job(job: &Job, asked: Rooms, out: &mut [u8], tables: &mut [u8]) -> Answered
+    ensures { IsAnsweredJob job.now asked out.old out.new tables.old tables.new result }
 {
     let lent = rooms_lent(asked);
     let links = lent.links;
@@ -79,8 +71,7 @@ pub fn answer_job<'a>(
     let mut segment_value = [0u32; GAP_SEGMENT_ROWS];
     let mut segment_gap = [0u32; GAP_SEGMENT_ROWS];
     let proposed = propose_split(
-        columns,
-        parameters,
+        job,
         &mut prev[..links],
         &mut next[..links],
         &mut inst[..uses],
@@ -99,12 +90,9 @@ pub fn answer_job<'a>(
         &mut segment_gap[..gap_segments],
     );
     let answer = proposed.answer;
-    let block_freq = columns[0];
-    let first = columns[1];
-    let end = columns[2];
-    let rows = rows_used(proposed, count(block_freq, first, end));
+    let rows = rows_used(proposed, count(job.freq, job.first, job.end));
     Answered {
-        answer: write_answer(out, shown_of(answer, parameters.k)),
+        answer: write_answer(out, shown_of(answer, job.parameters.k)),
         tables: write_tables(
             &prev,
             &next,

@@ -2,7 +2,6 @@
 ghost use Rattle.std.specs.Prelude.{◌≡◌};
 ghost use Rattle.answers.specs.SheetRooms.{sheet_rooms, rooms_within};
 
-use columns::rows::shorter;
 use filling::lent::Rooms;
 use sheet::kinds::{B, S, TABLE, U};
 use table_text::write::{GAP_LINE, GAP_SEGMENT_LINE, LINK_LINE, USE_LINE};
@@ -41,9 +40,9 @@ pub(crate) fn rooms_lent(asked: Rooms) -> Rooms
     ensures { result ≡ rooms_within asked }
 {
     Rooms {
-        uses: shorter(asked.uses, USE_ROWS),
-        gaps: shorter(asked.gaps, GAP_ROWS),
-        gap_segments: shorter(asked.gap_segments, GAP_SEGMENT_ROWS),
-        links: shorter(asked.links, LINK_ROWS),
+        uses: asked.uses.min(USE_ROWS),
+        gaps: asked.gaps.min(GAP_ROWS),
+        gap_segments: asked.gap_segments.min(GAP_SEGMENT_ROWS),
+        links: asked.links.min(LINK_ROWS),
     }
 }

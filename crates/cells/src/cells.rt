@@ -1,10 +1,10 @@
-// A job in the cells that a sheet was read into: its parameters and its 23 columns are lent from there.
-ghost use Rattle.std.specs.Prelude.{◌≡◌, map};
+// A job in the cells that a sheet was read into: its parameters and its columns are lent from there.
+ghost use Rattle.std.specs.Prelude.{◌≡◌};
 ghost use Rattle.sheet.specs.Kinds.{kind_p};
-ghost use Rattle.refusals.specs.Job.{job_of, job_columns_in};
 ghost use Rattle.cells.specs.SheetJob.{parameter_of, parameters_of, job_of_columns, cells_column, IsColumn, InCells};
 
-use refusals::job::Parameters;
+use jobs::rows::{FixedUses, Reservations, Segments, Uses};
+use refusals::job::{Job, Parameters};
 use sheet::column_of;
 use sheet::kinds::{B, E, F, KINDS, P, S, U, V, W};
 
@@ -28,7 +28,7 @@ fn parameter(cells: &[u32], counts: [usize; KINDS], c: usize) -> u32
 }
 
 // The line P.
-pub fn parameters_of(cells: &[u32], counts: [usize; KINDS]) -> Parameters
+fn parameters_of(cells: &[u32], counts: [usize; KINDS]) -> Parameters
     requires { InCells cells.now counts }
     ensures { result ≡ parameters_of (cells_column cells.now counts) }
 {
@@ -41,35 +41,43 @@ pub fn parameters_of(cells: &[u32], counts: [usize; KINDS]) -> Parameters
     }
 }
 
-// The 23 columns, in the order of `job_columns_in`.
-pub fn columns_of<'a>(cells: &'a [u32], counts: [usize; KINDS]) -> [&'a [u32]; 23]
+// The job, whose columns stay where they are.
+pub fn job_of<'a>(cells: &'a [u32], counts: [usize; KINDS]) -> Job<'a>
     requires { InCells cells.now counts }
-    ensures { let at = cells_column cells.now counts in
-        job_of (parameters_of at) (job_columns_in (map (λ x. x.now) result)) ≡ job_of_columns at }
+    ensures { result ≡ job_of_columns (cells_column cells.now counts) }
 {
-    [
-        column(cells, counts, B, 0),
-        column(cells, counts, B, 1),
-        column(cells, counts, B, 2),
-        column(cells, counts, V, 0),
-        column(cells, counts, S, 0),
-        column(cells, counts, S, 1),
-        column(cells, counts, S, 2),
-        column(cells, counts, S, 3),
-        column(cells, counts, S, 4),
-        column(cells, counts, S, 5),
-        column(cells, counts, U, 0),
-        column(cells, counts, U, 1),
-        column(cells, counts, U, 2),
-        column(cells, counts, W, 0),
-        column(cells, counts, E, 0),
-        column(cells, counts, E, 1),
-        column(cells, counts, E, 2),
-        column(cells, counts, E, 3),
-        column(cells, counts, E, 4),
-        column(cells, counts, E, 5),
-        column(cells, counts, F, 0),
-        column(cells, counts, F, 1),
-        column(cells, counts, F, 2),
-    ]
+    Job {
+        freq: column(cells, counts, B, 0),
+        first: column(cells, counts, B, 1),
+        end: column(cells, counts, B, 2),
+        code: column(cells, counts, V, 0),
+        segments: Segments {
+            start: column(cells, counts, S, 0),
+            end: column(cells, counts, S, 1),
+            value: column(cells, counts, S, 2),
+            first_use: column(cells, counts, S, 3),
+            end_use: column(cells, counts, S, 4),
+            flags: column(cells, counts, S, 5),
+        },
+        uses: Uses {
+            position: column(cells, counts, U, 0),
+            kind: column(cells, counts, U, 1),
+            cost: column(cells, counts, U, 2),
+        },
+        weight: column(cells, counts, W, 0),
+        reservations: Reservations {
+            unit: column(cells, counts, E, 0),
+            start: column(cells, counts, E, 1),
+            end: column(cells, counts, E, 2),
+            kind: column(cells, counts, E, 3),
+            index: column(cells, counts, E, 4),
+            fixed: column(cells, counts, E, 5),
+        },
+        fixed_uses: FixedUses {
+            unit: column(cells, counts, F, 0),
+            point: column(cells, counts, F, 1),
+            value: column(cells, counts, F, 2),
+        },
+        parameters: parameters_of(cells, counts),
+    }
 }

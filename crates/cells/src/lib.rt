@@ -1,8 +1,8 @@
 // Cells: a sheet's cells as a job.
 //
-// Here: `columns_of` and `parameters_of`, the job's columns and parameters, which stand in cells.
-// Proved: they make the job of specs/SheetJob.
-// A caller should know: they rely on cells that `read_sheet` of `sheet` has filled.
+// Here: `job_of`, the job whose columns and parameters stand in cells.
+// Proved: it is the job of specs/SheetJob.
+// A caller should know: it relies on cells that `read_sheet` of `sheet` has filled.
 #![tactic(auto)]
 
 pub mod cells;

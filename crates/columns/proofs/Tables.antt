@@ -24,6 +24,11 @@ shortest_at_most (n ∷ m ∷ ns) (suc k) h = le_trans (second n (shortest (m �
     second : (a b : ℕ) → min a b ≤ b
     second a b = omega arith
 
+-- of two lengths the shorter stands for both
+pub shortest_first : (n m : ℕ) (ns : List ℕ) → shortest (min n m ∷ ns) ≡ shortest (n ∷ m ∷ ns)
+shortest_first n m [] = refl
+shortest_first n m (k ∷ ns) = let rest = shortest (k ∷ ns) in omega arith
+
 -- what stands past a column does not matter to its rows
 pub row_any : {A : Type 0} (xs : List A) (d e : A) (i : ℕ) → i < length xs → get_or xs i d ≡ get_or xs i e
 row_any [] d e i h = absurd (not-suc-le-zero h)

@@ -3,11 +3,13 @@ ghost use Rattle.refusals.specs.Job.{job_of, job_columns};
 ghost use Rattle.filling.specs.SourceTables.{work_columns};
 ghost use Rattle.words.specs.Words.{IsExported};
 
+use jobs::rows::{FixedUses, Reservations, Segments, Uses};
 use proposer::propose::propose_split;
-use refusals::job::Parameters;
+use refusals::job::{Job, Parameters};
 use words::words::proposed_words;
 
-// The answer to a job, and its tables in the lent columns, which come first: `propose_split`, with its answer in ten words.
+// The answer to a job, and its tables in the lent columns, one parameter a column as C has them; those that are written come first:
+// `propose_split`, with its answer in ten words.
 #[unsafe(no_mangle)]
 pub extern "C" fn gelduvra_propose_split_v3_else_run_rt_staticlib_exports<'a>(
     prev_lower_freq: &mut [u32],
@@ -83,40 +85,48 @@ pub extern "C" fn gelduvra_propose_split_v3_else_run_rt_staticlib_exports<'a>(
         segment_from.new segment_to.new segment_value.new segment_gap.new in
         IsExported job lent after answer.new }
 {
-    let columns = [
+    let job = Job {
         freq,
         first,
         end,
         code,
-        s_start,
-        s_end,
-        s_value,
-        s_first_use,
-        s_end_use,
-        s_flags,
-        position,
-        u_kind,
-        cost,
-        spill_weight,
-        r_unit,
-        r_start,
-        r_end,
-        r_kind,
-        r_index,
-        r_fixed,
-        f_unit,
-        f_point,
-        f_value,
-    ];
-    let proposed = propose_split(
-        columns,
-        Parameters {
+        segments: Segments {
+            start: s_start,
+            end: s_end,
+            value: s_value,
+            first_use: s_first_use,
+            end_use: s_end_use,
+            flags: s_flags,
+        },
+        uses: Uses {
+            position,
+            kind: u_kind,
+            cost,
+        },
+        weight: spill_weight,
+        reservations: Reservations {
+            unit: r_unit,
+            start: r_start,
+            end: r_end,
+            kind: r_kind,
+            index: r_index,
+            fixed: r_fixed,
+        },
+        fixed_uses: FixedUses {
+            unit: f_unit,
+            point: f_point,
+            value: f_value,
+        },
+        parameters: Parameters {
             k,
             cheaper_than_move,
             cheaper_than_load,
             indirect,
             units,
         },
+    };
+    let proposed = propose_split(
+        &job,
         prev_lower_freq,
         next_lower_freq,
         inst,

@@ -1,22 +1,19 @@
 -- A job's answer in the figures of its text
-use Rattle.std.specs.Prelude.{ℕ}
+use Rattle.std.specs.Prelude.{ℕ, Option, Some, None}
 use Rattle.std.specs.Float.{binary32}
 use Rattle.std.specs.Float.Ieee.{of_bits}
 use Rattle.numbers.specs.Normal.{normalised}
 use Rattle.numbers.specs.Figure.{figure}
-use Rattle.numbers.specs.declared.MaybeInst.{MaybeInst}
-use Rattle.numbers.specs.declared.MaybeInst.TheVariants as MaybeInst·is
 use Rattle.outcome.specs.Outcome.{Numbered, refused, none, proposal, numbered}
 use Rattle.outcome.specs.declared.grow.Answer.{Answer}
-use Rattle.sheet.specs.declared.write.End.{End}
-use Rattle.sheet.specs.declared.write.End.TheVariants as End·is
 use Rattle.sheet.specs.declared.write.Answer as Shown
 use Rattle.sheet.specs.declared.write.Answer.TheVariants as Shown·is
+use Rattle.numbers.specs.declared.Inst.{Inst}
 
 -- an end of a proposal
-abbrev pub end_shown : MaybeInst → End
-end_shown (MaybeInst·is.At i) = End·is.At i.0
-end_shown MaybeInst·is.Absent = End·is.Absent
+abbrev pub end_shown : Option Inst → Option ℕ
+end_shown (Some i) = Some i.0
+end_shown None = None
 
 -- the H figure: the normalised weight of a use weight by its bits, with so many instructions and a job's k, in thousandths
 abbrev pub thousandths : ℕ → ℕ → ℕ → ℕ

@@ -7,20 +7,20 @@ ghost use Rattle.sheet.specs.declared.write.Answer.TheVariants.{Proposal};
 ghost use Rattle.figures.specs.Figures.{end_shown, thousandths, shown_of};
 
 use growth::proposal::SplitProposal;
-use numbers::MaybeInst;
+use numbers::Inst;
 use numbers::normal::{h_figure, normalize_spill_weight};
 use numbers::weights::bits_of;
 use outcome::grow::Answer;
-use sheet::{End, Figures};
+use sheet::Figures;
 
 // An end of a proposal.
-fn end_shown(e: MaybeInst) -> End
+fn end_shown(e: Option<Inst>) -> Option<u32>
     ensures { result ≡ end_shown e }
 {
-    let MaybeInst::At(i) = e else {
-        return End::Absent;
+    let Some(i) = e else {
+        return None;
     };
-    End::At(i.0)
+    Some(i.0)
 }
 
 // The H figure of a use weight over so many instructions.

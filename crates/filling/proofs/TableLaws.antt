@@ -17,7 +17,6 @@ use Rattle.links.specs.declared.lower.Side.TheVariants.{Previous, Next}
 use Rattle.jobs.specs.declared.rows.Segment.{Segment}
 use Rattle.use_rows.specs.Uses.{Source, use_table_of}
 use Rattle.links.proofs.Linking.{link_nearest}
-use Rattle.use_rows.specs.declared.row.BestUse.TheVariants.{At}
 use Rattle.uses.specs.CheckedUses.{CheckedUses}
 use Rattle.uses.proofs.EdgeWeights.{first_no_left, last_no_right}
 use Rattle.uses.proofs.CheckedJob.{job_bounded}
@@ -30,6 +29,7 @@ use Rattle.gaps.specs.GapColumns.{froms_of, tos_of}
 use Rattle.filling.specs.SourceTables.{freqs_of, starts_of, stops_of, values_of, gaps_from, lives_from, tables_of_best}
 use Rattle.filling.specs.TableLaws.{TableLaws}
 use Rattle.filling.proofs.SourceTables.{source_segments, source_tiles, live_at, source_lives_total, end_at}
+use Rattle.std.specs.Prelude.{Some}
 
 -- among the gaps the best use's own is that of its instruction
 pub own_gap_is : (source : Source) (best : ℕ) (d : Gap)
@@ -64,7 +64,7 @@ by_side source sound Previous b h = stored_links source sound Previous b h
 by_side source sound Next b h = stored_links source sound Next b h
 
 pub table_laws : (source : Source) → CheckedUses source → SoundBlocks source.blocks → (best : ℕ) → best < length (use_table_of source)
-    → TableLaws source best (tables_of_best source (At best))
+    → TableLaws source best (tables_of_best source (Some best))
 table_laws source checked sound best h =
     let froms = froms_of (gaps_from source best) in
     let tos = tos_of (gaps_from source best) in

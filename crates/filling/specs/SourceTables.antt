@@ -1,5 +1,5 @@
 -- The work tables of a job that has passed its checks: their rows, and the sixteen lent columns
-use Rattle.std.specs.Prelude.{◌≡◌, ℕ, ◌+◌, ◌≤◌, List, [], ◌∷◌, map, Float, length}
+use Rattle.std.specs.Prelude.{◌≡◌, ℕ, ◌+◌, ◌≤◌, List, [], ◌∷◌, map, Float, length, Option, Some, None}
 use Rattle.columns.specs.Table.{shortest, filled}
 use Rattle.numbers.specs.declared.costs.RematScales.{RematScales}
 use Rattle.links.specs.Blocks.{BlockRow, blocks_of}
@@ -9,8 +9,6 @@ use Rattle.jobs.specs.Rows.{segments_of, uses_of}
 use Rattle.jobs.specs.declared.rows.Segment.{Segment}
 use Rattle.use_rows.specs.Uses.{Source, source_of, use_table_of}
 use Rattle.use_rows.specs.declared.row.SplitUse.{SplitUse}
-use Rattle.use_rows.specs.declared.row.BestUse.{BestUse}
-use Rattle.use_rows.specs.declared.row.BestUse.TheVariants as BestUse·is
 use Rattle.overlaps.specs.GapSegments.{Overlap, SegmentColumns, segment_columns}
 use Rattle.gaps.specs.Gaps.{Gap, gap_weight, gaps_of}
 use Rattle.gaps.specs.GapColumns.{froms_of, tos_of, lives_of, min_freqs_of, gap_blocks_of, gap_segments_of, GapColumns, gap_columns}
@@ -94,8 +92,8 @@ pub record Tables : Type 0 where
   pub segments : List Overlap
 
 -- with a best use all tables have rows, without one only links and the use table
-abbrev pub tables_of_best : Source → BestUse → Tables
-tables_of_best source (BestUse·is.At best) =
+abbrev pub tables_of_best : Source → Option ℕ → Tables
+tables_of_best source (Some best) =
     record {
       prevs = link_column Previous (freqs_of source);
       nexts = link_column Next (freqs_of source);
@@ -104,7 +102,7 @@ tables_of_best source (BestUse·is.At best) =
       lives = lives_from source best;
       segments = segments_from source best;
     }
-tables_of_best source BestUse·is.Nothing =
+tables_of_best source None =
     record {
       prevs = link_column Previous (freqs_of source);
       nexts = link_column Next (freqs_of source);

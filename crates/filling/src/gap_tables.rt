@@ -1,21 +1,24 @@
 // The gap table of a use table, and its gap segments.
 ghost use Rattle.std.specs.Prelude.{◌≡◌, length, take};
 ghost use Rattle.links.specs.Blocks.{blocks_of};
-ghost use Rattle.use_rows.specs.UseColumns.{use_columns};
-ghost use Rattle.overlaps.specs.GapSegments.{Valued, segment_columns, SegmentRoom, Filled};
+ghost use Rattle.use_rows.specs.Lent.{columns_in as uses_held};
+ghost use Rattle.overlaps.specs.Live.{SoundSegments, starts_in, ends_in};
+ghost use Rattle.overlaps.specs.GapSegments.{values_in, SegmentRoom, Filled};
+ghost use Rattle.overlaps.specs.Lent.{columns_in as segments_in, lenders as segment_lenders};
 ghost use Rattle.gaps.specs.Gaps.{gaps_of, initial_gap, uses_in, Cuttable};
-ghost use Rattle.gaps.specs.GapColumns.{gap_columns, gap_segments_of, Rows, GapsHeld};
-ghost use Rattle.filling.specs.GapTables.{CutInside};
+ghost use Rattle.gaps.specs.GapColumns.{gap_segments_of, Rows, GapsHeld};
+ghost use Rattle.gaps.specs.Lent.{columns_in, lenders};
+ghost use Rattle.filling.specs.GapTables.{CutInside, first_uses};
 
 use gaps::gaps::{GapCounts, build_gaps};
+use gaps::table::GapTable;
+use jobs::rows::Segments;
+use overlaps::passing::GapSegmentTable;
+use use_rows::row::{UseRows, UseTable};
 
-// Fills both from work tables and segments of which only the first rows count: so many rows of the use table, a link for each block, so
-// many segments.
+// Fills both from work tables of which only the first rows count: so many rows of the use table, a link for each block.
 pub fn fill_gap_tables(
-    inst: &[u32],
-    weight: &[f32],
-    left_weight: &[f32],
-    right_weight: &[f32],
+    table: &UseTable,
     rows: usize,
     best: usize,
     freq: &[u32],
@@ -23,74 +26,43 @@ pub fn fill_gap_tables(
     end: &[u32],
     prev_lower_freq: &[u32],
     next_lower_freq: &[u32],
-    start: &[u32],
-    segment_end: &[u32],
-    value: &[u32],
-    segments: usize,
-    gap_from: &mut [u32],
-    gap_to: &mut [u32],
-    gap_weight: &mut [f32],
-    live: &mut [u32],
-    min_freq: &mut [f32],
-    gap_block: &mut [u32],
-    segment_from: &mut [u32],
-    segment_to: &mut [u32],
-    segment_value: &mut [u32],
-    segment_gap: &mut [u32],
+    segments: &Segments,
+    gaps: &mut GapTable,
+    gap_segments: &mut GapSegmentTable,
 ) -> GapCounts
-    requires inside { let uses = use_columns inst.now weight.now left_weight.now right_weight.now in
-        CutInside rows uses (length freq.now) prev_lower_freq.now next_lower_freq.now segments start.now segment_end.now value.now }
-    requires cuttable { let uses = use_columns (take rows inst.now) (take rows weight.now) (take rows left_weight.now) (take rows right_weight.now) in
-        Cuttable freq.now first.now end.now (take (length freq.now) prev_lower_freq.now)
-        (take (length freq.now) next_lower_freq.now) uses best
-        × Valued (take segments start.now) (take segments segment_end.now) (take segments value.now) }
-    requires room { let uses = use_columns (take rows inst.now) (take rows weight.now) (take rows left_weight.now) (take rows right_weight.now) in
-        let gaps = gaps_of (blocks_of freq.now first.now end.now) (uses_in uses) best in
-        let found = gap_segments_of gaps (take segments start.now) (take segments segment_end.now) (take segments value.now) in
-        Rows (length gaps) (gap_columns gap_from.old gap_to.old gap_weight.old live.old min_freq.old gap_block.old)
-        × SegmentRoom (length found) (segment_columns segment_from.old segment_to.old segment_value.old segment_gap.old 0) }
-    ensures { let uses = use_columns
-        (take rows inst.now) (take rows weight.now) (take rows left_weight.now)
-        (take rows right_weight.now) in
-        let blocks = blocks_of freq.now first.now end.now in
-        let gaps = gaps_of blocks (uses_in uses) best in
-        let starts = take segments start.now in
-        let ends = take segments segment_end.now in
-        GapsHeld gaps starts ends
-        (gap_columns gap_from.old gap_to.old
-        gap_weight.old live.old min_freq.old gap_block.old)
-        (gap_columns gap_from.new gap_to.new
-        gap_weight.new live.new min_freq.new gap_block.new)
-        result.gaps
-        × Filled (gap_segments_of gaps starts ends (take segments value.now))
-        (segment_columns segment_from.old segment_to.old segment_value.old segment_gap.old 0)
-        (segment_columns segment_from.new segment_to.new segment_value.new segment_gap.new result.segments)
-        × (result.initial ≡ initial_gap blocks (uses_in uses) best) }
+    requires inside { CutInside rows (uses_held table.now) (length freq.now) prev_lower_freq.now next_lower_freq.now }
+    requires cuttable { Cuttable freq.now first.now end.now (take (length freq.now) prev_lower_freq.now)
+        (take (length freq.now) next_lower_freq.now) (first_uses rows (uses_held table.now)) best
+        × SoundSegments segments.now }
+    requires room { let found = gaps_of (blocks_of freq.now first.now end.now) (uses_in (first_uses rows (uses_held table.now))) best in
+        let overlaps = gap_segments_of found (starts_in segments.now) (ends_in segments.now) (values_in segments.now) in
+        Rows (length found) (columns_in gaps.old) × SegmentRoom (length overlaps) (segments_in gap_segments.old 0) }
+    ensures same { (lenders gaps.new ≡ lenders gaps.old) × (segment_lenders gap_segments.new ≡ segment_lenders gap_segments.old) }
+    ensures value { let blocks = blocks_of freq.now first.now end.now in
+        let uses = uses_in (first_uses rows (uses_held table.now)) in
+        let found = gaps_of blocks uses best in
+        let overlaps = gap_segments_of found (starts_in segments.now) (ends_in segments.now) (values_in segments.now) in
+        GapsHeld found (starts_in segments.now) (ends_in segments.now) (columns_in gaps.old) (columns_in gaps.new) result.gaps
+        × Filled overlaps (segments_in gap_segments.old 0) (segments_in gap_segments.new result.segments)
+        × (result.initial ≡ initial_gap blocks uses best) }
 {
     let blocks = freq.len();
+    let uses = UseRows {
+        inst: &table.inst[..rows],
+        weight: &table.weight[..rows],
+        left_weight: &table.left_weight[..rows],
+        right_weight: &table.right_weight[..rows],
+    };
     build_gaps(
-        &inst[..rows],
-        &weight[..rows],
-        &left_weight[..rows],
-        &right_weight[..rows],
+        &uses,
         best,
         freq,
         first,
         end,
         &prev_lower_freq[..blocks],
         &next_lower_freq[..blocks],
-        &start[..segments],
-        &segment_end[..segments],
-        &value[..segments],
-        gap_from,
-        gap_to,
-        gap_weight,
-        live,
-        min_freq,
-        gap_block,
-        segment_from,
-        segment_to,
-        segment_value,
-        segment_gap,
+        segments,
+        gaps,
+        gap_segments,
     )
 }

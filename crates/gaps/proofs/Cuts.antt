@@ -9,8 +9,6 @@ use mathlib.Core.Bool.{Bool, true, false, ◌&&◌, cond, true≢false}
 use lib.Dec.{ltb, eqb}
 use lib.ListN.{length, get_or}
 use borrow.Author.Tests.{lt-ltb, le-ltb, ltb-true, eqb-true, eqb-false}
-use Rattle.numbers.specs.declared.MaybeBlock.{MaybeBlock}
-use Rattle.numbers.specs.declared.MaybeBlock.TheVariants.{At, Absent}
 use Rattle.columns.proofs.Tests.{cond_true, cond_false, cond_both, and_left, and_right, and_both, and_parts}
 use Rattle.links.specs.Links.{absent, link_answer, beside, LiesBeyond}
 use Rattle.links.specs.Split.{reaches}
@@ -18,51 +16,57 @@ use Rattle.links.specs.declared.lower.Side.{Side}
 use Rattle.links.specs.declared.lower.Side.TheVariants.{Previous, Next}
 use Rattle.links.proofs.Following.{fuel_left}
 use Rattle.gaps.specs.Cutting.{Leads, followed}
+use Rattle.std.specs.Prelude.{Option, Some, None}
+use Rattle.numbers.specs.declared.Block.{Block}
+
+-- a block that is there
+abbrev pub some_block : ℕ → Option Block
+some_block b = Some (record { 0 = b })
 
 -- the block at whose edge the next cut stands: a link, as long as it does not lead beyond the last block
-unfoldable pub next_cut : Side → List ℕ → ℕ → ℕ → MaybeBlock
+unfoldable pub next_cut : Side → List ℕ → ℕ → ℕ → Option Block
 next_cut side links last b =
     let c = get_or links b 0 in
-    cond (ltb c (length links) && reaches side last c) (At (record { 0 = c })) Absent
+    cond (ltb c (length links) && reaches side last c) (some_block c) None
 
 -- ---- the answer to one link
 -- an answered link, and the next cut
-not_at : {c : ℕ} → Absent ≡ At (record { 0 = c }) → ⊥
-not_at e = true≢false (ap (λ (m : MaybeBlock). elim m [ At x ↦ false | Absent ↦ true ]) e)
+not_at : {c : ℕ} → None ≡ some_block c → ⊥
+not_at e = true≢false (ap (λ (m : Option Block). elim m [ Some x ↦ false | None ↦ true ]) e)
 
-link_gone_stored : (link : ℕ) → link_answer link ≡ Absent → link ≡ absent
+link_gone_stored : (link : ℕ) → link_answer link ≡ None → link ≡ absent
 link_gone_stored link e = go (eqb link absent) refl e
   where
-    go : (t : Bool) → eqb link absent ≡ t → cond t Absent (At (record { 0 = link })) ≡ Absent → link ≡ absent
+    go : (t : Bool) → eqb link absent ≡ t → cond t None (some_block link) ≡ None → link ≡ absent
     go true q _ = eqb-true link absent q
     go false q r = cc
 
-link_at_stored : (link c : ℕ) → link_answer link ≡ At (record { 0 = c }) → (link ≡ c) × (link ≡ absent → ⊥)
+link_at_stored : (link c : ℕ) → link_answer link ≡ some_block c → (link ≡ c) × (link ≡ absent → ⊥)
 link_at_stored link c e = go (eqb link absent) refl e
   where
-    go : (t : Bool) → eqb link absent ≡ t → cond t Absent (At (record { 0 = link })) ≡ At (record { 0 = c }) → (link ≡ c) × (link ≡ absent → ⊥)
+    go : (t : Bool) → eqb link absent ≡ t → cond t None (some_block link) ≡ some_block c → (link ≡ c) × (link ≡ absent → ⊥)
     go true q r = absurd (not_at r)
-    go false q r = (ap (λ (m : MaybeBlock). elim m [ At x ↦ x.0 | Absent ↦ link ]) r, eqb-false link absent q)
+    go false q r = (ap (λ (m : Option Block). elim m [ Some x ↦ x.0 | None ↦ link ]) r, eqb-false link absent q)
 
 module _ (side : Side) (links : List ℕ) (leads : Leads side links) (last b : ℕ) (h : b < length links) where
-  pub cut_gone : link_answer (get_or links b 0) ≡ Absent → Absent ≡ next_cut side links last b
+  pub cut_gone : link_answer (get_or links b 0) ≡ None → None ≡ next_cut side links last b
   unfolding next_cut
   cut_gone e =
       let f = leads.few in
       let q = link_gone_stored (get_or links b 0) e in
       sym (cond_false _ _ (and_left _ (reaches side last (get_or links b 0)) (le-ltb (get_or links b 0) (length links) (omega (arith, q, f)))))
 
-  inside_of : (c : ℕ) → link_answer (get_or links b 0) ≡ At (record { 0 = c }) → get_or links b 0 < length links
+  inside_of : (c : ℕ) → link_answer (get_or links b 0) ≡ some_block c → get_or links b 0 < length links
   inside_of c e = ⊎_elim (λ q. absurd ((link_at_stored (get_or links b 0) c e).1 q)) (λ q. q.0) (leads.each b h)
 
-  pub cut_at : (c : ℕ) → link_answer (get_or links b 0) ≡ At (record { 0 = c }) → reaches side last c ≡ true → At (record { 0 = c }) ≡ next_cut side links last b
+  pub cut_at : (c : ℕ) → link_answer (get_or links b 0) ≡ some_block c → reaches side last c ≡ true → some_block c ≡ next_cut side links last b
   unfolding next_cut
   cut_at c e r =
       let q = (link_at_stored (get_or links b 0) c e).0 in
-      ap (λ (x : ℕ). At (record { 0 = x })) (sym q)
+      ap (λ (x : ℕ). some_block x) (sym q)
       ∙ sym (cond_true _ _ (and_both _ _ (lt-ltb (get_or links b 0) (length links) (inside_of c e)) (ap (reaches side last) q ∙ r)))
 
-  pub cut_stopped : (c : ℕ) → link_answer (get_or links b 0) ≡ At (record { 0 = c }) → reaches side last c ≡ false → Absent ≡ next_cut side links last b
+  pub cut_stopped : (c : ℕ) → link_answer (get_or links b 0) ≡ some_block c → reaches side last c ≡ false → None ≡ next_cut side links last b
   unfolding next_cut
   cut_stopped c e r =
       let q = (link_at_stored (get_or links b 0) c e).0 in
@@ -74,14 +78,14 @@ pub record NextCut (side : Side) (links : List ℕ) (last b c : ℕ) : Type 0 wh
   pub inside : c < length links
   pub test : (ltb c (length links) && reaches side last c) ≡ true
 
-pub next_at : (side : Side) (links : List ℕ) (last b c : ℕ) → next_cut side links last b ≡ At (record { 0 = c }) → NextCut side links last b c
+pub next_at : (side : Side) (links : List ℕ) (last b c : ℕ) → next_cut side links last b ≡ some_block c → NextCut side links last b c
 unfolding next_cut
 next_at side links last b c e = go (ltb (get_or links b 0) (length links) && reaches side last (get_or links b 0)) refl e
   where
     go : (t : Bool) → (ltb (get_or links b 0) (length links) && reaches side last (get_or links b 0)) ≡ t
-        → cond t (At (record { 0 = get_or links b 0 })) Absent ≡ At (record { 0 = c }) → NextCut side links last b c
+        → cond t (some_block (get_or links b 0)) None ≡ some_block c → NextCut side links last b c
     go true q r =
-        let z : get_or links b 0 ≡ c = ap (λ (m : MaybeBlock). elim m [ At x ↦ x.0 | Absent ↦ c ]) r in
+        let z : get_or links b 0 ≡ c = ap (λ (m : Option Block). elim m [ Some x ↦ x.0 | None ↦ c ]) r in
         subst (λ (x : ℕ). NextCut side links last b x) z (record
         { is = refl; inside = ltb-true (get_or links b 0) (length links) (and_parts _ _ q).0; test = q })
     go false q r = absurd (not_at r)
@@ -94,12 +98,12 @@ followed_more side links last b c k n =
     cond_true _ _ (subst (λ (x : ℕ). (ltb x (length links) && reaches side last x) ≡ true) z n.test)
     ∙ ap (λ (x : ℕ). x ∷ followed side links last k x) (sym z)
 
-pub followed_end : (side : Side) (links : List ℕ) (last b k : ℕ) → next_cut side links last b ≡ Absent → followed side links last k b ≡ []
+pub followed_end : (side : Side) (links : List ℕ) (last b k : ℕ) → next_cut side links last b ≡ None → followed side links last k b ≡ []
 unfolding followed next_cut
 followed_end side links last b zero e = refl
 followed_end side links last b (suc k) e = go (ltb (get_or links b 0) (length links) && reaches side last (get_or links b 0)) e
   where
-    go : (t : Bool) → cond t (At (record { 0 = get_or links b 0 })) Absent ≡ Absent
+    go : (t : Bool) → cond t (some_block (get_or links b 0)) None ≡ None
         → cond t (get_or links b 0 ∷ followed side links last k (get_or links b 0)) [] ≡ []
     go true r = cc
     go false r = refl
@@ -121,7 +125,7 @@ pub record OneMore (side : Side) (links : List ℕ) (last b c fuel : ℕ) : Type
   pub more : followed side links last fuel b ≡ c ∷ followed side links last fuel_after c
 
 pub one_more : (side : Side) (links : List ℕ) → Leads side links → (last b c fuel : ℕ) → b < length links → beside side (length links) b ≤ fuel
-    → next_cut side links last b ≡ At (record { 0 = c }) → OneMore side links last b c fuel
+    → next_cut side links last b ≡ some_block c → OneMore side links last b c fuel
 one_more side links leads last b c fuel h enough e =
     let n = next_at side links last b c e in
     let onward : LiesBeyond side b c = ⊎_elim (λ q. absurd (gone q n)) (λ q. subst (LiesBeyond side b) (sym n.is) q.1) (leads.each b h) in

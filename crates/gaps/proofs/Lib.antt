@@ -10,6 +10,7 @@ pub mod Collected
 pub mod Edges
 pub mod Runs
 pub mod Chains
+pub mod SegmentRows
 pub mod GapTable
 pub mod Placed
 pub mod JobGaps

@@ -7,7 +7,6 @@ use lib.Ieee.{Float, binary32, add}
 use lib.ListN.{length, get_or, length-set, length-append}
 use Rattle.columns.specs.Table.{stored_in}
 use Rattle.numbers.specs.Weight.{zero_weight}
-use Rattle.numbers.specs.declared.MaybeBlock.TheVariants.{At, Absent}
 use Rattle.links.specs.Links.{beside, on_side}
 use Rattle.links.specs.declared.lower.Side.{Side}
 use Rattle.links.specs.declared.lower.Side.TheVariants.{Previous, Next}
@@ -18,6 +17,7 @@ use Rattle.gaps.specs.Cutting.{Leads, followed, cuts_in, freq_in, space_gaps, Al
 use Rattle.gaps.specs.declared.cutting.Space.{Space}
 use Rattle.gaps.proofs.Cuts.{next_cut, one_more, followed_end, all_enough}
 use Rattle.gaps.proofs.StoredGaps.{stored_last, rows_with, rows_fewer}
+use Rattle.std.specs.Prelude.{Some, None}
 
 -- ---- one gap more than cuts
 order_length : (side : Side) (g : Gap) (gs : List Gap) → length (in_order side g gs) ≡ suc (length gs)
@@ -85,16 +85,6 @@ pub record Same (lent cols : CutColumns) : Type 0 where
 
 pub same_itself : (cols : CutColumns) → Same cols cols
 same_itself cols = record { from = refl; to = refl; weight = refl; freq = refl; block = refl }
-
-pub same_then : (lent cols after : CutColumns) → Same lent cols → Same cols after → Same lent after
-same_then lent cols after s t =
-    record {
-      from = t.from ∙ s.from;
-      to = t.to ∙ s.to;
-      weight = t.weight ∙ s.weight;
-      freq = t.freq ∙ s.freq;
-      block = t.block ∙ s.block;
-    }
 
 pub same_with : (lent cols : CutColumns) (at from to : ℕ) (weight freq : Float) (block : ℕ) → Same lent cols
     → Same lent (with_row cols at from to weight freq block)
@@ -167,7 +157,7 @@ module _ (side : Side) (freqs edges links : List ℕ) (s : Space) (n : ℕ) (len
         rows_fewer (at + 1) (n + length all) cols (omega (arith, p)) r
 
     -- a cut: the gap up to it is stored
-    pub storing_next : (c : ℕ) → next_cut side links s.last.0 b ≡ At (record { 0 = c })
+    pub storing_next : (c : ℕ) → next_cut side links s.last.0 b ≡ Some (record { 0 = c })
         → Storing (with_row cols at (on_side side (edge_in c) e) (on_side side e (edge_in c)) w (freq_in freqs b) b) c (on_side side (at - 1) (at + 1)) (edge_in c)
         zero_weight
         × (beside side (length links) c < beside side (length links) b) × (c < length links) × (on_side side 1 0 ≤ at)
@@ -203,7 +193,7 @@ module _ (side : Side) (freqs edges links : List ℕ) (s : Space) (n : ℕ) (len
         )
 
     -- no cut any more: with the gap up to the farther use all are stored
-    pub storing_ends : next_cut side links s.last.0 b ≡ Absent
+    pub storing_ends : next_cut side links s.last.0 b ≡ None
         → (with_row cols at (on_side side s.end.0 e) (on_side side e s.end.0) (add binary32 (add binary32 w s.far) s.main) (freq_in freqs b) b
         ≡ stored_gaps n all lent)
         × (max (n + on_side side cuts_long 0) at + 1 ≡ n + length all)
@@ -220,7 +210,7 @@ module _ (side : Side) (freqs edges links : List ℕ) (s : Space) (n : ℕ) (len
         )
 
     -- the same, of what the calls answer
-    pub storing_step : (c : ℕ) → next_cut side links s.last.0 b ≡ At (record { 0 = c }) → {cols' : CutColumns} {f : Float} {at' : ℕ} → f ≡ freq_in freqs b
+    pub storing_step : (c : ℕ) → next_cut side links s.last.0 b ≡ Some (record { 0 = c }) → {cols' : CutColumns} {f : Float} {at' : ℕ} → f ≡ freq_in freqs b
         → cols' ≡ with_row cols at (on_side side (edge_in c) e) (on_side side e (edge_in c)) w f b → at' ≡ on_side side (at - 1) (at + 1)
         → Storing cols' c at' (edge_in c) zero_weight
     storing_step c q {cols'} {f} {at'} ef ec ea =
@@ -228,7 +218,7 @@ module _ (side : Side) (freqs edges links : List ℕ) (s : Space) (n : ℕ) (len
         (subst (λ (x : CutColumns). Storing x c (on_side side (at - 1) (at + 1)) (edge_in c) zero_weight)
         (sym (ec ∙ ap (λ (x : Float). with_row cols at (on_side side (edge_in c) e) (on_side side e (edge_in c)) w x b) ef)) (storing_next c q).0)
 
-    pub storing_done : next_cut side links s.last.0 b ≡ Absent → {cols' : CutColumns} {f : Float} {first r : ℕ} → f ≡ freq_in freqs b
+    pub storing_done : next_cut side links s.last.0 b ≡ None → {cols' : CutColumns} {f : Float} {first r : ℕ} → f ≡ freq_in freqs b
         → cols' ≡ with_row cols at (on_side side s.end.0 e) (on_side side e s.end.0) (add binary32 (add binary32 w s.far) s.main) f b
         → first ≡ n + on_side side cuts_long 0 → r ≡ max first at → (r + 1 ≡ n + length all) × (cols' ≡ stored_gaps n all lent)
     storing_done q ef ec e1 er = (

@@ -4,3 +4,4 @@ pub mod GapColumns
 pub mod InTurn
 pub mod Laws
 pub mod Cutting
+pub mod Lent

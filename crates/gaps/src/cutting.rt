@@ -1,17 +1,18 @@
 // The gaps between uses, cut where the frequency falls.
-ghost use Rattle.std.specs.Prelude.{◌≡◌, ◌+◌, ◌-◌, ◌≤◌, ◌<◌, max, length};
-ghost use Rattle.use_rows.specs.UseColumns.{use_columns};
+ghost use Rattle.std.specs.Prelude.{◌≡◌, ◌+◌, ◌-◌, ◌≤◌, ◌<◌, length};
 ghost use Rattle.links.specs.Blocks.{blocks_of, Ends};
 ghost use Rattle.links.specs.Links.{on_side};
 ghost use Rattle.gaps.specs.Gaps.{gaps_of, initial_gap, Cuttable, uses_in};
-ghost use Rattle.gaps.specs.Cutting.{cut_columns, with_row, with_gap, stored_gaps, CutRows};
+ghost use Rattle.gaps.specs.Cutting.{with_row, with_gap, stored_gaps, CutRows};
+ghost use Rattle.gaps.specs.Lent.{cut_in, uncut};
 ghost use Rattle.gaps.specs.Cutting.{Ordered, space_of, Leads, cuts_in, freq_in, Alike, space_gaps, side_gaps, own_in, InOrder};
 
+use crate::table::GapTable;
 use links::blocks::{block_near, block_of};
 use links::lower::{Side, link_at, reaches};
-use numbers::weights::frequency_of;
-use numbers::{Block, Inst, MaybeBlock};
-use use_rows::row::{SplitUse, use_at};
+use numbers::weights::Limit;
+use numbers::{Block, Inst};
+use use_rows::row::{SplitUse, UseRows};
 
 // What stands left of the best use, or right of it.
 fn on_side(side: Side, left: Inst, right: Inst) -> Inst
@@ -43,30 +44,34 @@ fn space_between(side: Side, end: &[u32], n: usize, u: SplitUse, v: SplitUse, hi
 {
     let p = u.inst;
     let q = v.inst;
-    if let Side::Previous = side {
-        let last = block_near(end, n, p, hint);
-        let block = block_near(end, n, Inst(q.0 - 1), last);
-        return Space {
-            edge: q,
-            end: p,
-            near: v.left_weight,
-            far: u.right_weight,
-            main: u.weight,
-            block,
-            last,
-        };
-    }
-    let edge = Inst(p.0 + 1);
-    let block = block_near(end, n, edge, hint);
-    let last = block_near(end, n, q, block);
-    Space {
-        edge,
-        end: Inst(q.0 + 1),
-        near: u.right_weight,
-        far: v.left_weight,
-        main: v.weight,
-        block,
-        last,
+    match side {
+        Side::Previous => {
+            let last = block_near(end, n, p, hint);
+            let block = block_near(end, n, Inst(q.0 - 1), last);
+            Space {
+                edge: q,
+                end: p,
+                near: v.left_weight,
+                far: u.right_weight,
+                main: u.weight,
+                block,
+                last,
+            }
+        }
+        Side::Next => {
+            let edge = Inst(p.0 + 1);
+            let block = block_near(end, n, edge, hint);
+            let last = block_near(end, n, q, block);
+            Space {
+                edge,
+                end: Inst(q.0 + 1),
+                near: u.right_weight,
+                far: v.left_weight,
+                main: v.weight,
+                block,
+                last,
+            }
+        }
     }
 }
 
@@ -85,10 +90,7 @@ fn count_cuts(side: Side, links: &[u32], b: Block, last: Block) -> usize
 {
     let mut b = b;
     let mut n: usize = 0;
-    loop {
-        let MaybeBlock::At(lower) = link_at(links, b) else {
-            break;
-        };
+    while let Some(lower) = link_at(links, b) {
         if !reaches(side, last, lower) {
             break;
         }
@@ -103,10 +105,10 @@ fn rows_before(side: Side, links: &[u32], b: Block, last: Block) -> usize
     requires { Leads side links.now × (b.0 < length links.now) }
     ensures { result ≡ on_side side (length (cuts_in side links.now last.0 b.0)) 0 }
 {
-    if let Side::Next = side {
-        return 0;
+    match side {
+        Side::Previous => count_cuts(side, links, b, last),
+        Side::Next => 0,
     }
-    count_cuts(side, links, b, last)
 }
 
 // The row of the next gap away from the best use.
@@ -120,20 +122,9 @@ fn next_row(side: Side, at: usize) -> usize
     }
 }
 
-// The later of two rows.
-fn later(a: usize, b: usize) -> usize
-    ensures { result ≡ max a b }
-{
-    if a < b { b } else { a }
-}
-
 // Stores the gap from an edge to a farther one, with a block and its frequency.
 fn put_gap(
-    from: &mut [u32],
-    to: &mut [u32],
-    weight: &mut [f32],
-    freq: &mut [f32],
-    block: &mut [u32],
+    gaps: &mut GapTable,
     at: usize,
     side: Side,
     edge: Inst,
@@ -142,18 +133,18 @@ fn put_gap(
     f: f32,
     b: Block,
 )
-    requires { CutRows (at + 1) (cut_columns from.old to.old weight.old freq.old block.old) }
-    ensures { let lent = cut_columns from.old to.old weight.old freq.old block.old in
-        let after = cut_columns from.new to.new weight.new freq.new block.new in
-        after ≡ with_row lent at (on_side side farther.0 edge.0) (on_side side edge.0 farther.0) w f b.0 }
+    requires { CutRows (at + 1) (cut_in gaps.old) }
+    ensures same { uncut gaps.new ≡ uncut gaps.old }
+    ensures value { cut_in gaps.new ≡
+        with_row (cut_in gaps.old) at (on_side side farther.0 edge.0) (on_side side edge.0 farther.0) w f b.0 }
 {
     let a = on_side(side, farther, edge);
     let e = on_side(side, edge, farther);
-    from[at] = a.0;
-    to[at] = e.0;
-    weight[at] = w;
-    freq[at] = f;
-    block[at] = b.0;
+    gaps.from[at] = a.0;
+    gaps.to[at] = e.0;
+    gaps.weight[at] = w;
+    gaps.min_freq[at] = f;
+    gaps.block[at] = b.0;
 }
 
 // The frequency of a block.
@@ -162,7 +153,7 @@ fn block_frequency(freq: &[u32], b: Block) -> f32
     ensures { result ≡ freq_in freq.now b.0 }
 {
     let i = b.0 as usize;
-    frequency_of(freq[i])
+    Limit::Frequency.value_of(freq[i])
 }
 
 // Stores the gaps of the space between two uses from row n on, the nearest first. Answers how many rows are used then.
@@ -171,22 +162,15 @@ fn cut_space(
     freq: &[u32],
     edges: &[u32],
     links: &[u32],
-    from: &mut [u32],
-    to: &mut [u32],
-    weight: &mut [f32],
-    min_freq: &mut [f32],
-    gap_block: &mut [u32],
+    gaps: &mut GapTable,
     n: usize,
     s: Space,
 ) -> usize
     requires leads { Leads side links.now × Alike freq.now edges.now links.now × (s.block.0 < length links.now) }
-    requires room { let gaps = space_gaps side freq.now edges.now links.now s in
-        let lent = cut_columns from.old to.old weight.old min_freq.old gap_block.old in
-        CutRows (n + length gaps) lent }
-    ensures { let gaps = space_gaps side freq.now edges.now links.now s in
-        let lent = cut_columns from.old to.old weight.old min_freq.old gap_block.old in
-        let after = cut_columns from.new to.new weight.new min_freq.new gap_block.new in
-        (result ≡ n + length gaps) × (after ≡ stored_gaps n gaps lent) }
+    requires room { CutRows (n + length (space_gaps side freq.now edges.now links.now s)) (cut_in gaps.old) }
+    ensures same { uncut gaps.new ≡ uncut gaps.old }
+    ensures value { let found = space_gaps side freq.now edges.now links.now s in
+        (result ≡ n + length found) × (cut_in gaps.new ≡ stored_gaps n found (cut_in gaps.old)) }
 {
     let last = s.last;
     let mut b = s.block;
@@ -194,10 +178,7 @@ fn cut_space(
     let mut at = first;
     let mut edge = s.edge;
     let mut w = s.near;
-    loop {
-        let MaybeBlock::At(lower) = link_at(links, b) else {
-            break;
-        };
+    while let Some(lower) = link_at(links, b) {
         if !reaches(side, last, lower) {
             break;
         }
@@ -205,118 +186,62 @@ fn cut_space(
         let place = edges[i];
         let e = Inst(place);
         let f = block_frequency(freq, b);
-        put_gap(
-            from, to, weight, min_freq, gap_block, at, side, edge, e, w, f, b,
-        );
+        put_gap(gaps, at, side, edge, e, w, f, b);
         at = next_row(side, at);
         edge = e;
         w = 0.0;
         b = lower;
     }
     let far_freq = block_frequency(freq, b);
-    put_gap(
-        from,
-        to,
-        weight,
-        min_freq,
-        gap_block,
-        at,
-        side,
-        edge,
-        s.end,
-        w + s.far + s.main,
-        far_freq,
-        b,
-    );
-    later(first, at) + 1
+    put_gap(gaps, at, side, edge, s.end, w + s.far + s.main, far_freq, b);
+    first.max(at) + 1
 }
 
 // Stores the gaps between the uses from the i-th to the last, all on one side of the best use. Answers how many rows are used then.
 fn cut_side(
     side: Side,
-    inst: &[u32],
-    weight: &[f32],
-    left_weight: &[f32],
-    right_weight: &[f32],
+    uses: &UseRows,
     freq: &[u32],
     end: &[u32],
     edges: &[u32],
     links: &[u32],
-    from: &mut [u32],
-    to: &mut [u32],
-    out_weight: &mut [f32],
-    min_freq: &mut [f32],
-    gap_block: &mut [u32],
+    gaps: &mut GapTable,
     i: usize,
     last: usize,
     n: usize,
 ) -> usize
     requires leads { Leads side links.now × Alike freq.now edges.now links.now }
-    requires in_order { let uses = use_columns inst.now weight.now left_weight.now right_weight.now in
-        InOrder end.now (length freq.now) uses i last }
-    requires room { let uses = use_columns inst.now weight.now left_weight.now right_weight.now in
-        let gaps = side_gaps side freq.now end.now edges.now links.now uses i (last - i) in
-        let lent = cut_columns from.old to.old out_weight.old min_freq.old gap_block.old in
-        CutRows (n + length gaps) lent }
-    ensures { let uses = use_columns inst.now weight.now left_weight.now right_weight.now in
-        let gaps = side_gaps side freq.now end.now edges.now links.now uses i (last - i) in
-        let lent = cut_columns from.old to.old out_weight.old min_freq.old gap_block.old in
-        let after = cut_columns from.new to.new out_weight.new min_freq.new gap_block.new in
-        (result ≡ n + length gaps) × (after ≡ stored_gaps n gaps lent) }
+    requires in_order { InOrder end.now (length freq.now) uses.now i last }
+    requires room { let found = side_gaps side freq.now end.now edges.now links.now uses.now i (last - i) in
+        CutRows (n + length found) (cut_in gaps.old) }
+    ensures same { uncut gaps.new ≡ uncut gaps.old }
+    ensures value { let found = side_gaps side freq.now end.now edges.now links.now uses.now i (last - i) in
+        (result ≡ n + length found) × (cut_in gaps.new ≡ stored_gaps n found (cut_in gaps.old)) }
 {
-    let mut i = i;
     let mut n = n;
     let mut near = Block(0);
-    while i < last {
-        let u = use_at(inst, weight, left_weight, right_weight, i);
-        let v = use_at(inst, weight, left_weight, right_weight, i + 1);
+    for k in i..last {
+        let u = uses.at(k);
+        let v = uses.at(k + 1);
         let s = space_between(side, end, freq.len(), u, v, near);
-        n = cut_space(
-            side, freq, edges, links, from, to, out_weight, min_freq, gap_block, n, s,
-        );
+        n = cut_space(side, freq, edges, links, gaps, n, s);
         near = later_block(side, s);
-        i += 1;
     }
     n
 }
 
 // Stores the best use's own gap: one instruction.
-fn put_own(
-    freq: &[u32],
-    end: &[u32],
-    from: &mut [u32],
-    to: &mut [u32],
-    weight: &mut [f32],
-    min_freq: &mut [f32],
-    gap_block: &mut [u32],
-    n: usize,
-    u: SplitUse,
-)
-    requires { let lent = cut_columns from.old to.old weight.old min_freq.old gap_block.old in
-        Ends end.now (length freq.now) u.inst.0 × CutRows (n + 1) lent }
-    ensures { let lent = cut_columns from.old to.old weight.old min_freq.old gap_block.old in
-        let after = cut_columns from.new to.new weight.new min_freq.new gap_block.new in
-        after ≡ with_gap lent n (own_in freq.now end.now u) }
+fn put_own(freq: &[u32], end: &[u32], gaps: &mut GapTable, n: usize, u: SplitUse)
+    requires { Ends end.now (length freq.now) u.inst.0 × CutRows (n + 1) (cut_in gaps.old) }
+    ensures same { uncut gaps.new ≡ uncut gaps.old }
+    ensures value { cut_in gaps.new ≡ with_gap (cut_in gaps.old) n (own_in freq.now end.now u) }
 {
     let p = u.inst;
     let b = block_of(end, freq.len(), p);
     let f = block_frequency(freq, b);
     let w = u.weight;
     let next = Inst(p.0 + 1);
-    put_gap(
-        from,
-        to,
-        weight,
-        min_freq,
-        gap_block,
-        n,
-        Side::Next,
-        p,
-        next,
-        w,
-        f,
-        b,
-    );
+    put_gap(gaps, n, Side::Next, p, next, w, f, b);
 }
 
 // How many gaps there are, and which is the best use's own.
@@ -328,80 +253,51 @@ pub(crate) struct GapsCut {
 
 // Stores the gaps of a use table around its best use: all columns but the live one. The rows past them stay.
 pub(crate) fn cut_gaps(
-    inst: &[u32],
-    weight: &[f32],
-    left_weight: &[f32],
-    right_weight: &[f32],
+    uses: &UseRows,
     best: usize,
     freq: &[u32],
     first: &[u32],
     end: &[u32],
     prev_lower_freq: &[u32],
     next_lower_freq: &[u32],
-    from: &mut [u32],
-    to: &mut [u32],
-    out_weight: &mut [f32],
-    min_freq: &mut [f32],
-    gap_block: &mut [u32],
+    gaps: &mut GapTable,
 ) -> GapsCut
-    requires cuttable { let uses = use_columns inst.now weight.now left_weight.now right_weight.now in
-        Cuttable freq.now first.now end.now prev_lower_freq.now next_lower_freq.now uses best }
-    requires room { let blocks = blocks_of freq.now first.now end.now in
-        let uses = use_columns inst.now weight.now left_weight.now right_weight.now in
-        let gaps = gaps_of blocks (uses_in uses) best in
-        let lent = cut_columns from.old to.old out_weight.old min_freq.old gap_block.old in
-        CutRows (length gaps) lent }
-    ensures { let blocks = blocks_of freq.now first.now end.now in
-        let uses = use_columns inst.now weight.now left_weight.now right_weight.now in
-        let gaps = gaps_of blocks (uses_in uses) best in
-        let lent = cut_columns from.old to.old out_weight.old min_freq.old gap_block.old in
-        let after = cut_columns from.new to.new out_weight.new min_freq.new gap_block.new in
-        (result.rows ≡ length gaps) × (after ≡ stored_gaps 0 gaps lent) ×
-        (result.initial ≡ initial_gap blocks (uses_in uses) best) }
+    requires cuttable { Cuttable freq.now first.now end.now prev_lower_freq.now next_lower_freq.now uses.now best }
+    requires room { let found = gaps_of (blocks_of freq.now first.now end.now) (uses_in uses.now) best in
+        CutRows (length found) (cut_in gaps.old) }
+    ensures same { uncut gaps.new ≡ uncut gaps.old }
+    ensures value { let blocks = blocks_of freq.now first.now end.now in
+        let found = gaps_of blocks (uses_in uses.now) best in
+        (result.rows ≡ length found) × (cut_in gaps.new ≡ stored_gaps 0 found (cut_in gaps.old)) ×
+        (result.initial ≡ initial_gap blocks (uses_in uses.now) best) }
 {
     // Cuts stand at the ends of blocks on the left, at their starts on the right.
     let left_edges = end;
     let right_edges = first;
     let initial = cut_side(
         Side::Previous,
-        inst,
-        weight,
-        left_weight,
-        right_weight,
+        uses,
         freq,
         end,
         left_edges,
         prev_lower_freq,
-        from,
-        to,
-        out_weight,
-        min_freq,
-        gap_block,
+        gaps,
         0,
         best,
         0,
     );
-    let u = use_at(inst, weight, left_weight, right_weight, best);
-    put_own(
-        freq, end, from, to, out_weight, min_freq, gap_block, initial, u,
-    );
+    let u = uses.at(best);
+    put_own(freq, end, gaps, initial, u);
     let rows = cut_side(
         Side::Next,
-        inst,
-        weight,
-        left_weight,
-        right_weight,
+        uses,
         freq,
         end,
         right_edges,
         next_lower_freq,
-        from,
-        to,
-        out_weight,
-        min_freq,
-        gap_block,
+        gaps,
         best,
-        inst.len() - 1,
+        uses.len() - 1,
         initial + 1,
     );
     GapsCut { rows, initial }

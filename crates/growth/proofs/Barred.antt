@@ -10,9 +10,9 @@ use Rattle.links.specs.declared.lower.Side.{Side}
 use Rattle.links.specs.declared.lower.Side.TheVariants.{Previous, Next}
 use Rattle.links.specs.Links.{on_side}
 use Rattle.growth.specs.Growth.{GapsSeen, Span, State, own_span, gap_outside, used_up, grown_by, passes_on, start, side_open, is_open, barred, turn, growth}
-use Rattle.growth.specs.declared.step.Turn.TheVariants.{Try}
 use Rattle.growth.specs.Demand.{FailedBefore}
 use Rattle.growth.proofs.Tries.{open_free, try_told}
+use Rattle.std.specs.Prelude.{Some}
 
 module _ (seen : GapsSeen) where
   -- a side is barred
@@ -48,7 +48,7 @@ module _ (seen : GapsSeen) where
       (λ other o w f b. by_bar other side w f (barred_failed side n) b)
       (λ _ b. later side n (growth seen n).region (growth seen n).region refl (barred_failed side n b))
     where
-      by_bar : (other side : Side) → turn seen (growth seen n) ≡ Try other → T (not (passes_on other seen (growth seen n).region))
+      by_bar : (other side : Side) → turn seen (growth seen n) ≡ Some other → T (not (passes_on other seen (growth seen n).region))
           → (Barred side (growth seen n) → FailedBefore seen side n (growth seen n).region) → Barred side (barred other (growth seen n))
           → FailedBefore seen side (suc n) (growth seen n).region
       by_bar Previous Previous w f before b = record { after = n; before = le_refl (suc n); tried = w; gap = refl; failed = f }

@@ -6,13 +6,12 @@ use mathlib.Core.List.{List, [], ◌∷◌, map}
 use lib.Ieee.{Float, binary32, of_bits, add, mul, div, round, lt, of_int}
 use lib.ListN.{get_or, length}
 use Rattle.numbers.specs.Normal.{normalised, fraction, exceeds}
-use Rattle.numbers.specs.declared.MaybeInst.{MaybeInst}
-use Rattle.numbers.specs.declared.MaybeInst.TheVariants.{At, Absent}
 use Rattle.growth.specs.Growth.{numbers_from, weights_in, weight_test, passes, side_open, left_first, side_tried, came, try_on, try, growth, grown}
 use Rattle.growth.specs.Proposal.{split_cost, end_of, proposal_with, region_of}
 use Rattle.growth.specs.Columns.{seen_in}
-use Rattle.growth.specs.declared.proposal.Region.{Region}
-use Rattle.growth.specs.declared.proposal.Region.TheVariants.{Found}
+use Rattle.std.specs.Prelude.{Option, Some, None}
+use Rattle.numbers.specs.declared.Inst.{Inst}
+use Rattle.growth.specs.declared.proposal.SplitProposal.{SplitProposal}
 
 value : ℕ → Float
 unfolding of_bits
@@ -35,7 +34,7 @@ gap : ℕ → ℕ → ℕ → ℕ → Bool → List ℕ → Gap
 gap first weight live freq fixed met = record { first = first; weight = weight; live = live; freq = freq; fixed = fixed; met = met }
 
 -- the answer to gaps, with the own one's number and k
-answer : ℕ → ℕ → List Gap → Region
+answer : ℕ → ℕ → List Gap → Option SplitProposal
 unfolding value values region_of numbers_from weights_in weight_test passes side_open left_first side_tried came try_on try growth grown split_cost end_of proposal_with
     normalised fraction exceeds round add mul div lt of_int
 answer own k gaps =
@@ -45,10 +44,10 @@ answer own k gaps =
     (λ (i : ℕ). get_or (map (λ (g : Gap). g.fixed) gaps) i false) (λ (i : ℕ). get_or (map (λ (g : Gap). values g.met) gaps) i []) k)
 
 -- a proposal, with its weights as bits
-found : MaybeInst → MaybeInst → ℕ → ℕ → ℕ → ℕ → Region
+found : Option Inst → Option Inst → ℕ → ℕ → ℕ → ℕ → Option SplitProposal
 unfolding value
 found left right weight insts heaviest cost =
-    Found (record {
+    Some (record {
       left = left;
       right = right;
       use_weight = value weight;
@@ -71,8 +70,8 @@ barred_gaps = gap 2 0 1 1073741824 false (1061158912 ∷ []) ∷ gap 5 106535321
 
 -- on equal frequencies left is taken if its live instructions are at least the right's, else right; a barred side is not tried again
 side_cases : answer 1 0 (three_gaps 3 3) ∷ answer 1 0 (three_gaps 3 4) ∷ answer 1 0 barred_gaps ∷ []
-    ≡ found Absent (At (record { 0 = 6 })) 1090519040 4 0 1065353216
-    ∷ found (At (record { 0 = 5 })) Absent 1090519040 5 1069547520 1065353216
-    ∷ found (At (record { 0 = 5 })) Absent 1092616192 2 0 1073741824 ∷ []
+    ≡ found None (Some (record { 0 = 6 })) 1090519040 4 0 1065353216
+    ∷ found (Some (record { 0 = 5 })) None 1090519040 5 1069547520 1065353216
+    ∷ found (Some (record { 0 = 5 })) None 1092616192 2 0 1073741824 ∷ []
 unfolding answer found three_gaps barred_gaps
 side_cases = refl

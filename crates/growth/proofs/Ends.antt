@@ -9,8 +9,6 @@ use mathlib.Core.List.{List, [], ◌∷◌, ◌++◌, append-nil}
 use lib.Dec.{T, leb, eqb, leb→le, le→leb, ltb→lt, lt→ltb, nleb→lt, eqb→eq, not_T}
 use lib.Ieee.{Float}
 use lib.Ieee.Fits.{and_l, and_r}
-use Rattle.numbers.specs.declared.MaybeInst.{MaybeInst}
-use Rattle.numbers.specs.declared.MaybeInst.TheVariants.{At, Absent}
 use Rattle.columns.proofs.Tests.{cond_both, cond_true, cond_false}
 use Rattle.columns.proofs.Firsts.{split}
 use Rattle.links.specs.declared.lower.Side.TheVariants.{Previous, Next}
@@ -18,6 +16,8 @@ use Rattle.growth.specs.Growth.{GapsSeen, Span, heaviest_in, numbers_from, betwe
 use Rattle.growth.specs.Proposal.{end_of, proposal_with, proposal_of, from_end, before_end, covers, those, gaps_covered}
 use Rattle.growth.specs.Demand.{Around, In}
 use Rattle.growth.proofs.Tries.{not_is, is_true}
+use Rattle.std.specs.Prelude.{Option, Some, None}
+use Rattle.numbers.specs.declared.Inst.{Inst}
 
 -- ---- those numbers of a run for which a test holds
 those_append : (test : ℕ → Bool) (xs ys : List ℕ) → those test (xs ++ ys) ≡ those test xs ++ those test ys
@@ -141,7 +141,7 @@ module _ (seen : GapsSeen) (rising : (g : ℕ) → g + 1 < seen.count → seen.f
     left_exact : T (from_end (end_of Previous seen.count seen.first s) inst) ↔ (s.left ≤ g)
     unfolding end_of
     left_exact =
-        cond_both (λ (e : MaybeInst). T (from_end e inst) ↔ (s.left ≤ g)) (eqb s.left 0) Absent (At (record { 0 = seen.first s.left }))
+        cond_both (λ (e : Option Inst). T (from_end e inst) ↔ (s.left ≤ g)) (eqb s.left 0) None (Some (record { 0 = seen.first s.left }))
         (λ z. ((λ _. none s.left g (eqb→eq s.left 0 z)), (λ _. tt)))
         (λ _. (
           (λ t. reach (leb→le (seen.first s.left) inst t)),
@@ -166,7 +166,7 @@ module _ (seen : GapsSeen) (rising : (g : ℕ) → g + 1 < seen.count → seen.f
     right_exact : T (before_end (end_of Next seen.count seen.first s) inst) ↔ (g < s.right)
     unfolding end_of
     right_exact =
-        cond_both (λ (e : MaybeInst). T (before_end e inst) ↔ (g < s.right)) (leb seen.count s.right) Absent (At (record { 0 = seen.first s.right }))
+        cond_both (λ (e : Option Inst). T (before_end e inst) ↔ (g < s.right)) (leb seen.count s.right) None (Some (record { 0 = seen.first s.right }))
         (λ z. ((λ _. lt_of_lt_of_le inside (leb→le seen.count s.right z)), (λ _. tt)))
         (λ z. (
           (λ t. reach (nleb→lt seen.count s.right z) (ltb→lt inst (seen.first s.right) t)),

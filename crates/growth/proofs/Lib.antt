@@ -6,6 +6,5 @@ pub mod Ends
 pub mod Barred
 pub mod Proposals
 pub mod Evictions
-pub mod Steps
 pub mod Loop
 pub mod Cases

@@ -25,37 +25,42 @@ use Rattle.growth.specs.declared.step.Growth.{Growth}
 use Rattle.growth.specs.declared.step.Tried.{Tried}
 use Rattle.growth.specs.declared.step.Came.{Came}
 use Rattle.growth.specs.declared.step.Came.TheVariants as Came·is
-use Rattle.growth.specs.declared.step.Turn.{Turn}
-use Rattle.growth.specs.declared.step.Turn.TheVariants.{Try, End}
-use Rattle.growth.specs.declared.proposal.Region.TheVariants.{Found, Nothing}
 use Rattle.growth.proofs.Tries.{not_is, is_true, open_left, turn_cases, try_on_lem, left_to_try, fewer_grown, fewer_barred, growth_around, ended_stays}
 use Rattle.growth.proofs.Tries.{growth_same}
 use Rattle.growth.proofs.Spans.{between_one, outside_inside, tried_insts_few}
 use Rattle.growth.proofs.Meetings.{heaviest_with_gap}
 use Rattle.growth.proofs.Proposals.{growth_met}
-use Rattle.growth.proofs.Steps.{tried_is}
+use Rattle.std.specs.Prelude.{Some, None, Option}
+
+-- ---- what the code tries is what growth tries, where the heaviest weight is that of the region with the gap
+pub tried_is : (side : Side) (seen : GapsSeen) (s : Span) → seen.numerator ≡ 2007
+    → tried_with side (gap_outside side s) (grown_of seen s) (seen.weight (gap_outside side s)) (seen.live (gap_outside side s)) (seen.fixed (gap_outside side s))
+    (heaviest_in seen (grown_by side seen s)) seen.k ≡ tried side seen s
+unfolding came_with came weight_test
+tried_is Previous seen s e = rw e
+tried_is Next seen s e = rw e
 
 module _ (seen : GapsSeen) where
   -- ---- the side that is tried
   -- it is open, and a try is a try on it
-  pub turn_open : (st : State) (side : Side) → side_tried seen.count seen.freq seen.live st ≡ Try side → T (is_open side seen st)
-  turn_open st side = turn_cases seen (λ (t : Turn). t ≡ Try side → T (is_open side seen st)) st (λ other o e. same other o e) (λ _ e. absurd (never e))
+  pub turn_open : (st : State) (side : Side) → side_tried seen.count seen.freq seen.live st ≡ Some side → T (is_open side seen st)
+  turn_open st side = turn_cases seen (λ (t : Option Side). t ≡ Some side → T (is_open side seen st)) st (λ other o e. same other o e) (λ _ e. absurd (never e))
     where
-      same : (other : Side) → T (is_open other seen st) → Try other ≡ Try side → T (is_open side seen st)
+      same : (other : Side) → T (is_open other seen st) → Some other ≡ Some side → T (is_open side seen st)
       same other o e = let p : other ≡ side = cc in subst (λ (s : Side). T (is_open s seen st)) p o
 
-      never : End ≡ Try side → ⊥
+      never : None ≡ Some side → ⊥
       never e = let z : ◌≡◌ {A = ℕ} 0 1 = cc in omega arith
 
-  pub turn_ended : (st : State) → side_tried seen.count seen.freq seen.live st ≡ End → Ended seen st
-  turn_ended st = turn_cases seen (λ (t : Turn). t ≡ End → Ended seen st) st (λ other o e. absurd (never other e)) (λ h _. h)
+  pub turn_ended : (st : State) → side_tried seen.count seen.freq seen.live st ≡ None → Ended seen st
+  turn_ended st = turn_cases seen (λ (t : Option Side). t ≡ None → Ended seen st) st (λ other o e. absurd (never other e)) (λ h _. h)
     where
-      never : (side : Side) → Try side ≡ End → ⊥
+      never : (side : Side) → Some side ≡ None → ⊥
       never side e = let z : ◌≡◌ {A = ℕ} 0 1 = cc in omega arith
 
-  pub turn_tries : (st : State) (side : Side) → side_tried seen.count seen.freq seen.live st ≡ Try side → try seen st ≡ try_on side seen st
+  pub turn_tries : (st : State) (side : Side) → side_tried seen.count seen.freq seen.live st ≡ Some side → try seen st ≡ try_on side seen st
   unfolding try
-  turn_tries st side e = ap (λ (t : Turn). try_at t seen st) e
+  turn_tries st side e = ap (λ (t : Option Side). try_at t seen st) e
 
   -- ---- a try, by what the code knows of the gap
   pub tried_step : seen.numerator ≡ 2007 → (st : State) (side : Side) → T (is_open side seen st) → Around seen st.region
@@ -149,15 +154,15 @@ module _ (seen : GapsSeen) where
       (sym (ended_on n (seen.count + 1) e) ∙ ap (growth seen) (add_comm n (seen.count + 1)) ∙ growth_same seen h n)
 
   pub answer_found : seen.own < seen.count → T (passes seen seen.own (own_span seen)) → (n : ℕ) → Ended seen (growth seen n)
-      → Found (proposal_of seen (growth seen n).region) ≡ region_of seen
+      → Some (proposal_of seen (growth seen n).region) ≡ region_of seen
   unfolding region_of
   answer_found h t n e =
-      ap (λ (s : Span). Found (proposal_of seen s)) (ended_is_grown h n e)
-      ∙ sym (cond_true (Found (proposal_of seen (grown seen))) Nothing (is_true (passes seen seen.own (own_span seen)) t))
+      ap (λ (s : Span). Some (proposal_of seen s)) (ended_is_grown h n e)
+      ∙ sym (cond_true (Some (proposal_of seen (grown seen))) None (is_true (passes seen seen.own (own_span seen)) t))
 
-  pub answer_nothing : T (not (passes seen seen.own (own_span seen))) → Nothing ≡ region_of seen
+  pub answer_nothing : T (not (passes seen seen.own (own_span seen))) → None ≡ region_of seen
   unfolding region_of
-  answer_nothing t = sym (cond_false (Found (proposal_of seen (grown seen))) Nothing (not_is (passes seen seen.own (own_span seen)) t))
+  answer_nothing t = sym (cond_false (Some (proposal_of seen (grown seen))) None (not_is (passes seen seen.own (own_span seen)) t))
 
   -- ---- a loop over tries: it starts after the own gap has passed, tries the side whose turn it is, and ends with the answer
   pub going_start : T (passes seen seen.own (own_span seen)) → Going seen (start_at (grown_of seen (own_span seen)))
@@ -171,20 +176,20 @@ module _ (seen : GapsSeen) where
   abbrev pub Tries : Growth → Side → Tried → Type 0
   Tries now side t = t ≡ tried side seen (span_of now.region)
 
-  abbrev pub TurnOf : Growth → Turn → Type 0
+  abbrev pub TurnOf : Growth → Option Side → Type 0
   TurnOf now t = t ≡ side_tried seen.count seen.freq seen.live (state_of now)
 
   -- the side is open
-  pub going_open : (now : Growth) (side : Side) → TurnOf now (Try side) → T (is_open side seen (state_of now))
+  pub going_open : (now : Growth) (side : Side) → TurnOf now (Some side) → T (is_open side seen (state_of now))
   going_open now side e = turn_open (state_of now) side (sym e)
 
   -- the outcome of a try
-  pub going_after : (now : Growth) (side : Side) (t : Tried) → Going seen now → TurnOf now (Try side) → Tries now side t → Going seen (after_tried t now)
+  pub going_after : (now : Growth) (side : Side) (t : Tried) → Going seen now → TurnOf now (Some side) → Tries now side t → Going seen (after_tried t now)
   unfolding growth
   going_after now side t g turn e =
       let st = growth seen g.tries in
       let f = g.is_after in
-      let turned : Try side ≡ side_tried seen.count seen.freq seen.live st = subst (λ (x : Growth). TurnOf x (Try side)) f turn in
+      let turned : Some side ≡ side_tried seen.count seen.freq seen.live st = subst (λ (x : Growth). TurnOf x (Some side)) f turn in
       let is : Tries (growth_of seen st) side t = subst (λ (x : Growth). Tries x side t) f e in
       record {
         own_passes = g.own_passes;
@@ -201,30 +206,30 @@ module _ (seen : GapsSeen) where
       (cond_both (λ (s : State). left_to_try seen s < left_to_try seen st) (passes_on side seen st.region) (grows side seen st) (barred side st)
       (λ _. fewer_grown seen st side o) (λ _. fewer_barred seen st side o))
 
-  pub going_less : (now : Growth) (side : Side) (t : Tried) → Going seen now → TurnOf now (Try side) → Tries now side t
+  pub going_less : (now : Growth) (side : Side) (t : Tried) → Going seen now → TurnOf now (Some side) → Tries now side t
       → left_to_try seen (state_of (after_tried t now)) < left_to_try seen (state_of now)
   going_less now side t g turn e =
       let st = growth seen g.tries in
       let f = g.is_after in
-      let turned : Try side ≡ side_tried seen.count seen.freq seen.live st = subst (λ (x : Growth). TurnOf x (Try side)) f turn in
+      let turned : Some side ≡ side_tried seen.count seen.freq seen.live st = subst (λ (x : Growth). TurnOf x (Some side)) f turn in
       let is : Tries (growth_of seen st) side t = subst (λ (x : Growth). Tries x side t) f e in
       subst (λ (x : Growth). left_to_try seen (state_of (after_tried t x)) < left_to_try seen (state_of x)) (sym f)
       (subst (λ (x : Growth). left_to_try seen (state_of x) < left_to_try seen st)
       (sym (ap (λ (x : Tried). after_tried x (growth_of seen st)) is ∙ after_try st side)) (fewer_tried st side (turn_open st side (sym turned))))
 
   -- at the end the region's proposal is the answer
-  pub going_found : seen.own < seen.count → (now : Growth) → Going seen now → TurnOf now End
-      → Found (proposal_with seen.count seen.first seen.freq (span_of now.region) now.region.heaviest) ≡ region_of seen
+  pub going_found : seen.own < seen.count → (now : Growth) → Going seen now → TurnOf now None
+      → Some (proposal_with seen.count seen.first seen.freq (span_of now.region) now.region.heaviest) ≡ region_of seen
   going_found h now g turn =
       let st = growth seen g.tries in
       let f = g.is_after in
-      let turned : End ≡ side_tried seen.count seen.freq seen.live st = subst (λ (x : Growth). TurnOf x End) f turn in
-      ap (λ (x : Growth). Found (proposal_with seen.count seen.first seen.freq (span_of x.region) x.region.heaviest)) f
+      let turned : None ≡ side_tried seen.count seen.freq seen.live st = subst (λ (x : Growth). TurnOf x None) f turn in
+      ap (λ (x : Growth). Some (proposal_with seen.count seen.first seen.freq (span_of x.region) x.region.heaviest)) f
       ∙ answer_found h g.own_passes g.tries (turn_ended st (sym turned))
 
   -- ---- what the code knows of the gap tried
   -- whether it meets a fixed one, and the heaviest weight of the region and of the gap
-  pub going_tried : SoundGaps seen → seen.numerator ≡ 2007 → (now : Growth) (side : Side) → Going seen now → TurnOf now (Try side)
+  pub going_tried : SoundGaps seen → seen.numerator ≡ 2007 → (now : Growth) (side : Side) → Going seen now → TurnOf now (Some side)
       → Tries now side (tried_with side (gap_outside side (span_of now.region)) now.region (seen.weight (gap_outside side (span_of now.region)))
       (seen.live (gap_outside side (span_of now.region))) (seen.fixed (gap_outside side (span_of now.region)))
       (heavier now.region.heaviest (heaviest (seen.met (gap_outside side (span_of now.region))))) seen.k)
@@ -232,37 +237,37 @@ module _ (seen : GapsSeen) where
       let st = growth seen g.tries in
       let f = g.is_after in
       let a = growth_around seen sound.inside g.tries in
-      let o = turn_open st side (sym (subst (λ (x : Growth). TurnOf x (Try side)) f turn)) in
+      let o = turn_open st side (sym (subst (λ (x : Growth). TurnOf x (Some side)) f turn)) in
       subst
       (λ (x : Growth). Tries x side (tried_with side (gap_outside side (span_of x.region)) x.region (seen.weight (gap_outside side (span_of x.region)))
       (seen.live (gap_outside side (span_of x.region))) (seen.fixed (gap_outside side (span_of x.region)))
       (heavier x.region.heaviest (heaviest (seen.met (gap_outside side (span_of x.region))))) seen.k))
       (sym f) (tried_step e st side o a (growth_met seen sound g.tries) (sound.met (gap_outside side st.region) (outside_inside seen st side o a)))
 
-  pub going_count_fits : SoundGaps seen → (now : Growth) (side : Side) → Going seen now → TurnOf now (Try side)
+  pub going_count_fits : SoundGaps seen → (now : Growth) (side : Side) → Going seen now → TurnOf now (Some side)
       → CountFits now.region (seen.live (gap_outside side (span_of now.region)))
   going_count_fits sound now side g turn =
       let f = g.is_after in
       subst (λ (x : Growth). CountFits x.region (seen.live (gap_outside side (span_of x.region)))) (sym f)
-      (growth_count_fits sound g.tries side (turn_open (growth seen g.tries) side (sym (subst (λ (x : Growth). TurnOf x (Try side)) f turn))))
+      (growth_count_fits sound g.tries side (turn_open (growth seen g.tries) side (sym (subst (λ (x : Growth). TurnOf x (Some side)) f turn))))
 
   -- the gap tried is one of the table's
-  pub going_gap : SoundGaps seen → (now : Growth) (side : Side) → Going seen now → TurnOf now (Try side) → gap_outside side (span_of now.region) < seen.count
+  pub going_gap : SoundGaps seen → (now : Growth) (side : Side) → Going seen now → TurnOf now (Some side) → gap_outside side (span_of now.region) < seen.count
   going_gap sound now side g turn =
       let st = growth seen g.tries in
       let f = g.is_after in
       subst (λ (x : Growth). gap_outside side (span_of x.region) < seen.count) (sym f)
-      (outside_inside seen st side (turn_open st side (sym (subst (λ (x : Growth). TurnOf x (Try side)) f turn)))
+      (outside_inside seen st side (turn_open st side (sym (subst (λ (x : Growth). TurnOf x (Some side)) f turn)))
       (growth_around seen sound.inside g.tries))
 
   -- and not the own one, which lies in the region
-  pub going_other : SoundGaps seen → (now : Growth) (side : Side) → Going seen now → TurnOf now (Try side)
+  pub going_other : SoundGaps seen → (now : Growth) (side : Side) → Going seen now → TurnOf now (Some side)
       → gap_outside side (span_of now.region) ≡ seen.own → ⊥
   going_other sound now side g turn =
       let st = growth seen g.tries in
       let f = g.is_after in
       subst (λ (x : Growth). gap_outside side (span_of x.region) ≡ seen.own → ⊥) (sym f)
-      (apart side (growth_around seen sound.inside g.tries) (turn_open st side (sym (subst (λ (x : Growth). TurnOf x (Try side)) f turn))))
+      (apart side (growth_around seen sound.inside g.tries) (turn_open st side (sym (subst (λ (x : Growth). TurnOf x (Some side)) f turn))))
     where
       apart : (side : Side) → Around seen (growth seen g.tries).region → T (is_open side seen (growth seen g.tries))
           → gap_outside side (growth seen g.tries).region ≡ seen.own → ⊥

@@ -22,12 +22,12 @@ use Rattle.growth.specs.Growth.{passes_on, is_open, growth, end_of_growth, grown
 use Rattle.growth.specs.Proposal.{freq_outside, split_cost, proposal_with, proposal_of, region_of}
 use Rattle.growth.specs.Demand.{Around, Ended, In, MeetsFixed, sum_over, added_to, gaps_beside, gaps_grown, FailedBefore, SoundGaps, Demand3}
 use Rattle.growth.specs.declared.proposal.SplitProposal.{SplitProposal}
-use Rattle.growth.specs.declared.proposal.Region.TheVariants.{Found, Nothing}
 use Rattle.growth.proofs.Tries.{open_left, growth_keeps, growth_around, around_grows, growth_ends}
 use Rattle.growth.proofs.Spans.{outside_inside, weight_in_order, insts_of_gaps, insts_some, insts_few}
 use Rattle.growth.proofs.Meetings.{met_weights, met_of_gap, gap_of_met}
 use Rattle.growth.proofs.Ends.{covered_gaps}
 use Rattle.growth.proofs.Barred.{shut_why}
+use Rattle.std.specs.Prelude.{Some, None}
 
 -- ---- growth at every try
 module _ (seen : GapsSeen) where
@@ -153,31 +153,31 @@ module _ (seen : GapsSeen) where
 -- ---- the answer
 module _ (seen : GapsSeen) where
   -- nothing is found exactly if the own gap meets a fixed one or fails the test
-  pub nothing_exactly : (region_of seen ≡ Nothing) ↔ (T (seen.fixed seen.own) ⊎ T (not (weight_test seen (own_span seen))))
+  pub nothing_exactly : (region_of seen ≡ None) ↔ (T (seen.fixed seen.own) ⊎ T (not (weight_test seen (own_span seen))))
   unfolding region_of passes
   nothing_exactly = (fails (seen.fixed seen.own) (weight_test seen (own_span seen)), nothing (seen.fixed seen.own) (weight_test seen (own_span seen)))
     where
       p : SplitProposal
       p = proposal_of seen (grown seen)
 
-      fails : (f t : Bool) → cond (not f && t) (Found p) Nothing ≡ Nothing → T f ⊎ T (not t)
+      fails : (f t : Bool) → cond (not f && t) (Some p) None ≡ None → T f ⊎ T (not t)
       fails true t e = inl tt
       fails false false e = inr tt
       fails false true e = absurd (differ e)
         where
-          differ : Found p ≡ Nothing → ⊥
+          differ : Some p ≡ None → ⊥
           differ e = let z : ◌≡◌ {A = ℕ} 0 1 = cc in omega arith
 
-      nothing : (f t : Bool) → T f ⊎ T (not t) → cond (not f && t) (Found p) Nothing ≡ Nothing
+      nothing : (f t : Bool) → T f ⊎ T (not t) → cond (not f && t) (Some p) None ≡ None
       nothing true t h = refl
       nothing false false h = refl
       nothing false true h = absurd (⊎_elim (λ x. x) (λ x. x) h)
 
-  found_parts : (t : Bool) (p q : SplitProposal) → cond t (Found q) Nothing ≡ Found p → T t × (p ≡ q)
+  found_parts : (t : Bool) (p q : SplitProposal) → cond t (Some q) None ≡ Some p → T t × (p ≡ q)
   found_parts true p q e = (tt, cc)
   found_parts false p q e = absurd (let z : ◌≡◌ {A = ℕ} 0 1 = cc in omega arith)
 
-  module _ (p : SplitProposal) (found : region_of seen ≡ Found p) where
+  module _ (p : SplitProposal) (found : region_of seen ≡ Some p) where
     parts : T (passes seen seen.own (own_span seen)) × (p ≡ proposal_of seen (grown seen))
     unfolding region_of
     parts = found_parts (passes seen seen.own (own_span seen)) p (proposal_of seen (grown seen)) found

@@ -17,8 +17,7 @@ use Rattle.growth.specs.Growth.{side_tried}
 use Rattle.growth.specs.Growth.{barred, grows, came, after_came, try_on, try_at, turn, try, growth, end_of_growth}
 use Rattle.growth.specs.Demand.{Around, Ended}
 use Rattle.growth.specs.declared.step.Came.TheVariants.{Grown, Fixed, Weight}
-use Rattle.growth.specs.declared.step.Turn.{Turn}
-use Rattle.growth.specs.declared.step.Turn.TheVariants.{Try, End}
+use Rattle.std.specs.Prelude.{Option, Some, None}
 
 -- a test that does not hold is false
 pub not_is : (t : Bool) → T (not t) → t ≡ false
@@ -48,16 +47,16 @@ module _ (seen : GapsSeen) where
   open_right st o = nleb→lt seen.count st.region.right (and_r (not st.right_barred) (not (leb seen.count st.region.right)) o)
 
   -- ---- the side that is tried is open, and none only if none is
-  pub turn_cases : (P : Turn → Type 0) (st : State) → ((side : Side) → T (is_open side seen st) → P (Try side)) → (Ended seen st → P End)
+  pub turn_cases : (P : Option Side → Type 0) (st : State) → ((side : Side) → T (is_open side seen st) → P (Some side)) → (Ended seen st → P None)
       → P (side_tried seen.count seen.freq seen.live st)
   unfolding side_tried
   turn_cases P st t e =
       let prefers = prefers_left seen.freq seen.live st.region in
-      cond_both P (is_open Previous seen st) (cond (is_open Next seen st) (cond prefers (Try Previous) (Try Next)) (Try Previous))
-      (cond (is_open Next seen st) (Try Next) End)
-      (λ p. cond_both P (is_open Next seen st) (cond prefers (Try Previous) (Try Next)) (Try Previous)
-      (λ q. cond_both P prefers (Try Previous) (Try Next) (λ _. t Previous p) (λ _. t Next q)) (λ _. t Previous p))
-      (λ p. cond_both P (is_open Next seen st) (Try Next) End (t Next) (λ q. e (record { left = p; right = q })))
+      cond_both P (is_open Previous seen st) (cond (is_open Next seen st) (cond prefers (Some Previous) (Some Next)) (Some Previous))
+      (cond (is_open Next seen st) (Some Next) None)
+      (λ p. cond_both P (is_open Next seen st) (cond prefers (Some Previous) (Some Next)) (Some Previous)
+      (λ q. cond_both P prefers (Some Previous) (Some Next) (λ _. t Previous p) (λ _. t Next q)) (λ _. t Previous p))
+      (λ p. cond_both P (is_open Next seen st) (Some Next) None (t Next) (λ q. e (record { left = p; right = q })))
 
   -- what comes of a try: it grows if the gap passes, and else bars the side
   pub try_on_lem : (side : Side) (st : State) → try_on side seen st ≡ cond (passes_on side seen st.region) (grows side seen st) (barred side st)
@@ -73,12 +72,12 @@ module _ (seen : GapsSeen) where
   -- nothing changes
   pub try_told : (P : State → Type 0) (st : State)
       → ((side : Side) → T (is_open side seen st) → T (passes_on side seen st.region) → P (grows side seen st))
-      → ((side : Side) → T (is_open side seen st) → turn seen st ≡ Try side → T (not (passes_on side seen st.region)) → P (barred side st))
+      → ((side : Side) → T (is_open side seen st) → turn seen st ≡ Some side → T (not (passes_on side seen st.region)) → P (barred side st))
       → (Ended seen st → P st)
       → P (try seen st)
   unfolding try
   try_told P st g b e =
-      turn_cases (λ (t : Turn). turn seen st ≡ t → P (try_at t seen st)) st
+      turn_cases (λ (t : Option Side). turn seen st ≡ t → P (try_at t seen st)) st
       (λ side o w. subst P (sym (try_on_lem side st))
       (cond_both P (passes_on side seen st.region) (grows side seen st) (barred side st) (g side o) (b side o w))) (λ x _. e x) refl
 
@@ -131,7 +130,7 @@ module _ (seen : GapsSeen) where
   pub ended_stays : (st : State) → Ended seen st → try seen st ≡ st
   unfolding try side_tried
   ended_stays st e =
-      ap (λ (t : Turn). try_at t seen st) (cond_false _ _ (not_is (is_open Previous seen st) e.left)
+      ap (λ (t : Option Side). try_at t seen st) (cond_false _ _ (not_is (is_open Previous seen st) e.left)
       ∙ cond_false _ _ (not_is (is_open Next seen st) e.right))
 
   -- ---- what is left to try: the gaps outside and the sides not barred

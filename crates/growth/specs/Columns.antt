@@ -1,5 +1,5 @@
 -- For the contracts of the steps: gaps in their lent columns, and a region as the code holds it
-use Rattle.std.specs.Prelude.{ℕ, ◌+◌, ◌^◌, ◌≤◌, ◌<◌, ◌≡◌, Bool, true, false, not, ◌&&◌, cond, List, T, ltb, Float, get_or}
+use Rattle.std.specs.Prelude.{ℕ, ◌+◌, ◌^◌, ◌≤◌, ◌<◌, ◌≡◌, Bool, true, false, not, ◌&&◌, cond, List, T, ltb, Float, get_or, Option, None}
 use Rattle.std.specs.Float.{nan, binary32}
 use Rattle.std.specs.Float.Ieee.{add}
 use Rattle.numbers.specs.Weight.{zero_weight}
@@ -12,8 +12,6 @@ use Rattle.growth.specs.declared.step.Growth.{Growth}
 use Rattle.growth.specs.declared.step.Tried.{Tried}
 use Rattle.growth.specs.declared.step.Came.{Came}
 use Rattle.growth.specs.declared.step.Came.TheVariants as Came·is
-use Rattle.growth.specs.declared.step.Turn.{Turn}
-use Rattle.growth.specs.declared.step.Turn.TheVariants as Turn·is
 
 -- a column by row number
 abbrev pub number_at : List ℕ → ℕ → ℕ
@@ -70,8 +68,8 @@ abbrev pub CountFits : Grown → ℕ → Type 0
 CountFits g insts = g.insts + insts < 2 ^ 32
 
 -- the side whose turn it is; none for a region of no gap
-unfoldable pub turn_of : ℕ → (ℕ → Float) → (ℕ → ℕ) → Growth → Turn
-turn_of n freq live growth = cond (ltb growth.region.left growth.region.right) (side_tried n freq live (state_of growth)) Turn·is.End
+unfoldable pub turn_of : ℕ → (ℕ → Float) → (ℕ → ℕ) → Growth → Option Side
+turn_of n freq live growth = cond (ltb growth.region.left growth.region.right) (side_tried n freq live (state_of growth)) None
 
 -- a region with one more gap on a side, of this weight and so many instructions, and the heaviest weight that it then meets
 abbrev pub grown_with : Side → ℕ → Grown → Float → ℕ → Float → Grown

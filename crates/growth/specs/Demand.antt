@@ -1,5 +1,5 @@
 -- In what demand 3 and the other laws of growth are stated
-use Rattle.std.specs.Prelude.{ℕ, zero, suc, ◌+◌, ◌^◌, ◌≤◌, ◌<◌, ◌≡◌, ◌⊎◌, not, List, [], ◌∷◌, ◌++◌, map, T, Float}
+use Rattle.std.specs.Prelude.{ℕ, zero, suc, ◌+◌, ◌^◌, ◌≤◌, ◌<◌, ◌≡◌, ◌⊎◌, not, List, [], ◌∷◌, ◌++◌, map, T, Float, Some}
 use Rattle.numbers.specs.Weight.{Finite, Weight, units_of, zero_weight, Weights, Among}
 use Rattle.numbers.specs.Sum.{plus}
 use Rattle.numbers.specs.Normal.{normalised, exceeds}
@@ -7,7 +7,6 @@ use Rattle.links.specs.declared.lower.Side.{Side}
 use Rattle.links.specs.declared.lower.Side.TheVariants.{Previous, Next}
 use Rattle.growth.specs.declared.proposal.SplitProposal.{SplitProposal}
 use Rattle.growth.specs.Growth.{GapsSeen, Span, between, gaps_in, gap_outside, State, is_open, passes_on, turn, growth}
-use Rattle.growth.specs.declared.step.Turn.TheVariants.{Try}
 use Rattle.growth.specs.Proposal.{proposal_of, gaps_covered}
 
 -- a region around the best use's own gap, inside the table
@@ -25,7 +24,7 @@ pub record Ended (seen : GapsSeen) (st : State) : Type 0 where
 pub record FailedBefore (seen : GapsSeen) (side : Side) (n : ℕ) (s : Span) : Type 0 where
   pub after : ℕ
   pub before : after < n
-  pub tried : turn seen (growth seen after) ≡ Try side
+  pub tried : turn seen (growth seen after) ≡ Some side
   pub gap : gap_outside side (growth seen after).region ≡ gap_outside side s
   pub failed : T (not (passes_on side seen (growth seen after).region))
 

@@ -1,5 +1,5 @@
 -- Evictions: lists of proposals in which each could evict a reservation of the one before
-use Rattle.std.specs.Prelude.{ℕ, ◌≤◌, ◌<◌, ◌≡◌, List, [], ◌∷◌, T, Float, length, get_or}
+use Rattle.std.specs.Prelude.{ℕ, ◌≤◌, ◌<◌, ◌≡◌, List, [], ◌∷◌, T, Float, length, get_or, Some}
 use Rattle.std.specs.Float.{binary32}
 use Rattle.std.specs.Float.Ieee.{to_bits}
 use Rattle.columns.specs.Table.{Each}
@@ -7,7 +7,6 @@ use Rattle.numbers.specs.Weight.{Finite, zero_weight, heaviest, Weights, Among}
 use Rattle.numbers.specs.Normal.{normalised, exceeds}
 use Rattle.numbers.specs.Chain.{longest}
 use Rattle.growth.specs.declared.proposal.SplitProposal.{SplitProposal}
-use Rattle.growth.specs.declared.proposal.Region.TheVariants.{Found}
 use Rattle.growth.specs.Growth.{GapsSeen, own_span, weights_in, passes, growth}
 use Rattle.growth.specs.Proposal.{proposal_of, region_of, gaps_covered}
 use Rattle.growth.specs.Demand.{SoundGaps}
@@ -83,7 +82,7 @@ pub record AfterTries (g : Given) : Type 0 where
 -- the proposal is what is found
 pub record IsFound (g : Given) : Type 0 where
   pub sound : SoundGaps g.seen
-  pub found : region_of g.seen ≡ Found g.proposal
+  pub found : region_of g.seen ≡ Some g.proposal
 
 -- what it promises
 abbrev pub promised : Given → Promise

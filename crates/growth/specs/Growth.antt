@@ -1,5 +1,5 @@
 -- Growth from the best use's gap, over what growth sees of a job's gaps
-use Rattle.std.specs.Prelude.{ℕ, zero, suc, ◌+◌, ◌-◌, Bool, true, false, not, ◌&&◌, cond, List, [], ◌∷◌, ◌++◌, leb, eqb, Float}
+use Rattle.std.specs.Prelude.{ℕ, zero, suc, ◌+◌, ◌-◌, Bool, true, false, not, ◌&&◌, cond, List, [], ◌∷◌, ◌++◌, leb, eqb, Float, Option, Some, None}
 use Rattle.std.specs.Float.{binary32}
 use Rattle.std.specs.Float.Ieee.{add, lt}
 use Rattle.numbers.specs.Weight.{heaviest}
@@ -9,8 +9,6 @@ use Rattle.links.specs.declared.lower.Side.TheVariants.{Previous, Next}
 use Rattle.links.specs.Links.{on_side}
 use Rattle.growth.specs.declared.step.Grown.{Grown}
 use Rattle.growth.specs.declared.step.Tried.{Tried}
-use Rattle.growth.specs.declared.step.Turn.{Turn}
-use Rattle.growth.specs.declared.step.Turn.TheVariants as Turn·is
 use Rattle.growth.specs.declared.step.Came.{Came}
 use Rattle.growth.specs.declared.step.Came.TheVariants as Came·is
 
@@ -122,11 +120,11 @@ abbrev pub prefers_left : (ℕ → Float) → (ℕ → ℕ) → Span → Bool
 prefers_left freq live s = left_first (freq (gap_outside Previous s)) (freq (gap_outside Next s)) (live (gap_outside Previous s)) (live (gap_outside Next s))
 
 -- the side that is tried: the open one, with both open the one taken, none if none is open
-unfoldable pub side_tried : ℕ → (ℕ → Float) → (ℕ → ℕ) → State → Turn
+unfoldable pub side_tried : ℕ → (ℕ → Float) → (ℕ → ℕ) → State → Option Side
 side_tried n freq live st =
     cond (side_open Previous n st)
-    (cond (side_open Next n st) (cond (prefers_left freq live st.region) (Turn·is.Try Previous) (Turn·is.Try Next)) (Turn·is.Try Previous))
-    (cond (side_open Next n st) (Turn·is.Try Next) Turn·is.End)
+    (cond (side_open Next n st) (cond (prefers_left freq live st.region) (Some Previous) (Some Next)) (Some Previous))
+    (cond (side_open Next n st) (Some Next) None)
 
 -- growth with a side barred for good
 abbrev pub barred : Side → State → State
@@ -185,12 +183,12 @@ unfoldable pub try_on : Side → GapsSeen → State → State
 try_on side seen st = after_came (came_on side seen st.region) side seen st
 
 -- a try on the side whose turn it is; with none nothing changes
-abbrev pub try_at : Turn → GapsSeen → State → State
-try_at (Turn·is.Try side) seen st = try_on side seen st
-try_at Turn·is.End seen st = st
+abbrev pub try_at : Option Side → GapsSeen → State → State
+try_at (Some side) seen st = try_on side seen st
+try_at None seen st = st
 
 -- the side whose turn it is among the gaps seen
-abbrev pub turn : GapsSeen → State → Turn
+abbrev pub turn : GapsSeen → State → Option Side
 turn seen st = side_tried seen.count seen.freq seen.live st
 
 -- one try

@@ -1,11 +1,12 @@
 // The steps of growth: which side is tried, and whether a gap passes.
-ghost use Rattle.std.specs.Prelude.{◌≡◌, ◌+◌, ◌^◌, ◌≤◌, ◌<◌, length, leb, eqb};
+ghost use Rattle.std.specs.Prelude.{◌≡◌, ◌≤◌, ◌<◌, length};
 ghost use Rattle.links.specs.Links.{on_side};
-ghost use Rattle.growth.specs.Growth.{gap_outside, prefers_left, side_tried};
-ghost use Rattle.growth.specs.Columns.{number_at, float_at, span_of, state_of, open_with, InsideGaps, HasNeighbours, CountFits};
+ghost use Rattle.growth.specs.Growth.{gap_outside, prefers_left, side_open, side_tried, used_up};
+ghost use Rattle.growth.specs.Columns.{number_at, float_at, span_of, state_of, InsideGaps, HasNeighbours, CountFits};
 ghost use Rattle.growth.specs.Columns.{turn_of, grown_with, came_with, tried_with, no_growth, barred_on, after_tried};
 
 use links::lower::Side;
+use std::cmp::Ordering;
 
 // A region: the gaps from left to before right, their use weight and live instructions, and the heaviest weight met.
 #[derive(Clone, Copy)]
@@ -15,6 +16,39 @@ pub struct Grown {
     pub weight: f32,
     pub insts: u32,
     pub heaviest: f32,
+}
+
+impl Grown {
+    // Whether no gap is left on a side.
+    pub(crate) fn used_up(self, side: Side, gaps: usize) -> bool
+        ensures { result ≡ used_up side gaps (span_of self) }
+    {
+        match side {
+            Side::Previous => self.left == 0,
+            Side::Next => self.right >= gaps,
+        }
+    }
+
+    // The region with one more gap on a side, of this weight and so many instructions, and the heaviest weight that it then meets. Live
+    // instructions together are at most the largest 32-bit number.
+    fn with_gap(self, side: Side, gap: usize, weight: f32, insts: u32, heaviest: f32) -> Self
+        requires { gap < 4294967295 }
+        ensures { CountFits self insts → result ≡ grown_with side gap self weight insts heaviest }
+    {
+        let wider = match side {
+            Side::Previous => Grown { left: gap, ..self },
+            Side::Next => Grown {
+                right: gap + 1,
+                ..self
+            },
+        };
+        Grown {
+            weight: self.weight + weight,
+            insts: self.insts.saturating_add(insts),
+            heaviest,
+            ..wider
+        }
+    }
 }
 
 // What came of a try: the region grew, or the gap meets something fixed, or the region with it can't evict the heaviest weight that it meets.
@@ -44,15 +78,9 @@ pub struct Growth {
     pub right_barred: bool,
 }
 
-// The side that is tried next, or the end of growth.
-#[derive(Clone, Copy)]
-pub enum Turn {
-    Try(Side),
-    End,
-}
-
 // With both sides open, whether the left one is tried: the one of higher frequency. On equal ones it is the gap with more
 // instructions, and left if both have as many.
+#[tactic(auto, unfolding(crate::specs::Growth::left_first))]
 fn prefers_left(freq: &[f32], live: &[u32], gaps: usize, g: Grown) -> bool
     requires has_neighbours { HasNeighbours gaps g }
     requires freq_long { gaps ≤ length freq.now }
@@ -61,63 +89,35 @@ fn prefers_left(freq: &[f32], live: &[u32], gaps: usize, g: Grown) -> bool
 {
     let left = g.left - 1;
     let right = g.right;
-    let left_freq = freq[left];
-    let right_freq = freq[right];
-    if right_freq < left_freq {
-        return true;
+    match freq[left].partial_cmp(&freq[right]) {
+        Some(Ordering::Greater) => true,
+        Some(Ordering::Less) => false,
+        _ => live[right] <= live[left],
     }
-    if left_freq < right_freq {
-        return false;
-    }
-    live[right] <= live[left]
 }
 
-// Whether a region can still grow left, and right.
-fn can_grow_left(g: Grown, barred: bool) -> bool
-    ensures { result ≡ open_with barred (eqb g.left 0) }
-{
-    if barred {
-        return false;
-    }
-    g.left != 0
-}
-
-fn can_grow_right(gaps: usize, g: Grown, barred: bool) -> bool
-    ensures { result ≡ open_with barred (leb gaps g.right) }
-{
-    if barred {
-        return false;
-    }
-    g.right < gaps
-}
-
-// Whether growth goes on, and on which side.
-fn grow_next(freq: &[f32], live: &[u32], gaps: usize, growth: Growth) -> Turn
+// The side that is tried next, or none where growth ends.
+#[tactic(auto, unfolding(crate::specs::Growth::side_tried, crate::specs::Growth::side_open))]
+fn grow_next(freq: &[f32], live: &[u32], gaps: usize, growth: Growth) -> Option<Side>
     requires inside_gaps { InsideGaps gaps growth.region }
     requires freq_long { gaps ≤ length freq.now }
     requires live_long { gaps ≤ length live.now }
     ensures { result ≡ side_tried gaps (float_at freq.now) (number_at live.now) (state_of growth) }
 {
-    let g = growth.region;
-    let left = can_grow_left(g, growth.left_barred);
-    let right = can_grow_right(gaps, g, growth.right_barred);
-    if !left {
-        if right {
-            return Turn::Try(Side::Next);
-        }
-        return Turn::End;
+    let left = growth.is_open(Side::Previous, gaps);
+    let right = growth.is_open(Side::Next, gaps);
+    if left && (!right || prefers_left(freq, live, gaps, growth.region)) {
+        return Some(Side::Previous);
     }
-    if !right {
-        return Turn::Try(Side::Previous);
+    if right {
+        return Some(Side::Next);
     }
-    if prefers_left(freq, live, gaps, g) {
-        return Turn::Try(Side::Previous);
-    }
-    Turn::Try(Side::Next)
+    None
 }
 
 // Whether growth goes on, from a region that may have no gap: its own gap has failed then, and nothing is tried any more.
-pub fn next_turn(freq: &[f32], live: &[u32], gaps: usize, growth: Growth) -> Turn
+#[tactic(auto, unfolding(crate::specs::Columns::turn_of))]
+pub fn next_turn(freq: &[f32], live: &[u32], gaps: usize, growth: Growth) -> Option<Side>
     requires inside_gaps { growth.region.left < growth.region.right → InsideGaps gaps growth.region }
     requires freq_long { gaps ≤ length freq.now }
     requires live_long { gaps ≤ length live.now }
@@ -127,7 +127,7 @@ pub fn next_turn(freq: &[f32], live: &[u32], gaps: usize, growth: Growth) -> Tur
     if g.left < g.right {
         return grow_next(freq, live, gaps, growth);
     }
-    Turn::End
+    None
 }
 
 // The gap just outside a region.
@@ -141,42 +141,8 @@ pub fn gap_outside(side: Side, g: Grown) -> usize
     }
 }
 
-// Live instructions together, at most the largest 32-bit number.
-fn sum_insts(a: u32, b: u32) -> u32
-    ensures { a + b < 2 ^ 32 → result ≡ a + b }
-{
-    if a > 4294967295 - b {
-        return 4294967295;
-    }
-    a + b
-}
-
-// A region with one more gap on a side, of this weight and so many instructions, and the heaviest weight that it then meets.
-fn with_gap(side: Side, gap: usize, g: Grown, weight: f32, insts: u32, heaviest: f32) -> Grown
-    requires { gap < 4294967295 }
-    ensures { CountFits g insts → result ≡ grown_with side gap g weight insts heaviest }
-{
-    let weight = g.weight + weight;
-    let insts = sum_insts(g.insts, insts);
-    match side {
-        Side::Previous => Grown {
-            left: gap,
-            right: g.right,
-            weight,
-            insts,
-            heaviest,
-        },
-        Side::Next => Grown {
-            left: g.left,
-            right: gap + 1,
-            weight,
-            insts,
-            heaviest,
-        },
-    }
-}
-
 // What comes of a try: the gap must be free of fixed interference, and the region must be able to evict the heaviest weight that it then meets.
+#[tactic(auto, unfolding(crate::specs::Columns::came_with))]
 fn came_of(fixed: bool, normalised: f32, heaviest: f32) -> Came
     ensures { result ≡ came_with fixed normalised heaviest }
 {
@@ -204,7 +170,7 @@ pub fn try_gap(
     requires { gap < 4294967295 }
     ensures { CountFits g insts → result ≡ tried_with side gap g weight insts fixed heaviest k }
 {
-    let region = with_gap(side, gap, g, weight, insts, heaviest);
+    let region = g.with_gap(side, gap, weight, insts, heaviest);
     let normalised = numbers::normal::normalize_spill_weight(region.weight, region.insts, k);
     let came = came_of(fixed, normalised, heaviest);
     Tried {
@@ -235,21 +201,30 @@ impl Growth {
         }
     }
 
+    // Whether a side is open: neither barred nor used up.
+    #[tactic(auto, unfolding(crate::specs::Growth::side_open))]
+    fn is_open(self, side: Side, gaps: usize) -> bool
+        ensures { result ≡ side_open side gaps (state_of self) }
+    {
+        let barred = match side {
+            Side::Previous => self.left_barred,
+            Side::Next => self.right_barred,
+        };
+        !barred && !self.region.used_up(side, gaps)
+    }
+
     // Growth with a side barred.
     fn barred(self, side: Side) -> Self
         ensures { result ≡ barred_on side self }
     {
-        let region = self.region;
         match side {
             Side::Previous => Growth {
-                region,
                 left_barred: true,
-                right_barred: self.right_barred,
+                ..self
             },
             Side::Next => Growth {
-                region,
-                left_barred: self.left_barred,
                 right_barred: true,
+                ..self
             },
         }
     }
@@ -258,19 +233,12 @@ impl Growth {
     pub fn after(self, t: Tried) -> Self
         ensures { result ≡ after_tried t self }
     {
-        let came = t.came;
-        let side = t.side;
-        match came {
-            Came::Grown => {
-                let region = t.region;
-                Growth {
-                    region,
-                    left_barred: self.left_barred,
-                    right_barred: self.right_barred,
-                }
-            }
-            Came::Fixed => self.barred(side),
-            Came::Weight => self.barred(side),
+        match t.came {
+            Came::Grown => Growth {
+                region: t.region,
+                ..self
+            },
+            Came::Fixed | Came::Weight => self.barred(t.side),
         }
     }
 }

@@ -2,10 +2,17 @@
 use mathlib.Core.Path.{◌≡◌, sym, ap, ◌∙◌}
 use mathlib.Core.Bool.{Bool, true, false, ◌&&◌, ◌||◌, cond}
 use mathlib.Core.List.{List}
-use Prim.Native.Nat.{ℕ, ◌+◌, ◌<◌, min}
+use Prim.Native.Nat.{ℕ, ◌+◌, ◌≤◌, ◌<◌}
 use native.Mathlib.Nat.{lt_of_lt_of_le, le_of_eq}
 use native.Mathlib.Numerals.{add-one}
 use lib.ListN.{length, get_or}
+use Rattle.std.specs.List.{position, position_or_len}
+use Rattle.std.specs.Option.{unwrap_or}
+use Rattle.std.proofs.Common.{Some, None, ltb, arith, le_trans, zero-le}
+use Rattle.std.proofs.lemmas.List.Sums.{position_or_len_is}
+use Rattle.std.proofs.lemmas.Bool.Decides.{nat_tests}
+use Rattle.columns.proofs.Firsts.{first_in}
+use Rattle.columns.specs.First.{first_below}
 use Rattle.columns.specs.Table.{table, row_before}
 use Rattle.columns.proofs.Tables.{table_length, table_at}
 
@@ -33,13 +40,12 @@ and_both a b c p q = rw p q
 pub and_first : (a b : Bool) → a ≡ false → (a && b) ≡ false
 and_first a b p = rw p
 
--- three columns' shortest
-pub shortest_three : (a b c m r : ℕ) → m ≡ min b c → r ≡ min a m → r ≡ min a (min b c)
-shortest_three a b c m r p q = q ∙ ap (min a) p
+-- in a column, the first place is the position
+or_length : (i n : ℕ) → i ≤ n → unwrap_or (cond (ltb i n) (Some i) None) n ≡ i
+or_length i n h = grind (arith, nat_tests)
 
--- a choice whose test is known
-pub pick_first : {A : Type 0} (t : Bool) (x y r : A) → t ≡ true → x ≡ r → cond t x y ≡ r
-pick_first t x y r p q = rw p q
-
-pub pick_second : {A : Type 0} (t : Bool) (x y r : A) → t ≡ false → y ≡ r → cond t x y ≡ r
-pick_second t x y r p q = rw p q
+pub first_position : (test : ℕ → Bool) (col : List ℕ) → unwrap_or (position test col) (length col) ≡ first_below (λ (k : ℕ). test (get_or col k 0)) (length col)
+first_position test col =
+    let f = first_in (λ (k : ℕ). test (get_or col k 0)) (length col) in
+    let e = position_or_len_is test col _ 0 f.to (λ k h. f.passed k zero-le h) f.found in
+    or_length (position_or_len test col) (length col) (le_trans (le_of_eq e) f.to) ∙ e

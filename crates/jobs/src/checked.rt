@@ -1,10 +1,11 @@
-// Rows as they are read after the checks: what has passed as the index of something has its type.
-ghost use Rattle.std.specs.Prelude.{◌≡◌, ◌<◌, length};
-ghost use Rattle.jobs.specs.Rows.{segments_of, segment_row, uses_of, use_row, live_out, fixed_def};
-ghost use Rattle.jobs.specs.Rows.{reservations_of, reservation_row, fixed_uses_of, fixed_use_row};
+// Rows as they are read after the checks: what has passed as the index of something has its type. Kinds and flags stay the columns' numbers:
+// the definitions speak of these, and numbers that no accepted job holds have their answer too.
+ghost use Rattle.std.specs.Prelude.{◌≡◌, ◌<◌, length, get_or};
+ghost use Rattle.jobs.specs.Rows.{no_segment, no_use, no_reservation, no_fixed_use, live_out, fixed_def};
 ghost use Rattle.jobs.specs.Checked.{live_segment, placed_use, held_reservation, held_use};
 
 use crate::rows;
+use crate::rows::{FixedUse, FixedUses, Reservation, Reservations, Segment, Segments, Use, Uses};
 use numbers::{Inst, Point, Unit, Value};
 
 // A segment: its points, its value, its uses from first to before end, and flags.
@@ -45,84 +46,102 @@ pub struct HeldUse {
     pub value: Value,
 }
 
-// Segment i.
-pub fn live_segment_at(
-    start: &[u32],
-    end: &[u32],
-    value: &[u32],
-    first_use: &[u32],
-    end_use: &[u32],
-    flags: &[u32],
-    i: usize,
-) -> LiveSegment
-    requires { i < length (segments_of start.now end.now value.now first_use.now end_use.now flags.now) }
-    ensures { result ≡ live_segment (segment_row
-        start.now end.now value.now first_use.now end_use.now flags.now i) }
-{
-    let s = rows::segment_at(start, end, value, first_use, end_use, flags, i);
-    LiveSegment {
-        start: Point(s.start),
-        end: Point(s.end),
-        value: Value(s.value),
-        first_use: s.first_use,
-        end_use: s.end_use,
-        flags: s.flags,
+impl From<Segment> for LiveSegment {
+    ghost from_gives = { λ s r. r ≡ live_segment s };
+
+    fn from(s: Segment) -> LiveSegment {
+        LiveSegment {
+            start: Point(s.start),
+            end: Point(s.end),
+            value: Value(s.value),
+            first_use: s.first_use,
+            end_use: s.end_use,
+            flags: s.flags,
+        }
     }
 }
 
-// Use i.
-pub fn placed_use_at(position: &[u32], kind: &[u32], cost: &[u32], i: usize) -> PlacedUse
-    requires { i < length (uses_of position.now kind.now cost.now) }
-    ensures { result ≡ placed_use (use_row position.now kind.now cost.now i) }
-{
-    let u = rows::use_at(position, kind, cost, i);
-    PlacedUse {
-        position: Inst(u.position),
-        kind: u.kind,
-        cost: u.cost,
+impl From<Use> for PlacedUse {
+    ghost from_gives = { λ u r. r ≡ placed_use u };
+
+    fn from(u: Use) -> PlacedUse {
+        PlacedUse {
+            position: Inst(u.position),
+            kind: u.kind,
+            cost: u.cost,
+        }
     }
 }
 
-// Reservation i.
-pub fn held_at(
-    unit: &[u32],
-    start: &[u32],
-    end: &[u32],
-    kind: &[u32],
-    index: &[u32],
-    fixed: &[u32],
-    i: usize,
-) -> Held
-    requires { i < length (reservations_of unit.now start.now end.now kind.now index.now fixed.now) }
-    ensures { result ≡ held_reservation (reservation_row
-        unit.now start.now end.now kind.now index.now fixed.now i) }
-{
-    let r = rows::reservation_at(unit, start, end, kind, index, fixed, i);
-    Held {
-        unit: Unit(r.unit),
-        start: Point(r.start),
-        end: Point(r.end),
-        kind: r.kind,
-        index: r.index,
-        fixed: r.fixed,
+impl From<Reservation> for Held {
+    ghost from_gives = { λ r h. h ≡ held_reservation r };
+
+    fn from(r: Reservation) -> Held {
+        Held {
+            unit: Unit(r.unit),
+            start: Point(r.start),
+            end: Point(r.end),
+            kind: r.kind,
+            index: r.index,
+            fixed: r.fixed,
+        }
     }
 }
 
-// Fixed use i.
-pub fn held_use_at(unit: &[u32], point: &[u32], value: &[u32], i: usize) -> HeldUse
-    requires { i < length (fixed_uses_of unit.now point.now value.now) }
-    ensures { result ≡ held_use (fixed_use_row unit.now point.now value.now i) }
-{
-    let f = rows::fixed_use_at(unit, point, value, i);
-    HeldUse {
-        unit: Unit(f.unit),
-        point: Point(f.point),
-        value: Value(f.value),
+impl From<FixedUse> for HeldUse {
+    ghost from_gives = { λ f h. h ≡ held_use f };
+
+    fn from(f: FixedUse) -> HeldUse {
+        HeldUse {
+            unit: Unit(f.unit),
+            point: Point(f.point),
+            value: Value(f.value),
+        }
+    }
+}
+
+impl<'a> Segments<'a> {
+    // Segment i.
+    pub fn live_at(&self, i: usize) -> LiveSegment
+        requires { i < length self.now }
+        ensures { result ≡ live_segment (get_or self.now i no_segment) }
+    {
+        LiveSegment::from(self.at(i))
+    }
+}
+
+impl<'a> Uses<'a> {
+    // Use i.
+    pub fn placed_at(&self, i: usize) -> PlacedUse
+        requires { i < length self.now }
+        ensures { result ≡ placed_use (get_or self.now i no_use) }
+    {
+        PlacedUse::from(self.at(i))
+    }
+}
+
+impl<'a> Reservations<'a> {
+    // Reservation i.
+    pub fn held_at(&self, i: usize) -> Held
+        requires { i < length self.now }
+        ensures { result ≡ held_reservation (get_or self.now i no_reservation) }
+    {
+        Held::from(self.at(i))
+    }
+}
+
+impl<'a> FixedUses<'a> {
+    // Fixed use i.
+    pub fn held_at(&self, i: usize) -> HeldUse
+        requires { i < length self.now }
+        ensures { result ≡ held_use (get_or self.now i no_fixed_use) }
+    {
+        HeldUse::from(self.at(i))
     }
 }
 
 impl LiveSegment {
-    // The value leaves the segment alive.
+    // The value leaves the segment alive. A line each here and for `Segment`: a trait for both would be no shorter.
     pub fn has_liveout(self) -> bool
         ensures { result ≡ live_out self.flags }
     {

@@ -1,14 +1,22 @@
-// The rows of a job's tables. A table is lent as one slice a column, and has as many rows as its shortest column.
-ghost use Rattle.std.specs.Prelude.{◌≡◌, ◌<◌, length, get_or};
-ghost use Rattle.columns.specs.Table.{row_before};
-ghost use Rattle.jobs.specs.Rows.{segments_of, segment_row, no_segment, uses_of, use_row, no_use, live_out};
-ghost use Rattle.jobs.specs.Rows.{fixed_def, reservations_of, reservation_row, no_reservation, fixed_uses_of, fixed_use_row, no_fixed_use};
+// The tables of a job and their rows. A table is lent as one slice a column, and has as many rows as its shortest column: a contract sees it
+// as the list of its rows.
+#![tactic(auto, using(columns::proofs::Tables::table_length))]
 
-use columns::rows::shorter;
+ghost use Rattle.std.specs.Prelude.{◌≡◌, ◌<◌, List, length, get_or};
+ghost use Rattle.columns.specs.Table.{row_before};
+ghost use Rattle.jobs.specs.Rows.{segments_of, no_segment, uses_of, no_use, live_out, fixed_def};
+ghost use Rattle.jobs.specs.Rows.{reservations_of, no_reservation, fixed_uses_of, no_fixed_use};
+ghost use Rattle.jobs.specs.declared.rows.Segment.{Segment};
+ghost use Rattle.jobs.specs.declared.rows.Use.{Use};
+ghost use Rattle.jobs.specs.declared.rows.Reservation.{Reservation};
+ghost use Rattle.jobs.specs.declared.rows.FixedUse.{FixedUse};
+
+use columns::rows::shortest;
+use std::marker::Model;
 
 // A segment of the virtual register: points from start to end, its value, its uses from first to before end, and flags: 1
 // live-in, 2 live-out, 4 fixed hint, 8 fixed def.
-#[derive(Clone, Copy)]
+#[derive(Clone, Copy, Default)]
 pub struct Segment {
     pub start: u32,
     pub end: u32,
@@ -19,7 +27,7 @@ pub struct Segment {
 }
 
 // A use at an instruction.
-#[derive(Clone, Copy)]
+#[derive(Clone, Copy, Default)]
 pub struct Use {
     pub position: u32,
     pub kind: u32,
@@ -27,7 +35,7 @@ pub struct Use {
 }
 
 // A reservation of a unit.
-#[derive(Clone, Copy)]
+#[derive(Clone, Copy, Default)]
 pub struct Reservation {
     pub unit: u32,
     pub start: u32,
@@ -38,7 +46,7 @@ pub struct Reservation {
 }
 
 // A fixed use of a unit.
-#[derive(Clone, Copy)]
+#[derive(Clone, Copy, Default)]
 pub struct FixedUse {
     pub unit: u32,
     pub point: u32,
@@ -55,31 +63,6 @@ pub struct Limits {
     pub end: u32,
 }
 
-// No segment, as it stands before the first.
-pub(crate) fn no_segment() -> Segment
-    ensures { result ≡ no_segment }
-{
-    Segment {
-        start: 0,
-        end: 0,
-        value: 0,
-        first_use: 0,
-        end_use: 0,
-        flags: 0,
-    }
-}
-
-// No fixed use, as it stands before the first.
-pub(crate) fn no_fixed_use() -> FixedUse
-    ensures { result ≡ no_fixed_use }
-{
-    FixedUse {
-        unit: 0,
-        point: 0,
-        value: 0,
-    }
-}
-
 // A number of a column.
 pub fn cell(col: &[u32], i: usize) -> u32
     requires { i < length col.now }
@@ -88,175 +71,193 @@ pub fn cell(col: &[u32], i: usize) -> u32
     col[i]
 }
 
-// How many segments there are.
-pub fn segment_count(
-    start: &[u32],
-    end: &[u32],
-    value: &[u32],
-    first_use: &[u32],
-    end_use: &[u32],
-    flags: &[u32],
-) -> usize
-    ensures { result ≡ length (segments_of
-        start.now end.now value.now first_use.now end_use.now flags.now) }
-{
-    let e = shorter(end_use.len(), flags.len());
-    let d = shorter(first_use.len(), e);
-    let c = shorter(value.len(), d);
-    let b = shorter(end.len(), c);
-    shorter(start.len(), b)
+// The segments. The four tables are alike but for their columns: a trait over them would have each say its columns all the same.
+#[derive(Drop)]
+pub struct Segments<'a> {
+    pub start: &'a [u32],
+    pub end: &'a [u32],
+    pub value: &'a [u32],
+    pub first_use: &'a [u32],
+    pub end_use: &'a [u32],
+    pub flags: &'a [u32],
 }
 
-// Segment i.
-pub fn segment_at(
-    start: &[u32],
-    end: &[u32],
-    value: &[u32],
-    first_use: &[u32],
-    end_use: &[u32],
-    flags: &[u32],
-    i: usize,
-) -> Segment
-    requires { i < length (segments_of start.now end.now value.now first_use.now end_use.now flags.now) }
-    ensures { result ≡ segment_row
-        start.now end.now value.now first_use.now end_use.now flags.now i }
-{
-    Segment {
-        start: cell(start, i),
-        end: cell(end, i),
-        value: cell(value, i),
-        first_use: cell(first_use, i),
-        end_use: cell(end_use, i),
-        flags: cell(flags, i),
+impl<'a> Model for Segments<'a> {
+    ghost Value = { List Segment };
+
+    ghost view = { λ t. segments_of t.start.now t.end.now t.value.now t.first_use.now t.end_use.now t.flags.now };
+}
+
+impl<'a> Segments<'a> {
+    // How many there are.
+    pub fn len(&self) -> usize
+        ensures { result ≡ length self.now }
+    {
+        shortest(&[
+            self.start.len(),
+            self.end.len(),
+            self.value.len(),
+            self.first_use.len(),
+            self.end_use.len(),
+            self.flags.len(),
+        ])
+    }
+
+    // Segment i.
+    #[tactic(auto, using(columns::proofs::Tables::table_length, crate::proofs::Reading::own_segment))]
+    pub fn at(&self, i: usize) -> Segment
+        requires { i < length self.now }
+        ensures { result ≡ get_or self.now i no_segment }
+    {
+        Segment {
+            start: cell(self.start, i),
+            end: cell(self.end, i),
+            value: cell(self.value, i),
+            first_use: cell(self.first_use, i),
+            end_use: cell(self.end_use, i),
+            flags: cell(self.flags, i),
+        }
     }
 }
 
-// How many uses there are.
-pub fn use_count(position: &[u32], kind: &[u32], cost: &[u32]) -> usize
-    ensures { result ≡ length (uses_of position.now kind.now cost.now) }
-{
-    let b = shorter(kind.len(), cost.len());
-    shorter(position.len(), b)
+// The uses.
+#[derive(Drop)]
+pub struct Uses<'a> {
+    pub position: &'a [u32],
+    pub kind: &'a [u32],
+    pub cost: &'a [u32],
 }
 
-// Use i.
-pub fn use_at(position: &[u32], kind: &[u32], cost: &[u32], i: usize) -> Use
-    requires { i < length (uses_of position.now kind.now cost.now) }
-    ensures { result ≡ use_row position.now kind.now cost.now i }
-{
-    Use {
-        position: cell(position, i),
-        kind: cell(kind, i),
-        cost: cell(cost, i),
+impl<'a> Model for Uses<'a> {
+    ghost Value = { List Use };
+
+    ghost view = { λ t. uses_of t.position.now t.kind.now t.cost.now };
+}
+
+impl<'a> Uses<'a> {
+    // How many there are.
+    pub fn len(&self) -> usize
+        ensures { result ≡ length self.now }
+    {
+        shortest(&[self.position.len(), self.kind.len(), self.cost.len()])
+    }
+
+    // Use i.
+    #[tactic(auto, using(columns::proofs::Tables::table_length, crate::proofs::Reading::own_use))]
+    pub fn at(&self, i: usize) -> Use
+        requires { i < length self.now }
+        ensures { result ≡ get_or self.now i no_use }
+    {
+        Use {
+            position: cell(self.position, i),
+            kind: cell(self.kind, i),
+            cost: cell(self.cost, i),
+        }
+    }
+
+    // Use i, or no use past the last.
+    pub(crate) fn at_or_none(&self, i: usize) -> Use
+        ensures { result ≡ get_or self.now i no_use }
+    {
+        if i < self.len() {
+            return self.at(i);
+        }
+        Use::default()
+    }
+
+    // The use before use i, or no use before the first.
+    pub fn before(&self, i: usize) -> Use
+        ensures { result ≡ row_before self.now no_use i }
+    {
+        if i == 0 {
+            return Use::default();
+        }
+        self.at_or_none(i - 1)
     }
 }
 
-// Use i, or no use past the last.
-pub(crate) fn use_or_none(position: &[u32], kind: &[u32], cost: &[u32], i: usize) -> Use
-    ensures { result ≡ get_or (uses_of position.now kind.now cost.now) i no_use }
-{
-    let n = use_count(position, kind, cost);
-    if i < n {
-        return use_at(position, kind, cost, i);
+// The reservations.
+#[derive(Drop)]
+pub struct Reservations<'a> {
+    pub unit: &'a [u32],
+    pub start: &'a [u32],
+    pub end: &'a [u32],
+    pub kind: &'a [u32],
+    pub index: &'a [u32],
+    pub fixed: &'a [u32],
+}
+
+impl<'a> Model for Reservations<'a> {
+    ghost Value = { List Reservation };
+
+    ghost view = { λ t. reservations_of t.unit.now t.start.now t.end.now t.kind.now t.index.now t.fixed.now };
+}
+
+impl<'a> Reservations<'a> {
+    // How many there are.
+    pub fn len(&self) -> usize
+        ensures { result ≡ length self.now }
+    {
+        shortest(&[
+            self.unit.len(),
+            self.start.len(),
+            self.end.len(),
+            self.kind.len(),
+            self.index.len(),
+            self.fixed.len(),
+        ])
     }
-    no_use()
-}
 
-// The use before use i, or no use before the first.
-pub fn use_before(position: &[u32], kind: &[u32], cost: &[u32], i: usize) -> Use
-    ensures { result ≡ row_before (uses_of position.now kind.now cost.now) no_use i }
-{
-    if i == 0 {
-        return no_use();
-    }
-    use_or_none(position, kind, cost, i - 1)
-}
-
-// How many fixed uses there are.
-pub fn fixed_use_count(unit: &[u32], point: &[u32], value: &[u32]) -> usize
-    ensures { result ≡ length (fixed_uses_of unit.now point.now value.now) }
-{
-    let b = shorter(point.len(), value.len());
-    shorter(unit.len(), b)
-}
-
-// Fixed use i.
-pub fn fixed_use_at(unit: &[u32], point: &[u32], value: &[u32], i: usize) -> FixedUse
-    requires { i < length (fixed_uses_of unit.now point.now value.now) }
-    ensures { result ≡ fixed_use_row unit.now point.now value.now i }
-{
-    FixedUse {
-        unit: cell(unit, i),
-        point: cell(point, i),
-        value: cell(value, i),
-    }
-}
-
-// No reservation, as it stands before the first.
-pub(crate) fn no_reservation() -> Reservation
-    ensures { result ≡ no_reservation }
-{
-    Reservation {
-        unit: 0,
-        start: 0,
-        end: 0,
-        kind: 0,
-        index: 0,
-        fixed: 0,
+    // Reservation i.
+    #[tactic(auto, using(columns::proofs::Tables::table_length, crate::proofs::Reading::own_reservation))]
+    pub fn at(&self, i: usize) -> Reservation
+        requires { i < length self.now }
+        ensures { result ≡ get_or self.now i no_reservation }
+    {
+        Reservation {
+            unit: cell(self.unit, i),
+            start: cell(self.start, i),
+            end: cell(self.end, i),
+            kind: cell(self.kind, i),
+            index: cell(self.index, i),
+            fixed: cell(self.fixed, i),
+        }
     }
 }
 
-// How many reservations there are.
-pub fn reservation_count(
-    unit: &[u32],
-    start: &[u32],
-    end: &[u32],
-    kind: &[u32],
-    index: &[u32],
-    fixed: &[u32],
-) -> usize
-    ensures { result ≡ length (reservations_of
-        unit.now start.now end.now kind.now index.now fixed.now) }
-{
-    let e = shorter(index.len(), fixed.len());
-    let d = shorter(kind.len(), e);
-    let c = shorter(end.len(), d);
-    let b = shorter(start.len(), c);
-    shorter(unit.len(), b)
+// The fixed uses.
+#[derive(Drop)]
+pub struct FixedUses<'a> {
+    pub unit: &'a [u32],
+    pub point: &'a [u32],
+    pub value: &'a [u32],
 }
 
-// Reservation i.
-pub fn reservation_at(
-    unit: &[u32],
-    start: &[u32],
-    end: &[u32],
-    kind: &[u32],
-    index: &[u32],
-    fixed: &[u32],
-    i: usize,
-) -> Reservation
-    requires { i < length (reservations_of unit.now start.now end.now kind.now index.now fixed.now) }
-    ensures { result ≡ reservation_row
-        unit.now start.now end.now kind.now index.now fixed.now i }
-{
-    Reservation {
-        unit: cell(unit, i),
-        start: cell(start, i),
-        end: cell(end, i),
-        kind: cell(kind, i),
-        index: cell(index, i),
-        fixed: cell(fixed, i),
+impl<'a> Model for FixedUses<'a> {
+    ghost Value = { List FixedUse };
+
+    ghost view = { λ t. fixed_uses_of t.unit.now t.point.now t.value.now };
+}
+
+impl<'a> FixedUses<'a> {
+    // How many there are.
+    pub fn len(&self) -> usize
+        ensures { result ≡ length self.now }
+    {
+        shortest(&[self.unit.len(), self.point.len(), self.value.len()])
     }
-}
 
-// No use, as it stands before the first.
-fn no_use() -> Use
-    ensures { result ≡ no_use }
-{
-    Use {
-        position: 0,
-        kind: 0,
-        cost: 0,
+    // Fixed use i.
+    #[tactic(auto, using(columns::proofs::Tables::table_length, crate::proofs::Reading::own_fixed_use))]
+    pub fn at(&self, i: usize) -> FixedUse
+        requires { i < length self.now }
+        ensures { result ≡ get_or self.now i no_fixed_use }
+    {
+        FixedUse {
+            unit: cell(self.unit, i),
+            point: cell(self.point, i),
+            value: cell(self.value, i),
+        }
     }
 }
 

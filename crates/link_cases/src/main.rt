@@ -2,70 +2,54 @@
 // points of those blocks between any two instructions, a line for each `after`, with a refusal's number in brackets; then other lists.
 #![tactic(auto)]
 
-use links::split::SplitPoint;
+use links::blocks::Refusal;
 use links::{lower, split};
 use numbers::Inst;
 use std::io;
 
-fn print_number(rt: &impl Print, n: u32) -> io::Result<()> {
-    print!(rt; " {n}")
+// A block list as three columns: each block's frequency, first instruction and end.
+#[derive(Clone, Copy)]
+struct Blocks<'a> {
+    freq: &'a [u32],
+    first: &'a [u32],
+    end: &'a [u32],
 }
 
-fn end_line(rt: &impl Print) -> io::Result<()> {
-    println!(rt; "")
+impl<'a> Blocks<'a> {
+    // The split points of the list: a line for each `after`, a point for each `before`.
+    fn print_points(&self, rt: &impl Print, prefer_early: bool) -> io::Result<()> {
+        for after in 0..11 {
+            for before in 0..12 {
+                print_point(
+                    rt,
+                    split::find_optimal_split_point(
+                        self.freq,
+                        self.first,
+                        self.end,
+                        Inst(after),
+                        Inst(before),
+                        prefer_early,
+                    ),
+                )?;
+            }
+            println!(rt; "")?;
+        }
+        Ok(())
+    }
 }
 
 fn print_links(rt: &impl Print, column: &[u32]) -> io::Result<()> {
-    let mut i = 0;
-    while i < column.len() {
-        print_number(rt, column[i])?;
-        i += 1;
+    for link in column {
+        print!(rt; " {link}")?;
     }
-    end_line(rt)
+    println!(rt; "")
 }
 
-fn print_point(rt: &impl Print, p: SplitPoint) -> io::Result<()> {
+fn print_point(rt: &impl Print, p: Result<Inst, Refusal>) -> io::Result<()> {
     match p {
-        SplitPoint::At(i) => print_number(rt, i.0),
-        SplitPoint::Refused(r) => print!(rt; " ({})", r.number),
+        Ok(i) => print!(rt; " {}", i.0),
+        Err(r) => print!(rt; " ({})", r.number),
     }
-}
-
-fn print_row(
-    rt: &impl Print,
-    freq: &[u32],
-    first: &[u32],
-    end: &[u32],
-    after: u32,
-    prefer_early: bool,
-) -> io::Result<()> {
-    for before in 0..12 {
-        print_point(
-            rt,
-            split::find_optimal_split_point(
-                freq,
-                first,
-                end,
-                Inst(after),
-                Inst(before),
-                prefer_early,
-            ),
-        )?;
-    }
-    end_line(rt)
-}
-
-fn print_points(
-    rt: &impl Print,
-    freq: &[u32],
-    first: &[u32],
-    end: &[u32],
-    prefer_early: bool,
-) -> io::Result<()> {
-    for after in 0..11 {
-        print_row(rt, freq, first, end, after, prefer_early)?;
-    }
-    Ok(())
 }
 
 fn main(rt: HostRuntime) -> io::Result<()> {
@@ -78,13 +62,30 @@ fn main(rt: HostRuntime) -> io::Result<()> {
     lower::prepare(&freq, &mut prev, &mut next);
     print_links(&rt, &next)?;
     print_links(&rt, &prev)?;
-    print_points(&rt, &freq, &first, &end, true)?;
-    print_points(&rt, &freq, &first, &end, false)?;
+    let blocks = Blocks {
+        freq: &freq,
+        first: &first,
+        end: &end,
+    };
+    blocks.print_points(&rt, true)?;
+    blocks.print_points(&rt, false)?;
     // the same blocks with frequencies 1, 2, 2, 4: late split points have links to follow
-    let rising = [1065353216u32, 1073741824, 1073741824, 1082130432];
-    print_points(&rt, &rising, &first, &end, true)?;
-    print_points(&rt, &rising, &first, &end, false)?;
+    let rising = Blocks {
+        freq: &[1065353216u32, 1073741824, 1073741824, 1082130432],
+        ..blocks
+    };
+    rising.print_points(&rt, true)?;
+    rising.print_points(&rt, false)?;
     // no block, and a hole
-    print_points(&rt, &[], &[], &[], true)?;
-    print_points(&rt, &freq, &[0u32, 2, 4, 6], &end, true)
+    let none = Blocks {
+        freq: &[],
+        first: &[],
+        end: &[],
+    };
+    none.print_points(&rt, true)?;
+    let hole = Blocks {
+        first: &[0u32, 2, 4, 6],
+        ..blocks
+    };
+    hole.print_points(&rt, true)
 }

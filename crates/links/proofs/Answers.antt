@@ -9,51 +9,48 @@ use lib.Dec.{leb, ltb}
 use lib.ListN.{length, get_or, take}
 use lib.Seq.{length-take-le}
 use borrow.Author.Tests.{le-leb, lt-leb, lt-ltb, le-ltb}
-use Rattle.links.specs.Blocks.{BlockRow, blocks_of, block_at, start_of, check_of, SoundBlocks}
-use Rattle.links.specs.Split.{if_sound, side_of, split_point, split_answer, Between}
+use Rattle.links.specs.Blocks.{BlockRow, blocks_of, block_at, start_of, check_of, SoundBlocks, Checked, no_refusal}
+use Rattle.links.specs.Split.{if_sound, side_of, split_point, split_answer, Between, SplitPoint}
 use Rattle.links.specs.declared.blocks.Refusal.{Refusal}
-use Rattle.links.specs.declared.blocks.Checked.{Checked}
-use Rattle.links.specs.declared.blocks.Checked.TheVariants as Checked·is
-use Rattle.links.specs.declared.split.SplitPoint.{SplitPoint}
-use Rattle.links.specs.declared.split.SplitPoint.TheVariants as SplitPoint·is
 use Rattle.links.proofs.Rows.{blocks_at, blocks_inside}
 use Rattle.links.proofs.Columns.{part_list, last_end}
+use Rattle.std.specs.Prelude.{Err, Ok}
 
 -- ---- the four cases
 module _ (blocks : List BlockRow) (after before : ℕ) (early : Bool) where
   -- what a sound list is answered
   abbrev checked : SplitPoint
   checked =
-      cond (leb before after || ltb (start_of blocks (length blocks)) before) (SplitPoint·is.Refused (record { number = 13; place = 0 }))
-      (SplitPoint·is.At (record { 0 = split_point (side_of early) blocks after before }))
+      cond (leb before after || ltb (start_of blocks (length blocks)) before) (Err (record { number = 13; place = 0 }))
+      (Ok (record { 0 = split_point (side_of early) blocks after before }))
 
-  pub answer_refused : (r : Refusal) → check_of blocks ≡ Checked·is.Refused r → SplitPoint·is.Refused r ≡ split_answer blocks after before early
+  pub answer_refused : (r : Refusal) → check_of blocks ≡ Err r → Err r ≡ split_answer blocks after before early
   unfolding split_answer
   answer_refused r e = sym (ap (λ (x : Checked). if_sound x checked) e)
 
-  module _ (sound : check_of blocks ≡ Checked·is.Sound) where
+  module _ (sound : check_of blocks ≡ no_refusal) where
     accepted : (t : Bool) → (leb before after || ltb (start_of blocks (length blocks)) before) ≡ t
-        → cond t (SplitPoint·is.Refused (record { number = 13; place = 0 })) (SplitPoint·is.At (record { 0 = split_point (side_of early) blocks after before }))
+        → cond t (Err (record { number = 13; place = 0 })) (Ok (record { 0 = split_point (side_of early) blocks after before }))
         ≡ split_answer blocks after before early
     unfolding split_answer
     accepted t e =
         sym (ap (λ (x : Checked). if_sound x checked) sound
-        ∙ ap (λ (s : Bool). cond s (SplitPoint·is.Refused (record { number = 13; place = 0 }))
-        (SplitPoint·is.At (record { 0 = split_point (side_of early) blocks after before }))) e)
+        ∙ ap (λ (s : Bool). cond s (Err (record { number = 13; place = 0 }))
+        (Ok (record { 0 = split_point (side_of early) blocks after before }))) e)
 
-    pub answer_order : before ≤ after → SplitPoint·is.Refused (record { number = 13; place = 0 }) ≡ split_answer blocks after before early
+    pub answer_order : before ≤ after → Err (record { number = 13; place = 0 }) ≡ split_answer blocks after before early
     answer_order h = accepted true (ap (λ (s : Bool). s || ltb (start_of blocks (length blocks)) before) (le-leb before after h))
 
     pub answer_outside : after < before → start_of blocks (length blocks) < before
-        → SplitPoint·is.Refused (record { number = 13; place = 0 }) ≡ split_answer blocks after before early
+        → Err (record { number = 13; place = 0 }) ≡ split_answer blocks after before early
     answer_outside h l =
         accepted true (ap (λ (s : Bool). s || ltb (start_of blocks (length blocks)) before) (lt-leb before after h)
         ∙ lt-ltb (start_of blocks (length blocks)) before l)
 
     pub answer_split : (x : ℕ) → after < before → before ≤ start_of blocks (length blocks) → x ≡ split_point (side_of early) blocks after before
-        → SplitPoint·is.At (record { 0 = x }) ≡ split_answer blocks after before early
+        → Ok (record { 0 = x }) ≡ split_answer blocks after before early
     answer_split x h l e =
-        ap (λ (y : ℕ). SplitPoint·is.At (record { 0 = y })) e
+        ap (λ (y : ℕ). Ok (record { 0 = y })) e
         ∙ accepted false (ap (λ (s : Bool). s || ltb (start_of blocks (length blocks)) before) (lt-leb before after h)
         ∙ le-ltb (start_of blocks (length blocks)) before l)
 

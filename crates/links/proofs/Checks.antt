@@ -10,11 +10,10 @@ use lib.Dec.{ltb, eqb}
 use lib.ListN.{length}
 use borrow.Author.Tests.{lt-ltb, ltb-true, ltb-false, eqb-true, eqb-false}
 use Rattle.columns.specs.First.{first_below, FirstIn}
-use Rattle.links.specs.Blocks.{BlockRow, bad_block, item_limit, refusal, check_of, SoundBlocks}
+use Rattle.links.specs.Blocks.{BlockRow, bad_block, item_limit, refusal, check_of, SoundBlocks, Checked, no_refusal}
 use Rattle.links.specs.declared.blocks.Refusal.{Refusal}
-use Rattle.links.specs.declared.blocks.Checked.{Checked}
-use Rattle.links.specs.declared.blocks.Checked.TheVariants.{Sound, Refused}
 use Rattle.columns.proofs.Firsts.{split, first_in}
+use Rattle.std.specs.Prelude.{Err}
 
 -- line 2: no block, or more than 4,096
 abbrev pub Broken2 : List BlockRow → Type 0
@@ -30,14 +29,14 @@ pub record Broken3 (blocks : List BlockRow) (p : ℕ) : Type 0 where
 pub data Verdict (blocks : List BlockRow) : Checked → Type 0 where
   two : Broken2 blocks → Verdict blocks (refusal 2 0)
   three : (p : ℕ) → (Broken2 blocks → ⊥) → Broken3 blocks p → Verdict blocks (refusal 3 p)
-  neither : SoundBlocks blocks → Verdict blocks Sound
+  neither : SoundBlocks blocks → Verdict blocks no_refusal
 
 module _ (blocks : List BlockRow) where
   bad : ℕ
   bad = first_below (bad_block blocks) (length blocks)
 
   counted : (t : Bool) → (eqb (length blocks) 0 || ltb item_limit (length blocks)) ≡ t
-      → Verdict blocks (cond t (refusal 2 0) (cond (ltb bad (length blocks)) (refusal 3 bad) Sound))
+      → Verdict blocks (cond t (refusal 2 0) (cond (ltb bad (length blocks)) (refusal 3 bad) no_refusal))
   unfolding bad
   counted true e = two (which (eqb (length blocks) 0) refl e)
     where
@@ -59,7 +58,7 @@ module _ (blocks : List BlockRow) where
       some : (n : ℕ) → (n ≡ 0 → ⊥) → 0 < n
       some n h = omega arith
 
-      walked : (s : Bool) → ltb bad (length blocks) ≡ s → Verdict blocks (cond s (refusal 3 bad) Sound)
+      walked : (s : Bool) → ltb bad (length blocks) ≡ s → Verdict blocks (cond s (refusal 3 bad) no_refusal)
       walked true p =
           let l = ltb-true bad (length blocks) p in
           let f = first_in (bad_block blocks) (length blocks) in
@@ -122,19 +121,19 @@ pub answer_verdict : (blocks : List BlockRow) (x : Checked) → check_of blocks 
 answer_verdict blocks x e = subst (Verdict blocks) e (check_verdict blocks)
 
 -- accepted exactly if no line is broken
-not_sound : (r : Refusal) → Refused r ≡ Sound → ⊥
+not_sound : (r : Refusal) → Err r ≡ no_refusal → ⊥
 not_sound r e = let z : ◌≡◌ {A = ℕ} 0 1 = cc in omega arith
 
-pub check_sound : (blocks : List BlockRow) → check_of blocks ≡ Sound → SoundBlocks blocks
-check_sound blocks e = only Sound (answer_verdict blocks Sound e) refl
+pub check_sound : (blocks : List BlockRow) → check_of blocks ≡ no_refusal → SoundBlocks blocks
+check_sound blocks e = only no_refusal (answer_verdict blocks no_refusal e) refl
   where
-    only : (x : Checked) → Verdict blocks x → x ≡ Sound → SoundBlocks blocks
+    only : (x : Checked) → Verdict blocks x → x ≡ no_refusal → SoundBlocks blocks
     only x (two a) e = absurd (not_sound _ e)
     only x (three p n a) e = absurd (not_sound _ e)
     only x (neither s) e = s
 
-pub sound_check : (blocks : List BlockRow) → SoundBlocks blocks → check_of blocks ≡ Sound
-sound_check blocks s = verdict_answered blocks Sound (neither s)
+pub sound_check : (blocks : List BlockRow) → SoundBlocks blocks → check_of blocks ≡ no_refusal
+sound_check blocks s = verdict_answered blocks no_refusal (neither s)
 
 -- ---- what the code finds: n blocks, and the first bad one
 module _ (blocks : List BlockRow) (n bad : ℕ) (counted : n ≡ length blocks) (found : bad ≡ first_below (bad_block blocks) n) (some : n ≡ 0 → ⊥)
@@ -156,9 +155,9 @@ module _ (blocks : List BlockRow) (n bad : ℕ) (counted : n ≡ length blocks) 
         first = λ k h. is_first.passed k zero-le h;
       })))
 
-  pub check_accepts : n ≤ bad → Sound ≡ check_of blocks
+  pub check_accepts : n ≤ bad → no_refusal ≡ check_of blocks
   check_accepts l =
-      sym (verdict_answered blocks Sound (neither (record {
+      sym (verdict_answered blocks no_refusal (neither (record {
         some = above (length blocks) counted;
         few = subst (λ (m : ℕ). m ≤ item_limit) counted few;
         each = λ i h. is_first.passed i zero-le (lt_of_lt_of_le h (subst (λ (m : ℕ). m ≤ bad) counted l));

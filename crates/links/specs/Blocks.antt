@@ -1,10 +1,9 @@
 -- The block list: its rows, refusals 2 and 3, and the block of an instruction
-use Rattle.std.specs.Prelude.{ℕ, zero, suc, ◌-◌, ◌<◌, ◌≤◌, ◌≡◌, Bool, false, not, ◌&&◌, ◌||◌, cond, List, [], ◌∷◌, leb, ltb, eqb, length, get_or}
+use Rattle.std.specs.Prelude.{ℕ, zero, suc, ◌-◌, ◌<◌, ◌≤◌, ◌≡◌, Bool, false, not, ◌&&◌, ◌||◌, cond, List, [], ◌∷◌, leb, ltb, eqb, length, get_or, Result, Ok, Err}
 use Rattle.numbers.specs.Weight.{frequency_limit}
 use Rattle.columns.specs.First.{first_below, Searchable}
 use Rattle.columns.specs.Table.{table, shortest}
-use Rattle.links.specs.declared.blocks.Checked.{Checked}
-use Rattle.links.specs.declared.blocks.Checked.TheVariants.{Sound, Refused}
+use Rattle.links.specs.declared.blocks.Refusal.{Refusal}
 
 -- a block: frequency bits, first instruction, the instruction after its last
 pub record BlockRow : Type 0 where
@@ -46,16 +45,24 @@ is_bad start b = not (eqb b.first start) || leb b.end b.first || ltb end_limit b
 abbrev pub bad_block : List BlockRow → ℕ → Bool
 bad_block blocks i = is_bad (start_of blocks i) (block_at blocks i)
 
+-- a table without fault, or its refusal
+abbrev pub Checked : Type 0
+Checked = Result Unit Refusal
+
+-- without fault
+abbrev pub no_refusal : Checked
+no_refusal = Ok tt
+
 -- a refusal of document 01's table
 abbrev pub refusal : ℕ → ℕ → Checked
-refusal number place = Refused (record { number = number; place = place })
+refusal number place = Err (record { number = number; place = place })
 
 -- the block list's part of line 2, then line 3 at its first bad block
 unfoldable pub check_of : List BlockRow → Checked
 check_of blocks =
     let n = length blocks in
     let bad = first_below (bad_block blocks) n in
-    cond (eqb n 0 || ltb item_limit n) (refusal 2 0) (cond (ltb bad n) (refusal 3 bad) Sound)
+    cond (eqb n 0 || ltb item_limit n) (refusal 2 0) (cond (ltb bad n) (refusal 3 bad) no_refusal)
 
 -- a sound block list breaks neither line
 pub record SoundBlocks (blocks : List BlockRow) : Type 0 where

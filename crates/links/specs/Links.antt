@@ -1,14 +1,13 @@
 -- Lower links: the nearest block of strictly lower frequency on a side
-use Rattle.std.specs.Prelude.{ℕ, ◌+◌, ◌-◌, ◌<◌, ◌≤◌, ◌≡◌, Bool, true, false, cond, List, ltb, eqb, length, get_or}
+use Rattle.std.specs.Prelude.{ℕ, ◌+◌, ◌-◌, ◌<◌, ◌≤◌, ◌≡◌, Bool, true, false, cond, List, ltb, eqb, length, get_or, Option, Some, None}
 use Rattle.std.specs.Float.Ieee.{lt}
 use Rattle.numbers.specs.Weight.{frequency_limit, value_of}
-use Rattle.numbers.specs.declared.MaybeBlock.{MaybeBlock}
-use Rattle.numbers.specs.declared.MaybeBlock.TheVariants.{At, Absent}
 use Rattle.links.specs.Blocks.{item_limit}
 use Rattle.columns.specs.First.{first_below}
 use Rattle.columns.specs.Table.{table}
 use Rattle.links.specs.declared.lower.Side.{Side}
 use Rattle.links.specs.declared.lower.Side.TheVariants.{Previous, Next}
+use Rattle.numbers.specs.declared.Block.{Block}
 
 -- how many of n blocks lie on a side of block b
 abbrev pub beside : Side → ℕ → ℕ → ℕ
@@ -55,8 +54,8 @@ abbrev pub link_column : Side → List ℕ → List ℕ
 link_column side freqs = table (lower_link side freqs) (length freqs)
 
 -- the answer to a link as it is stored
-abbrev pub link_answer : ℕ → MaybeBlock
-link_answer link = cond (eqb link absent) Absent (At (record { 0 = link }))
+abbrev pub link_answer : ℕ → Option Block
+link_answer link = cond (eqb link absent) None (Some (record { 0 = link }))
 
 -- what linking relies on, of a block list that the checks have passed and a lent column with room for it
 pub record Frequencies (freqs : List ℕ) (room : ℕ) : Type 0 where

@@ -1,13 +1,12 @@
 -- The lower-cost split point
-use Rattle.std.specs.Prelude.{ℕ, zero, suc, ◌+◌, ◌-◌, ◌≤◌, ◌<◌, Bool, true, false, ◌&&◌, ◌||◌, cond, List, [], ◌∷◌, map, ◌≡◌, leb, ltb, eqb, length, get_or}
-use Rattle.links.specs.Blocks.{BlockRow, blocks_of, block_at, start_of, block_of, check_of, SoundBlocks}
+use Rattle.std.specs.Prelude.{ℕ, zero, suc, ◌+◌, ◌-◌, ◌≤◌, ◌<◌, Bool, true, false, ◌&&◌, ◌||◌, cond, List, [], ◌∷◌, map, ◌≡◌, leb, ltb, eqb, length, get_or, Result, Ok}
+use Rattle.links.specs.Blocks.{BlockRow, blocks_of, block_at, start_of, block_of, check_of, SoundBlocks, Checked}
 use Rattle.links.specs.Links.{lower_link, Frequencies}
 use Rattle.links.specs.declared.lower.Side.{Side}
 use Rattle.links.specs.declared.lower.Side.TheVariants.{Previous, Next}
-use Rattle.links.specs.declared.blocks.Checked.{Checked}
-use Rattle.links.specs.declared.blocks.Checked.TheVariants as Checked·is
-use Rattle.links.specs.declared.split.SplitPoint.{SplitPoint}
-use Rattle.links.specs.declared.split.SplitPoint.TheVariants as SplitPoint·is
+use Rattle.std.specs.Prelude.{Err}
+use Rattle.numbers.specs.declared.Inst.{Inst}
+use Rattle.links.specs.declared.blocks.Refusal.{Refusal}
 
 -- the blocks reached from block b by following lower links, as long as they are allowed; a block with no lower link ends the chain
 unfoldable pub follow : Side → List ℕ → (ℕ → Bool) → ℕ → ℕ → List ℕ
@@ -61,21 +60,25 @@ split_point side blocks after before =
     cond (eqb (after + 1) before) before last
 
 -- the check's refusal, or else the answer
-abbrev pub if_sound : Checked → SplitPoint → SplitPoint
-if_sound Checked·is.Sound answer = answer
-if_sound (Checked·is.Refused r) answer = SplitPoint·is.Refused r
+abbrev pub if_sound : {A : Type 0} → Checked → Result A Refusal → Result A Refusal
+if_sound (Ok u) answer = answer
+if_sound (Err r) answer = Err r
 
 -- early follows the next links, late the previous ones
 abbrev pub side_of : Bool → Side
 side_of true = Next
 side_of false = Previous
 
+-- the instruction before which the split stands, or the refusal of the call
+abbrev pub SplitPoint : Type 0
+SplitPoint = Result Inst Refusal
+
 -- the answer to the call: refusals 2 and 3, then 13, then the split point
 unfoldable pub split_answer : List BlockRow → ℕ → ℕ → Bool → SplitPoint
 split_answer blocks after before early =
     if_sound (check_of blocks)
-    (cond (leb before after || ltb (start_of blocks (length blocks)) before) (SplitPoint·is.Refused (record { number = 13; place = 0 }))
-    (SplitPoint·is.At (record { 0 = split_point (side_of early) blocks after before })))
+    (cond (leb before after || ltb (start_of blocks (length blocks)) before) (Err (record { number = 13; place = 0 }))
+    (Ok (record { 0 = split_point (side_of early) blocks after before })))
 
 -- ---- for contracts of private functions
 -- what a sweep over the blocks relies on, of a block list that the checks have passed: `edges` are their ends or their starts

@@ -5,7 +5,7 @@ ghost use Rattle.columns.specs.Table.{filled};
 ghost use Rattle.links.specs.Links.{beside, beyond, nth, lower_link, link_column, link_answer, Frequencies, LinkedBeyond};
 ghost use Rattle.links.specs.Split.{reaches};
 
-use numbers::{Block, MaybeBlock};
+use numbers::Block;
 
 // The side of a block on which a lower one is looked for.
 #[derive(Clone, Copy)]
@@ -14,7 +14,7 @@ pub enum Side {
     Next,
 }
 
-// The link of a block that has none.
+// The link of a block that has none: the column is lent as numbers, as C has it.
 const ABSENT: u32 = 4294967295;
 
 // How many of n blocks lie on a side of block b.
@@ -77,12 +77,9 @@ fn lower_links(freq: &[u32], links: &mut [u32], side: Side)
     ensures { links.new ≡ filled (link_column side freq.now) links.old }
 {
     let n = freq.len();
-    let mut t = 0;
-    while t < n {
+    for t in 0..n {
         let b = nth(side, n, t);
-        let link = lower_link(freq, &links[..], b, side);
-        links[b] = link;
-        t += 1;
+        links[b] = lower_link(freq, links, b, side);
     }
 }
 
@@ -97,16 +94,16 @@ pub fn prepare(freq: &[u32], prev_lower_freq: &mut [u32], next_lower_freq: &mut 
 }
 
 // The link that a block has.
-pub fn link_at(links: &[u32], b: Block) -> MaybeBlock
+pub fn link_at(links: &[u32], b: Block) -> Option<Block>
     requires { b.0 < length links.now }
     ensures { result ≡ link_answer (get_or links.now b.0 0) }
 {
     let at = b.0 as usize;
     let link = links[at];
     if link == ABSENT {
-        return MaybeBlock::Absent;
+        return None;
     }
-    MaybeBlock::At(Block(link))
+    Some(Block(link))
 }
 
 // A block on a side that does not lie beyond the last.

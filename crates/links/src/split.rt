@@ -3,17 +3,10 @@ ghost use Rattle.std.specs.Prelude.{◌≡◌};
 ghost use Rattle.links.specs.Blocks.{blocks_of};
 ghost use Rattle.links.specs.Split.{reaches, Swept, last_reached, Between, side_of, split_point, split_answer};
 
-use crate::blocks::{Checked, Refusal};
+use crate::blocks::Refusal;
 use crate::lower::Side;
 use crate::{blocks, lower};
 use numbers::{Block, Inst};
-
-// The instruction before which the split stands, or the refusal of the call.
-#[derive(Clone, Copy)]
-pub enum SplitPoint {
-    At(Inst),
-    Refused(Refusal),
-}
 
 // A place that does not pass the limit.
 fn reaches(side: Side, limit: Inst, place: Inst) -> bool
@@ -33,8 +26,7 @@ fn sweep(freq: &[u32], edges: &[u32], b: Block, side: Side, start: Inst, limit: 
     let count = lower::beside(side, n, at);
     let mut split = start;
     let mut least = freq[at];
-    let mut t = 0;
-    while t < count {
+    for t in 0..count {
         let i = lower::beyond(side, n, at, t);
         let edge = edges[i];
         let place = Inst(edge);
@@ -46,7 +38,6 @@ fn sweep(freq: &[u32], edges: &[u32], b: Block, side: Side, start: Inst, limit: 
             least = f;
             split = place;
         }
-        t += 1;
     }
     split
 }
@@ -77,8 +68,8 @@ fn between(
     sweep(freq, end, b, Side::Previous, before, early)
 }
 
-// The lower-cost split point between two instructions, for the blocks of the three columns: early next to `after`, or late next
-// to `before`. Refused are block lists that break line 2 or 3, and then 13: after not below before, or before above the last end.
+// The instruction before which the lower-cost split between two instructions stands, for the blocks of the three columns: early next to
+// `after`, or late next to `before`. Refused are block lists that break line 2 or 3, and then 13: after not below before, or before above the last end.
 pub fn find_optimal_split_point(
     freq: &[u32],
     first: &[u32],
@@ -86,23 +77,20 @@ pub fn find_optimal_split_point(
     after: Inst,
     before: Inst,
     prefer_early: bool,
-) -> SplitPoint
+) -> Result<Inst, Refusal>
     ensures { result ≡ split_answer (blocks_of freq.now first.now end.now) after.0 before.0 prefer_early }
 {
-    let checked = blocks::check_blocks(freq, first, end);
-    if let Checked::Refused(r) = checked {
-        return SplitPoint::Refused(r);
-    }
+    blocks::check_blocks(freq, first, end)?;
     let n = blocks::count(freq, first, end);
     let last = end[n - 1];
     if before.0 <= after.0 {
-        return SplitPoint::Refused(Refusal {
+        return Err(Refusal {
             number: 13,
             place: 0,
         });
     }
     if last < before.0 {
-        return SplitPoint::Refused(Refusal {
+        return Err(Refusal {
             number: 13,
             place: 0,
         });
@@ -115,5 +103,5 @@ pub fn find_optimal_split_point(
         before,
         prefer_early,
     );
-    SplitPoint::At(split)
+    Ok(split)
 }

@@ -11,11 +11,12 @@
 
 ghost use Rattle.std.specs.Prelude.{◌≤◌, ◌≡◌, length};
 
+use jobs::rows::{FixedUses, Reservations, Segments, Uses};
 use numbers::normal::{normalize_spill_weight, strictly_exceeds};
-use numbers::weights::{FREQUENCY_LIMIT, bits_of, weight_of};
+use numbers::weights::{FREQUENCY_LIMIT, Limit, bits_of};
 use outcome::grow::Answer;
 use proposer::propose::propose_split;
-use refusals::job::Parameters;
+use refusals::job::{Job, Parameters};
 use std::io;
 
 // The bits of 1.0.
@@ -54,10 +55,50 @@ fn answer_of(block_weight: u32, before: u32) -> Answer {
     let reserved_to = [from + 2, 12];
     let reserved_kind = [0u32, 1];
     let met_index = [0u32, 0];
-    let fixed = [4294967295u32, 0];
+    let fixed = [u32::MAX, 0];
     // F: no fixed use
     let unused = [0u32];
     let none = &unused[..0];
+    let job = Job {
+        freq: &block_freq,
+        first: &first,
+        end: &end,
+        code: &code,
+        segments: Segments {
+            start: &start,
+            end: &stop,
+            value: &value,
+            first_use: &first_use,
+            end_use: &end_use,
+            flags: &flags,
+        },
+        uses: Uses {
+            position: &position,
+            kind: &use_kind,
+            cost: &cost,
+        },
+        weight: &met,
+        reservations: Reservations {
+            unit: &unit,
+            start: &reserved_from,
+            end: &reserved_to,
+            kind: &reserved_kind,
+            index: &met_index,
+            fixed: &fixed,
+        },
+        fixed_uses: FixedUses {
+            unit: none,
+            point: none,
+            value: none,
+        },
+        parameters: Parameters {
+            k: 0,
+            cheaper_than_move: ONE,
+            cheaper_than_load: ONE,
+            indirect: ONE,
+            units: 1,
+        },
+    };
     let mut prev = [0u32; 1];
     let mut next = [0u32; 1];
     let mut inst = [0u32; 4];
@@ -75,38 +116,7 @@ fn answer_of(block_weight: u32, before: u32) -> Answer {
     let mut segment_value = [0u32; 6];
     let mut segment_gap = [0u32; 6];
     let proposed = propose_split(
-        [
-            &block_freq,
-            &first,
-            &end,
-            &code,
-            &start,
-            &stop,
-            &value,
-            &first_use,
-            &end_use,
-            &flags,
-            &position,
-            &use_kind,
-            &cost,
-            &met,
-            &unit,
-            &reserved_from,
-            &reserved_to,
-            &reserved_kind,
-            &met_index,
-            &fixed,
-            none,
-            none,
-            none,
-        ],
-        Parameters {
-            k: 0,
-            cheaper_than_move: ONE,
-            cheaper_than_load: ONE,
-            indirect: ONE,
-            units: 1,
-        },
+        &job,
         &mut prev,
         &mut next,
         &mut inst,
@@ -132,16 +142,10 @@ fn is_member(answer: Answer, weight: u32, before: u32) -> bool {
     let Answer::Found(p) = answer else {
         return false;
     };
-    if p.live_insts != 1 {
-        return false;
-    }
-    if bits_of(p.interference_weight) != before {
-        return false;
-    }
-    if bits_of(p.use_weight) != weight {
-        return false;
-    }
-    bits_of(normalize_spill_weight(p.use_weight, p.live_insts, 0)) == weight
+    p.live_insts == 1
+        && bits_of(p.interference_weight) == before
+        && bits_of(p.use_weight) == weight
+        && bits_of(normalize_spill_weight(p.use_weight, p.live_insts, 0)) == weight
 }
 
 // The least bits whose weight passes the test over another weight, by halves; one above the highest where none passes.
@@ -152,7 +156,7 @@ fn least_above(before: f32) -> u32
     let mut high: u32 = FREQUENCY_LIMIT + 1;
     while low < high {
         let middle = low + (high - low) / 2;
-        if strictly_exceeds(weight_of(middle), before) {
+        if strictly_exceeds(Limit::Weight.value_of(middle), before) {
             high = middle;
         } else {
             low = middle + 1;
@@ -161,55 +165,45 @@ fn least_above(before: f32) -> u32
     low
 }
 
-// A list of evictions as far as it goes: how many members, the bits of the last one's weight, and whether each was answered so.
+// A list of evictions as far as it goes: how many members, and the bits of the last one's weight.
 #[derive(Clone, Copy)]
 struct Evictions {
     members: u32,
     last: u32,
-    agree: bool,
 }
 
-// Runs members, each by the least weight over the one before, until none is left or one is answered otherwise.
-fn run() -> Evictions {
-    let mut members: u32 = 0;
-    let mut last: u32 = 0;
-    while members < 10000 {
-        let weight = least_above(weight_of(last));
+// Runs members, each by the least weight over the one before, until none is left; the list so far is the error where one is answered
+// otherwise.
+fn run() -> Result<Evictions, Evictions> {
+    let mut last = 0;
+    for members in 0..10000 {
+        let weight = least_above(Limit::Weight.value_of(last));
         if weight > FREQUENCY_LIMIT {
-            break;
+            return Ok(Evictions { members, last });
         }
         if !is_member(answer_of(weight, last), weight, last) {
-            return Evictions {
-                members,
-                last,
-                agree: false,
-            };
+            return Err(Evictions { members, last });
         }
         last = weight;
-        members += 1;
     }
-    Evictions {
-        members,
+    Ok(Evictions {
+        members: 10000,
         last,
-        agree: true,
-    }
-}
-
-fn print_number(rt: &impl Print, name: &str, n: u32) -> io::Result<()> {
-    println!(rt; "{name}{n}")
+    })
 }
 
 fn main(rt: HostRuntime) -> io::Result<()> {
-    let e = run();
-    let members = e.members;
-    if e.agree {
-        println!(rt; "{members} proposals, each meets the weight of the one before")?;
-    } else {
-        println!(rt; "{members} proposals, and then another answer")?;
-    }
-    print_number(&rt, "first ", least_above(0.0))?;
-    print_number(&rt, "last ", e.last)?;
-    if strictly_exceeds(weight_of(FREQUENCY_LIMIT), weight_of(e.last)) {
+    let (list, end) = match run() {
+        Ok(list) => (list, "each meets the weight of the one before"),
+        Err(list) => (list, "and then another answer"),
+    };
+    println!(rt; "{} proposals, {end}", list.members)?;
+    println!(rt; "first {}", least_above(0.0))?;
+    println!(rt; "last {}", list.last)?;
+    if strictly_exceeds(
+        Limit::Weight.value_of(FREQUENCY_LIMIT),
+        Limit::Weight.value_of(list.last),
+    ) {
         println!(rt; "a weight passes over the last")
     } else {
         println!(rt; "no weight passes over the last")

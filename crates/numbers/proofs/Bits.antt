@@ -16,9 +16,11 @@ use lib.Ieee.Exact.{odd_sign}
 use lib.Ieee.Fits.{kept-lt}
 use lib.Ieee.Bits.{of_bits-fits, of_bits-to_bits, to_bits-of_bits, nan_bits_is}
 use borrow.Author.Tests.{lt-leb, le-leb, eq-eqb}
-use Rattle.numbers.specs.Weight.{Finite, number, Weight, infinite, finite, infinite_units, units_of, zero_weight, weight_limit, frequency_limit, value_from}
+use Rattle.numbers.specs.Weight.{Finite, number, Weight, infinite, finite, infinite_units, units_of, zero_weight, weight_limit, frequency_limit, limit_bits, value_from}
 use Rattle.numbers.specs.Weight.{value_of}
-use Rattle.numbers.specs.declared.weights.MaybeWeight.TheVariants as MaybeWeight·is
+use Rattle.std.specs.Prelude.{Some, None, unwrap_or}
+use Rattle.numbers.specs.declared.weights.Limit.{Limit}
+use Rattle.numbers.specs.declared.weights.Limit.TheVariants as Limit·is
 use Rattle.columns.proofs.Tests.{cond_both, cond_true, cond_false, ltb_same}
 use Rattle.numbers.proofs.Units.{bits_of_units, bits_from_units, weight_fits, units_order, units_infinite, units_below, finite_of_units, zero_finite}
 use Rattle.numbers.proofs.Rounding.{plain, weight_of, odd_plain, value_units}
@@ -213,24 +215,20 @@ value_order limit a b h p q =
     ap (λ (x : Float). lt x (value_of limit b)) (value_is limit a p) ∙ ap (lt (of_bits binary32 a)) (value_is limit b q)
     ∙ bits_order a b (le_trans p h) (le_trans q h)
 
--- the answer to a value's bits, and the value
-pub value_at : (limit bits : ℕ) (w : Float) → value_from limit bits ≡ MaybeWeight·is.At w → w ≡ value_of limit bits
-unfolding value_from value_of
-value_at limit bits w e = go (leb bits limit) e
-  where
-    go : (t : Bool) → cond t (MaybeWeight·is.At (of_bits binary32 bits)) MaybeWeight·is.Absent ≡ MaybeWeight·is.At w
-        → w ≡ cond t (of_bits binary32 bits) zero_weight
-    go true e = cc
-    go false e = cc
+-- no limit lies above the bits of infinity
+pub limit_bound : (l : Limit) → limit_bits l ≤ weight_limit
+limit_bound Limit·is.Weight = omega arith
+limit_bound Limit·is.Frequency = omega arith
+limit_bound Limit·is.Cost = omega arith
 
-pub value_absent : (limit bits : ℕ) → value_from limit bits ≡ MaybeWeight·is.Absent → zero_weight ≡ value_of limit bits
+-- the value of bits, and zero where there is none
+pub value_or_zero : (limit bits : ℕ) → unwrap_or (value_from limit bits) zero_weight ≡ value_of limit bits
 unfolding value_from value_of
-value_absent limit bits e = go (leb bits limit) e
+value_or_zero limit bits = go (leb bits limit)
   where
-    go : (t : Bool) → cond t (MaybeWeight·is.At (of_bits binary32 bits)) MaybeWeight·is.Absent ≡ MaybeWeight·is.Absent
-        → zero_weight ≡ cond t (of_bits binary32 bits) zero_weight
-    go true e = cc
-    go false e = refl
+    go : (t : Bool) → unwrap_or (cond t (Some (of_bits binary32 bits)) None) zero_weight ≡ cond t (of_bits binary32 bits) zero_weight
+    go true = refl
+    go false = refl
 
 -- the value of a weight's bits is the weight
 pub value_back : {w : Float} → Weight w → value_of weight_limit (to_bits binary32 w) ≡ w

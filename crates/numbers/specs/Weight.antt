@@ -1,9 +1,9 @@
 -- Weights: the binary32 values that are neither negative nor a NaN
-use Rattle.std.specs.Prelude.{ℕ, ◌*◌, ◌/◌, ◌^◌, ◌≡◌, ◌⊎◌, false, cond, List, [], ◌∷◌, ℤ, pos, T, leb, Float}
+use Rattle.std.specs.Prelude.{ℕ, ◌*◌, ◌/◌, ◌^◌, ◌≡◌, ◌⊎◌, false, cond, List, [], ◌∷◌, ℤ, pos, T, leb, Option, Some, None, Float}
 use Rattle.std.specs.Float.{nan, inf, fin, binary32}
 use Rattle.std.specs.Float.Ieee.{fits, up, down, lt, of_bits}
-use Rattle.numbers.specs.declared.weights.MaybeWeight.{MaybeWeight}
-use Rattle.numbers.specs.declared.weights.MaybeWeight.TheVariants as MaybeWeight·is
+use Rattle.numbers.specs.declared.weights.Limit.{Limit}
+use Rattle.numbers.specs.declared.weights.Limit.TheVariants as Limit·is
 
 -- a finite weight
 pub data Finite : Float → Type 0 where
@@ -38,9 +38,15 @@ frequency_limit = 2139095039
 abbrev pub cost_limit : ℕ
 cost_limit = 1199570944
 
--- the value of bits up to a limit, absent above it
-unfoldable pub value_from : ℕ → ℕ → MaybeWeight
-value_from limit bits = cond (leb bits limit) (MaybeWeight·is.At (of_bits binary32 bits)) MaybeWeight·is.Absent
+-- the limit of a kind of value
+abbrev pub limit_bits : Limit → ℕ
+limit_bits Limit·is.Weight = weight_limit
+limit_bits Limit·is.Frequency = frequency_limit
+limit_bits Limit·is.Cost = cost_limit
+
+-- the value of bits up to a limit, none above it
+unfoldable pub value_from : ℕ → ℕ → Option Float
+value_from limit bits = cond (leb bits limit) (Some (of_bits binary32 bits)) None
 
 -- the value of bits up to a limit, and zero above it, which no accepted job has
 unfoldable pub value_of : ℕ → ℕ → Float

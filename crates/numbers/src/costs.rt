@@ -3,7 +3,7 @@ ghost use Rattle.std.specs.Prelude.{◌≡◌};
 ghost use Rattle.numbers.specs.Cost.{reload_cost, move_cost, spill_cost, scaled, cost_bits};
 
 use crate::pick::picked;
-use crate::weights;
+use crate::weights::Limit;
 
 // Cost of a spill or a reload of a register from memory.
 pub const SPILL_RELOAD_COST: f32 = 1.0;
@@ -38,7 +38,7 @@ fn spill_cost_bits(kind: u32, cost: u32) -> u32
 fn spill_cost(kind: u32, cost: u32) -> f32
     ensures { result ≡ spill_cost reload_cost move_cost kind cost }
 {
-    weights::cost_of(spill_cost_bits(kind, cost))
+    Limit::Cost.value_of(spill_cost_bits(kind, cost))
 }
 
 // The cost of a use of a value with this rematerialisation code.
@@ -46,14 +46,10 @@ pub fn use_spill_cost(kind: u32, cost: u32, code: u32, scales: RematScales) -> f
     ensures { result ≡ scaled code scales (spill_cost reload_cost move_cost kind cost) }
 {
     let spill_cost = spill_cost(kind, cost);
-    if code == 1 {
-        return spill_cost * scales.cheaper_than_move;
+    match code {
+        1 => spill_cost * scales.cheaper_than_move,
+        2 => spill_cost * scales.cheaper_than_load,
+        3 => spill_cost * scales.indirect,
+        _ => spill_cost,
     }
-    if code == 2 {
-        return spill_cost * scales.cheaper_than_load;
-    }
-    if code == 3 {
-        return spill_cost * scales.indirect;
-    }
-    spill_cost
 }

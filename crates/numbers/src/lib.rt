@@ -1,6 +1,6 @@
 // Numbers: indices and points, weights, use costs, the normalised weight, the weight test and the H figure.
 //
-// Here: tuple structs for each kind of index, enums for what may be absent, and small functions on one number or weight each.
+// Here: tuple structs for each kind of index, and small functions on one number or weight each.
 // Proved: every function equals a definition of specs/, for all inputs; floats are IEEE 754 binary32. The laws of weights are in
 // proofs/ and are cited by the layers above: weights stay weights, their order is that of whole numbers of units of 2 to the
 // power -149, and a chain of weights above zero that each pass the weight test over the one before has at most 9,495 members.
@@ -36,20 +36,6 @@ pub struct Unit(pub u32);
 #[derive(Clone, Copy)]
 pub struct Point(pub u32);
 
-// An instruction that may be absent.
-#[derive(Clone, Copy)]
-pub enum MaybeInst {
-    At(Inst),
-    Absent,
-}
-
-// A block that may be absent.
-#[derive(Clone, Copy)]
-pub enum MaybeBlock {
-    At(Block),
-    Absent,
-}
-
 // A slot within an instruction. No sound point has the last one.
 #[derive(Clone, Copy)]
 pub enum Slot {
@@ -70,17 +56,12 @@ impl Point {
     pub fn slot(self) -> Slot
         ensures { slot_number result ≡ slot_of self.0 }
     {
-        let s = self.0 % 4;
-        if s == 0 {
-            return Slot::Boundary;
+        match self.0 % 4 {
+            0 => Slot::Boundary,
+            1 => Slot::Early,
+            2 => Slot::Normal,
+            _ => Slot::Unused,
         }
-        if s == 1 {
-            return Slot::Early;
-        }
-        if s == 2 {
-            return Slot::Normal;
-        }
-        Slot::Unused
     }
 
     // The instruction at this point's next Boundary, this point itself included. It is an instruction and no point, since the
@@ -88,14 +69,10 @@ impl Point {
     pub fn round_to_next_inst(self) -> Inst
         ensures { result.0 ≡ round_up self.0 }
     {
-        let whole = self.0 / 4;
-        if self.0 % 4 == 0 {
-            return Inst(whole);
-        }
-        Inst(whole + 1)
+        Inst(self.0.div_ceil(4))
     }
 
-    // The instruction at this point's last Boundary, this point itself included.
+    // The instruction at this point's last Boundary, this point itself included: a name of the source beside `inst`.
     pub fn round_to_prev_inst(self) -> Inst
         ensures { result.0 ≡ inst_of self.0 }
     {

@@ -16,7 +16,7 @@ const FLOAT_PRECISION_ADJUST: f32 = 2007.0 / 2048.0;
 const SIGN: u32 = 2147483648;
 
 // The largest finite f32.
-const LARGEST: f32 = 340282346638528859811704183484516925440.0;
+const LARGEST: f32 = f32::MAX;
 
 // The least H figure of a weight above zero.
 const LEAST: u32 = 1;

@@ -1,6 +1,6 @@
 // Weights, from their bits and back.
 ghost use Rattle.std.specs.Prelude.{◌≡◌, ◌≤◌};
-ghost use Rattle.numbers.specs.Weight.{weight_limit, frequency_limit, cost_limit, value_from, value_of, heavier};
+ghost use Rattle.numbers.specs.Weight.{limit_bits, value_from, value_of, heavier};
 ghost use Rattle.std.specs.Float.{binary32};
 ghost use Rattle.std.specs.Float.Ieee.{to_bits};
 
@@ -16,73 +16,45 @@ pub const COST_LIMIT: u32 = 1199570944;
 // The bits of a NaN: IEEE 754's quiet one without a payload.
 const NAN_BITS: u32 = 2143289344;
 
-// A weight that may be absent, where bits are above their limit.
+// What bits are the value of: each kind has its limit.
 #[derive(Clone, Copy)]
-pub enum MaybeWeight {
-    At(f32),
-    Absent,
+pub enum Limit {
+    // A spill weight.
+    Weight,
+    // A block's frequency.
+    Frequency,
+    // A class cost or a scale.
+    Cost,
 }
 
-// The value of the bits, if they are within the limit. Each limit is one of the three above.
-fn value_from_bits(bits: u32, limit: u32) -> MaybeWeight
-    requires { limit ≤ 2139095040 }
-    ensures { result ≡ value_from limit bits }
-{
-    if bits <= limit {
-        return MaybeWeight::At(f32::from_bits(bits));
+impl Limit {
+    // No bits of this kind are higher.
+    pub fn bits(self) -> u32
+        ensures { result ≡ limit_bits self }
+    {
+        match self {
+            Limit::Weight => WEIGHT_LIMIT,
+            Limit::Frequency => FREQUENCY_LIMIT,
+            Limit::Cost => COST_LIMIT,
+        }
     }
-    MaybeWeight::Absent
-}
 
-pub fn weight_from_bits(bits: u32) -> MaybeWeight
-    ensures { result ≡ value_from weight_limit bits }
-{
-    value_from_bits(bits, WEIGHT_LIMIT)
-}
+    // The value of the bits, if they are within the limit.
+    pub fn value_from_bits(self, bits: u32) -> Option<f32>
+        ensures { result ≡ value_from (limit_bits self) bits }
+    {
+        if bits <= self.bits() {
+            return Some(f32::from_bits(bits));
+        }
+        None
+    }
 
-pub fn frequency_from_bits(bits: u32) -> MaybeWeight
-    ensures { result ≡ value_from frequency_limit bits }
-{
-    value_from_bits(bits, FREQUENCY_LIMIT)
-}
-
-pub fn cost_from_bits(bits: u32) -> MaybeWeight
-    ensures { result ≡ value_from cost_limit bits }
-{
-    value_from_bits(bits, COST_LIMIT)
-}
-
-// The value of the bits, and zero where they are above the limit, for tables that a check has passed.
-fn value_of(bits: u32, limit: u32) -> f32
-    requires { limit ≤ 2139095040 }
-    ensures { result ≡ value_of limit bits }
-{
-    let value = value_from_bits(bits, limit);
-    let MaybeWeight::At(w) = value else {
-        return 0.0;
-    };
-    w
-}
-
-// A spill weight.
-pub fn weight_of(bits: u32) -> f32
-    ensures { result ≡ value_of weight_limit bits }
-{
-    value_of(bits, WEIGHT_LIMIT)
-}
-
-// A block's frequency.
-pub fn frequency_of(bits: u32) -> f32
-    ensures { result ≡ value_of frequency_limit bits }
-{
-    value_of(bits, FREQUENCY_LIMIT)
-}
-
-// A class cost or a scale.
-pub fn cost_of(bits: u32) -> f32
-    ensures { result ≡ value_of cost_limit bits }
-{
-    value_of(bits, COST_LIMIT)
+    // The value of the bits, and zero where they are above the limit, for tables that a check has passed.
+    pub fn value_of(self, bits: u32) -> f32
+        ensures { result ≡ value_of (limit_bits self) bits }
+    {
+        self.value_from_bits(bits).unwrap_or(0.0)
+    }
 }
 
 // The heavier of two weights.

@@ -1,16 +1,19 @@
 // What a job is answered, where its tables are filled: growth over shared columns.
 ghost use Rattle.std.specs.Prelude.{◌≡◌};
-ghost use Rattle.walks.specs.Meeting.{reserved_of};
 ghost use Rattle.outcome.specs.Outcome.{of_region};
 ghost use Rattle.outcome.specs.Growing.{growth_columns, GrowableIf, grown_from};
 
-use growth::proposal::{Region, SplitProposal};
+use growth::proposal::SplitProposal;
 use links::blocks::Refusal;
 use region::find::find_in_tables;
+use region::rows::GapRows;
+use walks::gap_rows::GapSegments;
 use walks::meeting::Register;
+use walks::reserved::Reserved;
 use work::fill::FilledTables;
 
-// What a job is answered: refused by document 01's table, none for want of a best use or of a region, or a proposal.
+// What a job is answered: refused by document 01's table, none for want of a best use or of a region, or a proposal. No `Result`: the exactness
+// theorems speak of these four cases (`numbered`).
 #[derive(Clone, Copy)]
 pub enum Answer {
     Refused(Refusal),
@@ -29,56 +32,32 @@ pub struct Proposed {
 }
 
 // A region found is a proposal.
-fn answer_of(region: Region) -> Answer
+fn answer_of(region: Option<SplitProposal>) -> Answer
     ensures { result ≡ of_region region }
 {
-    let Region::Found(p) = region else {
+    let Some(p) = region else {
         return Answer::NoRegion;
     };
     Answer::Found(p)
 }
 
 // Where tables are ready, grows a region in them.
-pub fn grow_filled<'a, 'b>(
-    gap_from: &[u32],
-    gap_weight: &[f32],
-    live: &[u32],
-    min_freq: &[f32],
-    segment_from: &'a [u32],
-    segment_to: &'a [u32],
-    segment_value: &'a [u32],
-    segment_gap: &'a [u32],
-    r_unit: &'b [u32],
-    r_start: &'b [u32],
-    r_end: &'b [u32],
-    r_kind: &'b [u32],
-    r_index: &'b [u32],
-    r_fixed: &'b [u32],
-    f_unit: &'b [u32],
-    f_point: &'b [u32],
-    f_value: &'b [u32],
-    spill_weight: &'b [u32],
+pub fn grow_filled(
+    gaps: &GapRows,
+    segments: &GapSegments,
+    reserved: &Reserved,
     register: Register,
     k: u32,
     filled: FilledTables,
 ) -> Proposed
-    requires { let reserved = reserved_of
-        r_unit.now r_start.now r_end.now r_kind.now r_index.now r_fixed.now
-        f_unit.now f_point.now f_value.now
-        spill_weight.now in
-        let gaps = growth_columns
-        gap_from.now gap_weight.now live.now min_freq.now
-        segment_from.now segment_to.now segment_value.now segment_gap.now in
-        GrowableIf register reserved k gaps filled }
-    ensures { let reserved = reserved_of
-        r_unit.now r_start.now r_end.now
-        r_kind.now r_index.now r_fixed.now
-        f_unit.now f_point.now f_value.now
-        spill_weight.now in
-        let gaps = growth_columns
-        gap_from.now gap_weight.now live.now min_freq.now
-        segment_from.now segment_to.now segment_value.now segment_gap.now in
-        result ≡ grown_from register reserved k gaps filled }
+    requires { let columns = growth_columns
+        gaps.now.froms gaps.now.weights gaps.now.lives gaps.now.freqs
+        segments.now.from segments.now.to segments.now.value segments.now.gap in
+        GrowableIf register reserved.now k columns filled }
+    ensures { let columns = growth_columns
+        gaps.now.froms gaps.now.weights gaps.now.lives gaps.now.freqs
+        segments.now.from segments.now.to segments.now.value segments.now.gap in
+        result ≡ grown_from register reserved.now k columns filled }
 {
     match filled {
         FilledTables::Refused(r) => Proposed {
@@ -95,27 +74,12 @@ pub fn grow_filled<'a, 'b>(
         },
         FilledTables::Ready(t) => {
             let region = find_in_tables(
-                gap_from,
-                gap_weight,
-                live,
-                min_freq,
+                gaps,
                 t.gaps,
                 t.own,
-                segment_from,
-                segment_to,
-                segment_value,
-                segment_gap,
+                segments,
                 t.gap_segments,
-                r_unit,
-                r_start,
-                r_end,
-                r_kind,
-                r_index,
-                r_fixed,
-                f_unit,
-                f_point,
-                f_value,
-                spill_weight,
+                reserved,
                 register,
                 k,
             );

@@ -1,73 +1,48 @@
--- Segments that line 5 has passed are as the walks rely on: their columns, cut to as many rows as there are segments
-use mathlib.Core.Path.{◌≡◌, refl, sym, ap, ◌∙◌}
+-- Segments that line 5 has passed are as the walks rely on
+use mathlib.Core.Path.{◌≡◌, refl, sym, ◌∙◌}
 use mathlib.Core.Bool.{false}
+use mathlib.Core.List.{List}
 use Prim.Native.Nat.{ℕ, zero, suc, ◌*◌, ◌≤◌, ◌<◌}
-use native.Mathlib.Nat.{le_trans, le_of_eq, lt_of_lt_of_le}
 use native.Mathlib.Omega.{arith}
-use mathlib.Core.List.{List, [], ◌∷◌}
-use lib.ListN.{length, get_or, take}
-use lib.Seq.{get_or-take, length-take-le}
+use lib.ListN.{length, get_or, get_or-map, length-map}
 use Rattle.links.specs.Blocks.{end_limit}
-use Rattle.columns.specs.Table.{shortest, row_before}
-use Rattle.columns.proofs.Tables.{table_length, table_at, shortest_at_most}
+use Rattle.columns.specs.Table.{row_before}
 use Rattle.jobs.specs.declared.rows.Segment.{Segment}
 use Rattle.jobs.specs.declared.rows.Limits.{Limits}
-use Rattle.jobs.specs.Rows.{segment_row, segments_of, no_segment}
+use Rattle.jobs.specs.Rows.{no_segment}
 use Rattle.jobs.specs.Lines.{bad_segment}
 use Rattle.jobs.proofs.Sound.{segment_bounded}
-use Rattle.overlaps.specs.Live.{Segments}
-use Rattle.overlaps.specs.GapSegments.{Valued}
+use Rattle.overlaps.specs.Live.{SoundSegments, starts_in, ends_in}
 
-module _ (limits : Limits) (starts ends values firsts lasts flags : List ℕ) (blocks : limits.end ≤ 4 * end_limit)
-    (passed : (i : ℕ) → i < length (segments_of starts ends values firsts lasts flags)
-    → bad_segment limits (segments_of starts ends values firsts lasts flags) i ≡ false) where
-  abbrev pub rows : List Segment
-  rows = segments_of starts ends values firsts lasts flags
+-- a row's fields are the columns' numbers
+module _ (segments : List Segment) where
+  pub start_at : (i : ℕ) → (get_or segments i no_segment).start ≡ get_or (starts_in segments) i 0
+  start_at i = sym (get_or-map (λ (s : Segment). s.start) segments i no_segment)
 
-  abbrev lengths : List ℕ
-  lengths = length starts ∷ length ends ∷ length values ∷ length firsts ∷ length lasts ∷ length flags ∷ []
+  pub end_at : (i : ℕ) → (get_or segments i no_segment).end ≡ get_or (ends_in segments) i 0
+  end_at i = sym (get_or-map (λ (s : Segment). s.end) segments i no_segment)
 
-  count : length rows ≡ shortest lengths
-  count = table_length (segment_row starts ends values firsts lasts flags) (shortest lengths)
+  pub end_before : (i : ℕ) → (row_before segments no_segment i).end ≡ row_before (ends_in segments) 0 i
+  end_before zero = refl
+  end_before (suc i) = end_at i
 
-  long : (k : ℕ) (column : List ℕ) → k < length lengths → length column ≡ get_or lengths k 0 → length (take (length rows) column) ≡ length rows
-  long k column h e = length-take-le (length rows) column (le_trans (le_of_eq count) (le_trans (shortest_at_most lengths k h) (le_of_eq (sym e))))
+  pub starts_long : length (starts_in segments) ≡ length segments
+  starts_long = length-map segments (λ (s : Segment). s.start)
 
-  -- a row's fields are the columns' numbers
-  field : (of : Segment → ℕ) (column : List ℕ) → ((i : ℕ) → of (segment_row starts ends values firsts lasts flags i) ≡ get_or column i 0) → (i : ℕ)
-      → i < length rows → of (get_or rows i no_segment) ≡ get_or (take (length rows) column) i 0
-  field of column e i h =
-      ap of (table_at (segment_row starts ends values firsts lasts flags) (shortest lengths) i no_segment (lt_of_lt_of_le h (le_of_eq count))) ∙ e i
-      ∙ sym (get_or-take (length rows) column i 0 h)
+module _ (limits : Limits) (segments : List Segment) (blocks : limits.end ≤ 4 * end_limit)
+    (passed : (i : ℕ) → i < length segments → bad_segment limits segments i ≡ false) where
+  there : {i : ℕ} → i < length (starts_in segments) → i < length segments
+  there h = let e = starts_long segments in omega (arith, h, e)
 
-  pub start_at : (i : ℕ) → i < length rows → (get_or rows i no_segment).start ≡ get_or (take (length rows) starts) i 0
-  start_at = field (λ s. s.start) starts (λ i. refl)
-
-  pub end_at : (i : ℕ) → i < length rows → (get_or rows i no_segment).end ≡ get_or (take (length rows) ends) i 0
-  end_at = field (λ s. s.end) ends (λ i. refl)
-
-  end_before : (i : ℕ) → i < length rows → (row_before rows no_segment i).end ≡ row_before (take (length rows) ends) 0 i
-  end_before zero h = refl
-  end_before (suc i) h = end_at i (omega (arith, h))
-
-  pub starts_long : length (take (length rows) starts) ≡ length rows
-  starts_long = long 0 starts (omega arith) refl
-
-  there : {i : ℕ} → i < length (take (length rows) starts) → i < length rows
-  there h = lt_of_lt_of_le h (le_of_eq starts_long)
-
-  pub checked_segments : Segments (take (length rows) starts) (take (length rows) ends)
+  pub checked_segments : SoundSegments segments
   checked_segments =
       record {
-        long = long 1 ends (omega arith) refl ∙ sym starts_long;
+        long = length-map segments (λ (s : Segment). s.end) ∙ sym (starts_long segments);
         nonempty =
-            λ i h. let b = (segment_bounded limits rows passed i (there h)).nonempty in let s = start_at i (there h) in let e = end_at i (there h) in
+            λ i h. let b = (segment_bounded limits segments passed i (there h)).nonempty in let s = start_at segments i in let e = end_at segments i in
             omega (arith, b, s, e);
         after =
-            λ i h. let b = (segment_bounded limits rows passed i (there h)).after in let s = start_at i (there h) in let e = end_before i (there h) in
+            λ i h. let b = (segment_bounded limits segments passed i (there h)).after in let s = start_at segments i in let e = end_before segments i in
             omega (arith, b, s, e);
-        inside = λ i h. le_trans (le_of_eq (sym (end_at i (there h)))) (le_trans (segment_bounded limits rows passed i (there h)).inside blocks);
+        inside = λ i h. let b = (segment_bounded limits segments passed i (there h)).inside in let e = end_at segments i in omega (arith, b, e, blocks);
       }
-
-  pub checked_valued : Valued (take (length rows) starts) (take (length rows) ends) (take (length rows) values)
-  checked_valued = record { bounds = checked_segments; long = long 2 values (omega arith) refl ∙ sym starts_long }

@@ -2,4 +2,5 @@
 -- functions on the way.
 pub mod Live
 pub mod GapSegments
+pub mod Lent
 pub mod Passing

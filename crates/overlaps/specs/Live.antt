@@ -1,9 +1,17 @@
 -- Live instructions
-use Rattle.std.specs.Prelude.{◌≡◌, ℕ, ◌+◌, ◌-◌, ◌*◌, ◌≤◌, ◌<◌, min, max, Bool, ◌&&◌, List, leb, ltb, length, get_or}
+use Rattle.std.specs.Prelude.{◌≡◌, ℕ, ◌+◌, ◌-◌, ◌*◌, ◌≤◌, ◌<◌, min, max, Bool, ◌&&◌, List, map, leb, ltb, length, get_or}
 use Rattle.columns.specs.Below.{count_below, sum_below, any_below}
 use Rattle.numbers.specs.Point.{inst_of, round_up}
 use Rattle.links.specs.Blocks.{end_limit}
 use Rattle.columns.specs.Table.{table, row_before}
+use Rattle.jobs.specs.declared.rows.Segment.{Segment}
+
+-- the starts of segments, and their ends
+abbrev pub starts_in : List Segment → List ℕ
+starts_in segments = map (λ (s : Segment). s.start) segments
+
+abbrev pub ends_in : List Segment → List ℕ
+ends_in segments = map (λ (s : Segment). s.end) segments
 
 -- the live instructions of segment i begin at its start's instruction, or where those of the segment before ended if that is later
 abbrev pub live_from : List ℕ → List ℕ → ℕ → ℕ
@@ -39,6 +47,10 @@ pub record Segments (starts ends : List ℕ) : Type 0 where
   pub nonempty : (i : ℕ) → i < length starts → get_or starts i 0 < get_or ends i 0
   pub after : (i : ℕ) → i < length starts → row_before ends 0 i ≤ get_or starts i 0
   pub inside : (i : ℕ) → i < length starts → get_or ends i 0 ≤ 4 * end_limit
+
+-- a list of segments that it leaves
+abbrev pub SoundSegments : List Segment → Type 0
+SoundSegments segments = Segments (starts_in segments) (ends_in segments)
 
 -- how many of the instructions from a to before e lie from f to before t
 abbrev pub overlap : ℕ → ℕ → ℕ → ℕ → ℕ

@@ -1,37 +1,44 @@
 // A segment taken through the gaps: its live instructions are counted in them, and its nonempty overlaps with them stored, in order.
 ghost use Rattle.std.specs.Prelude.{◌≡◌, ◌+◌, ◌≤◌, ◌<◌, length};
-ghost use Rattle.overlaps.specs.Live.{Gaps};
-ghost use Rattle.overlaps.specs.GapSegments.{nonempty, overlaps_of, Valued, EndedBy, segment_columns, put, SegmentRoom};
+ghost use Rattle.overlaps.specs.Live.{Gaps, starts_in, ends_in};
+ghost use Rattle.overlaps.specs.GapSegments.{nonempty, overlaps_of, values_in, EndedBy, put, SegmentRoom};
+ghost use Rattle.overlaps.specs.Lent.{columns_in, lenders};
 ghost use Rattle.overlaps.specs.Passing.{passing_segment, Passing, held_at, RowsSet, CountedIn};
 
-use crate::live::{least, live_from, live_to, most, overlap};
+use crate::live::{live_from, live_to, overlap};
+use jobs::rows::Segments;
 use numbers::{Inst, Point, Value};
 
+// The gap segments' columns, lent to be filled.
+#[derive(Drop)]
+pub struct GapSegmentTable<'a> {
+    pub from: &'a mut [u32],
+    pub to: &'a mut [u32],
+    pub value: &'a mut [u32],
+    pub gap: &'a mut [u32],
+}
+
 // Stores a gap segment behind the rows used, if it has any points. Answers how many rows are used then.
+#[tactic(auto, using(crate::proofs::GapRows::put_some, crate::proofs::GapRows::put_none))]
 fn put_overlap(
-    segment_from: &mut [u32],
-    segment_to: &mut [u32],
-    segment_value: &mut [u32],
-    segment_gap: &mut [u32],
+    table: &mut GapSegmentTable,
     used: usize,
     from: Point,
     to: Point,
     value: Value,
     gap: u32,
 ) -> usize
-    requires { let lent = segment_columns segment_from.old segment_to.old segment_value.old segment_gap.old used in
-        SegmentRoom (length (nonempty from.0 to.0 value.0 gap)) lent }
-    ensures { let lent = segment_columns segment_from.old segment_to.old segment_value.old segment_gap.old used in
-        let after = segment_columns segment_from.new segment_to.new segment_value.new segment_gap.new result in
-        after ≡ put (nonempty from.0 to.0 value.0 gap) lent }
+    requires { SegmentRoom (length (nonempty from.0 to.0 value.0 gap)) (columns_in table.old used) }
+    ensures same { lenders table.new ≡ lenders table.old }
+    ensures value { columns_in table.new result ≡ put (nonempty from.0 to.0 value.0 gap) (columns_in table.old used) }
 {
     if from.0 >= to.0 {
         return used;
     }
-    segment_from[used] = from.0;
-    segment_to[used] = to.0;
-    segment_value[used] = value.0;
-    segment_gap[used] = gap;
+    table.from[used] = from.0;
+    table.to[used] = to.0;
+    table.value[used] = value.0;
+    table.gap[used] = gap;
     used + 1
 }
 
@@ -46,21 +53,17 @@ pub struct PassingSegment {
 }
 
 // The i-th segment. The live instructions of those before it end at `last`.
-pub fn segment_at(start: &[u32], end: &[u32], value: &[u32], i: usize, last: Inst) -> PassingSegment
-    requires { Valued start.now end.now value.now × (i < length start.now) }
-    ensures { result ≡ passing_segment start.now end.now value.now i last.0 }
+pub fn segment_at(segments: &Segments, i: usize, last: Inst) -> PassingSegment
+    requires { i < length segments.now }
+    ensures { result ≡ passing_segment (starts_in segments.now) (ends_in segments.now) (values_in segments.now) i last.0 }
 {
-    let s = Point(start[i]);
-    let e = Point(end[i]);
-    let v = Value(value[i]);
-    let a = live_from(last, s);
-    let z = live_to(e);
+    let s = segments.live_at(i);
     PassingSegment {
-        start: s,
-        end: e,
-        value: v,
-        live_from: a,
-        live_to: z,
+        start: s.start,
+        end: s.end,
+        value: s.value,
+        live_from: live_from(last, s.start),
+        live_to: live_to(s.end),
     }
 }
 
@@ -79,46 +82,29 @@ pub fn pass_gaps(
     to: &[u32],
     live: &mut [u32],
     s: PassingSegment,
-    segment_from: &mut [u32],
-    segment_to: &mut [u32],
-    segment_value: &mut [u32],
-    segment_gap: &mut [u32],
+    table: &mut GapSegmentTable,
     gap: usize,
     held: u32,
     used: usize,
 ) -> Passed
     requires gaps { Gaps from.now to.now × Passing from.now to.now s gap held × (length from.now ≤ gap + length live.old) }
     requires room { let overlaps = overlaps_of from.now to.now s.start.0 s.end.0 s.value.0 in
-        let lent = segment_columns segment_from.old segment_to.old segment_value.old segment_gap.old used in
-        SegmentRoom (length overlaps) lent }
-    ensures { let overlaps = overlaps_of from.now to.now s.start.0 s.end.0 s.value.0 in
-        let lent = segment_columns segment_from.old segment_to.old segment_value.old segment_gap.old used in
-        let after = segment_columns
-        segment_from.new segment_to.new segment_value.new segment_gap.new result.used in
+        SegmentRoom (length overlaps) (columns_in table.old used) }
+    ensures same { lenders table.new ≡ lenders table.old }
+    ensures value { let overlaps = overlaps_of from.now to.now s.start.0 s.end.0 s.value.0 in
         EndedBy from.now to.now s.end.0 result.gap
         × CountedIn from.now to.now s gap held live.old live.new result.gap result.held
-        × (after ≡ put overlaps lent) }
+        × (columns_in table.new result.used ≡ put overlaps (columns_in table.old used)) }
 {
-    let mut g = gap;
     let mut count = held;
     let mut n = used;
-    while g < from.len() {
+    for g in gap..from.len() {
         let f = from[g];
         let t = to[g];
         count += overlap(s.live_from, s.live_to, Inst(f), Inst(t));
-        let a = Point(most(s.start.0, 4 * f));
-        let e = Point(least(s.end.0, 4 * t));
-        n = put_overlap(
-            segment_from,
-            segment_to,
-            segment_value,
-            segment_gap,
-            n,
-            a,
-            e,
-            s.value,
-            g as u32,
-        );
+        let a = Point(s.start.0.max(4 * f));
+        let e = Point(s.end.0.min(4 * t));
+        n = put_overlap(table, n, a, e, s.value, g as u32);
         if t >= s.live_to.0 {
             return Passed {
                 gap: g,
@@ -128,10 +114,9 @@ pub fn pass_gaps(
         }
         live[g - gap] = count;
         count = 0;
-        g += 1;
     }
     Passed {
-        gap: g,
+        gap: from.len(),
         held: count,
         used: n,
     }
@@ -142,11 +127,8 @@ pub fn put_rest(live: &mut [u32], n: usize, held: u32)
     requires { n ≤ length live.old }
     ensures { RowsSet (held_at held) n live.old live.new }
 {
-    let mut row = held;
-    let mut i: usize = 0;
-    while i < n {
-        live[i] = row;
-        row = 0;
-        i += 1;
+    live[..n].fill(0);
+    if n > 0 {
+        live[0] = held;
     }
 }

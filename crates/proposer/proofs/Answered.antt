@@ -1,4 +1,5 @@
 -- What each of the four answers says, exactly; demand 3 and the ring and chain law of what is answered
+use Rattle.std.specs.Prelude.{Ok}
 use mathlib.Core.Path.{◌≡◌, refl, sym, ap, ap₂, ◌∙◌, subst}
 use mathlib.Core.Logic.{◌⊎◌, inl, inr, ⊎_elim, ◌↔◌}
 use mathlib.Core.List.{List, [], ◌∷◌, map}
@@ -6,13 +7,8 @@ use Prim.Native.Nat.{ℕ, suc, ◌≤◌, ◌<◌}
 use native.Mathlib.Omega.{arith}
 use lib.ListN.{length, get_or}
 use Rattle.numbers.specs.Weight.{zero_weight}
-use Rattle.numbers.specs.declared.MaybeInst.{MaybeInst}
-use Rattle.links.specs.Blocks.{refusal}
-use Rattle.links.specs.declared.blocks.Checked.{Checked}
-use Rattle.links.specs.declared.blocks.Checked.TheVariants as Checked·is
+use Rattle.links.specs.Blocks.{refusal, Checked, no_refusal}
 use Rattle.links.specs.declared.blocks.Refusal.{Refusal}
-use Rattle.use_rows.specs.declared.row.BestUse.{BestUse}
-use Rattle.use_rows.specs.declared.row.BestUse.TheVariants as BestUse·is
 use Rattle.use_rows.specs.Uses.{IsBest}
 use Rattle.filling.specs.UseTables.{best_of}
 use Rattle.filling.specs.SourceTables.{tables_of_best}
@@ -21,8 +17,6 @@ use Rattle.filling.proofs.TableLaws.{table_laws}
 use Rattle.growth.specs.Proposal.{region_of}
 use Rattle.columns.specs.Table.{Each}
 use Rattle.growth.specs.declared.proposal.SplitProposal.{SplitProposal}
-use Rattle.growth.specs.declared.proposal.Region.{Region}
-use Rattle.growth.specs.declared.proposal.Region.TheVariants as Region·is
 use Rattle.filling.specs.declared.lent.Rooms.{Rooms}
 use Rattle.refusals.specs.Job.{Job, source_of_job}
 use Rattle.refusals.specs.Refusals.{Reported}
@@ -40,51 +34,53 @@ use Rattle.proposer.proofs.JobTheorems.{ProposalOf, job_mains, job_best, job_bes
 use Rattle.proposer.proofs.JobTheorems.{job_ends_once, job_side_ends, job_demand3, job_use_weight, job_live_insts, job_strict, region_whole}
 use Rattle.proposer.proofs.JobTheorems.{region_no_fixed, region_none_heavier, region_heaviest_met, job_evictions_end}
 use Rattle.proposer.proofs.OwnFails.{job_nothing_exactly}
+use Rattle.std.specs.Prelude.{Option, Err, Some, None}
+use Rattle.numbers.specs.declared.Inst.{Inst}
 
 -- ---- what an answer says of the verdict, the best use and the region
-region_found : (r : Region) (p : SplitProposal) → of_region r ≡ Answer·is.Found p → r ≡ Region·is.Found p
-region_found (Region·is.Found q) p e = let same : q ≡ p = cc in ap (λ (x : SplitProposal). Region·is.Found x) same
-region_found Region·is.Nothing p e = absurd (let z : ◌≡◌ {A = ℕ} 0 1 = cc in omega arith)
+region_found : (r : Option SplitProposal) (p : SplitProposal) → of_region r ≡ Answer·is.Found p → r ≡ Some p
+region_found (Some q) p e = let same : q ≡ p = cc in ap (λ (x : SplitProposal). Some x) same
+region_found None p e = absurd (let z : ◌≡◌ {A = ℕ} 0 1 = cc in omega arith)
 
-region_nothing : (r : Region) → of_region r ≡ Answer·is.NoRegion → r ≡ Region·is.Nothing
-region_nothing (Region·is.Found q) e = absurd (let z : ◌≡◌ {A = ℕ} 0 1 = cc in omega arith)
-region_nothing Region·is.Nothing e = refl
+region_nothing : (r : Option SplitProposal) → of_region r ≡ Answer·is.NoRegion → r ≡ None
+region_nothing (Some q) e = absurd (let z : ◌≡◌ {A = ℕ} 0 1 = cc in omega arith)
+region_nothing None e = refl
 
-region_best : (r : Region) → of_region r ≡ Answer·is.NoBestUse → ⊥
-region_best (Region·is.Found q) e = let z : ◌≡◌ {A = ℕ} 0 1 = cc in omega arith
-region_best Region·is.Nothing e = let z : ◌≡◌ {A = ℕ} 0 1 = cc in omega arith
+region_best : (r : Option SplitProposal) → of_region r ≡ Answer·is.NoBestUse → ⊥
+region_best (Some q) e = let z : ◌≡◌ {A = ℕ} 0 1 = cc in omega arith
+region_best None e = let z : ◌≡◌ {A = ℕ} 0 1 = cc in omega arith
 
-region_refused : (r : Region) (f : Refusal) → of_region r ≡ Answer·is.Refused f → ⊥
-region_refused (Region·is.Found q) f e = let z : ◌≡◌ {A = ℕ} 0 1 = cc in omega arith
-region_refused Region·is.Nothing f e = let z : ◌≡◌ {A = ℕ} 0 1 = cc in omega arith
+region_refused : (r : Option SplitProposal) (f : Refusal) → of_region r ≡ Answer·is.Refused f → ⊥
+region_refused (Some q) f e = let z : ◌≡◌ {A = ℕ} 0 1 = cc in omega arith
+region_refused None f e = let z : ◌≡◌ {A = ℕ} 0 1 = cc in omega arith
 
 module _ (job : Job) where
-  said_found : (c : Checked) (b : BestUse) (p : SplitProposal) → of_checked c (of_best job b) ≡ Answer·is.Found p
-      → (c ≡ Checked·is.Sound) × (best : ℕ) × (b ≡ BestUse·is.At best) × (region_of (seen_of_job job best) ≡ Region·is.Found p)
-  said_found (Checked·is.Refused r) b p e = absurd (let z : ◌≡◌ {A = ℕ} 0 1 = cc in omega arith)
-  said_found Checked·is.Sound BestUse·is.Nothing p e = absurd (let z : ◌≡◌ {A = ℕ} 0 1 = cc in omega arith)
-  said_found Checked·is.Sound (BestUse·is.At best) p e = (refl, best, refl, region_found (region_of (seen_of_job job best)) p e)
+  said_found : (c : Checked) (b : Option ℕ) (p : SplitProposal) → of_checked c (of_best job b) ≡ Answer·is.Found p
+      → (c ≡ no_refusal) × (best : ℕ) × (b ≡ Some best) × (region_of (seen_of_job job best) ≡ Some p)
+  said_found (Err r) b p e = absurd (let z : ◌≡◌ {A = ℕ} 0 1 = cc in omega arith)
+  said_found (Ok u) None p e = absurd (let z : ◌≡◌ {A = ℕ} 0 1 = cc in omega arith)
+  said_found (Ok u) (Some best) p e = (refl, best, refl, region_found (region_of (seen_of_job job best)) p e)
 
-  said_region : (c : Checked) (b : BestUse) → of_checked c (of_best job b) ≡ Answer·is.NoRegion
-      → (c ≡ Checked·is.Sound) × (best : ℕ) × (b ≡ BestUse·is.At best) × (region_of (seen_of_job job best) ≡ Region·is.Nothing)
-  said_region (Checked·is.Refused r) b e = absurd (let z : ◌≡◌ {A = ℕ} 0 1 = cc in omega arith)
-  said_region Checked·is.Sound BestUse·is.Nothing e = absurd (let z : ◌≡◌ {A = ℕ} 0 1 = cc in omega arith)
-  said_region Checked·is.Sound (BestUse·is.At best) e = (refl, best, refl, region_nothing (region_of (seen_of_job job best)) e)
+  said_region : (c : Checked) (b : Option ℕ) → of_checked c (of_best job b) ≡ Answer·is.NoRegion
+      → (c ≡ no_refusal) × (best : ℕ) × (b ≡ Some best) × (region_of (seen_of_job job best) ≡ None)
+  said_region (Err r) b e = absurd (let z : ◌≡◌ {A = ℕ} 0 1 = cc in omega arith)
+  said_region (Ok u) None e = absurd (let z : ◌≡◌ {A = ℕ} 0 1 = cc in omega arith)
+  said_region (Ok u) (Some best) e = (refl, best, refl, region_nothing (region_of (seen_of_job job best)) e)
 
-  said_best : (c : Checked) (b : BestUse) → of_checked c (of_best job b) ≡ Answer·is.NoBestUse → (c ≡ Checked·is.Sound) × (b ≡ BestUse·is.Nothing)
-  said_best (Checked·is.Refused r) b e = absurd (let z : ◌≡◌ {A = ℕ} 0 1 = cc in omega arith)
-  said_best Checked·is.Sound BestUse·is.Nothing e = (refl, refl)
-  said_best Checked·is.Sound (BestUse·is.At best) e = absurd (region_best (region_of (seen_of_job job best)) e)
+  said_best : (c : Checked) (b : Option ℕ) → of_checked c (of_best job b) ≡ Answer·is.NoBestUse → (c ≡ no_refusal) × (b ≡ None)
+  said_best (Err r) b e = absurd (let z : ◌≡◌ {A = ℕ} 0 1 = cc in omega arith)
+  said_best (Ok u) None e = (refl, refl)
+  said_best (Ok u) (Some best) e = absurd (region_best (region_of (seen_of_job job best)) e)
 
-  said_refused : (c : Checked) (b : BestUse) (r : Refusal) → of_checked c (of_best job b) ≡ Answer·is.Refused r → c ≡ Checked·is.Refused r
-  said_refused (Checked·is.Refused q) b r e = let same : q ≡ r = cc in ap (λ (x : Refusal). Checked·is.Refused x) same
-  said_refused Checked·is.Sound BestUse·is.Nothing r e = absurd (let z : ◌≡◌ {A = ℕ} 0 1 = cc in omega arith)
-  said_refused Checked·is.Sound (BestUse·is.At best) r e = absurd (region_refused (region_of (seen_of_job job best)) r e)
+  said_refused : (c : Checked) (b : Option ℕ) (r : Refusal) → of_checked c (of_best job b) ≡ Answer·is.Refused r → c ≡ Err r
+  said_refused (Err q) b r e = let same : q ≡ r = cc in ap (λ (x : Refusal). Err x) same
+  said_refused (Ok u) None r e = absurd (let z : ◌≡◌ {A = ℕ} 0 1 = cc in omega arith)
+  said_refused (Ok u) (Some best) r e = absurd (region_refused (region_of (seen_of_job job best)) r e)
 
   -- and back
-  answer_by : (rooms : Rooms) (c : Checked) (b : BestUse) → refusal_of job rooms ≡ c → best_of (source_of_job job) ≡ b
+  answer_by : (rooms : Rooms) (c : Checked) (b : Option ℕ) → refusal_of job rooms ≡ c → best_of (source_of_job job) ≡ b
       → answer_of job rooms ≡ of_checked c (of_best job b)
-  answer_by rooms c b e f = ap₂ (λ (x : Checked) (y : BestUse). of_checked x (of_best job y)) e f
+  answer_by rooms c b e f = ap₂ (λ (x : Checked) (y : Option ℕ). of_checked x (of_best job y)) e f
 
 -- ---- the numbers of an answer tell which one it is
 number_refused : (a : Answer) (n p : ℕ) → numbered a ≡ refused n p → a ≡ Answer·is.Refused (record { number = n; place = p })
@@ -107,7 +103,7 @@ number_none_1 a e = ⊎_elim (λ h. h.0) (λ h. let k = h.1 in absurd (omega (ar
 number_none_2 : (a : Answer) → numbered a ≡ none 2 → a ≡ Answer·is.NoRegion
 number_none_2 a e = ⊎_elim (λ h. let k = h.1 in absurd (omega (arith, k))) (λ h. h.0) (number_none a 2 e)
 
-number_found : (a : Answer) (l r : MaybeInst) (w n i c : ℕ) → numbered a ≡ proposal l r w n i c
+number_found : (a : Answer) (l r : Option Inst) (w n i c : ℕ) → numbered a ≡ proposal l r w n i c
     → (p : SplitProposal) × (a ≡ Answer·is.Found p) × (numbered (Answer·is.Found p) ≡ proposal l r w n i c)
 number_found (Answer·is.Found p) l r w n i c e = (p, refl, e)
 number_found (Answer·is.Refused x) l r w n i c e = absurd (let z : ◌≡◌ {A = ℕ} 0 1 = cc in omega arith)
@@ -130,18 +126,18 @@ module _ (job : Job) (rooms : Rooms) where
 
   -- none of kind 1 exactly if it is accepted and its use table has one row or no main weight other than zero
   pub none_1_exactly : (numbered (answer_of job rooms) ≡ none 1)
-      ↔ ((refusal_of job rooms ≡ Checked·is.Sound) × ((length (mains_of job) ≤ 1)
+      ↔ ((refusal_of job rooms ≡ no_refusal) × ((length (mains_of job) ≤ 1)
       ⊎ ((k : ℕ) → k < length (mains_of job) → get_or (mains_of job) k zero_weight ≡ zero_weight)))
   none_1_exactly = (
     (λ e.
         let h = said_best job (refusal_of job rooms) (best_of (source_of_job job)) (number_none_1 (answer_of job rooms) e) in
         (h.0, (job_no_best_exactly job (job_accepted job rooms h.0)).0 h.1)),
-    (λ h. ap numbered (answer_by job rooms Checked·is.Sound BestUse·is.Nothing h.0 ((job_no_best_exactly job (job_accepted job rooms h.0)).1 h.1))),
+    (λ h. ap numbered (answer_by job rooms no_refusal None h.0 ((job_no_best_exactly job (job_accepted job rooms h.0)).1 h.1))),
   )
 
   -- none of kind 2 exactly if it is accepted and has a best use whose own gap fails
   pub none_2_exactly : (numbered (answer_of job rooms) ≡ none 2)
-      ↔ ((refusal_of job rooms ≡ Checked·is.Sound) × (best : ℕ) × IsBest (mains_of job) best × OwnFails job best)
+      ↔ ((refusal_of job rooms ≡ no_refusal) × (best : ℕ) × IsBest (mains_of job) best × OwnFails job best)
   none_2_exactly = (
     (λ e.
         let h = said_region job (refusal_of job rooms) (best_of (source_of_job job)) (number_none_2 (answer_of job rooms) e) in
@@ -150,32 +146,32 @@ module _ (job : Job) (rooms : Rooms) where
     (λ h.
         let a = job_accepted job rooms h.0 in
         let best = (job_best_exactly job a h.1).1 h.2 in
-        ap numbered (answer_by job rooms Checked·is.Sound (BestUse·is.At h.1) h.0 best
+        ap numbered (answer_by job rooms no_refusal (Some h.1) h.0 best
         ∙ ap of_region ((job_nothing_exactly job a h.1 (job_best_inside job a h.1 best)).1 h.3))),
   )
 
   -- a proposal exactly if it is accepted, has a best use and growth from it finds that region
   pub found_exactly : (p : SplitProposal) → (answer_of job rooms ≡ Answer·is.Found p) ↔
-      ((refusal_of job rooms ≡ Checked·is.Sound) × (best : ℕ) × ProposalOf job best p)
+      ((refusal_of job rooms ≡ no_refusal) × (best : ℕ) × ProposalOf job best p)
   found_exactly p = (
     (λ e.
         let h = said_found job (refusal_of job rooms) (best_of (source_of_job job)) p e in
         (h.0, h.1, record { accepted = job_accepted job rooms h.0; is_best = h.2; found = h.3 })),
-    (λ h. answer_by job rooms Checked·is.Sound (BestUse·is.At h.1) h.0 h.2.is_best ∙ ap of_region h.2.found),
+    (λ h. answer_by job rooms no_refusal (Some h.1) h.0 h.2.is_best ∙ ap of_region h.2.found),
   )
 
   -- in six values exactly those of such a proposal
-  pub proposal_exactly : (l r : MaybeInst) (w n i c : ℕ) → (numbered (answer_of job rooms) ≡ proposal l r w n i c)
+  pub proposal_exactly : (l r : Option Inst) (w n i c : ℕ) → (numbered (answer_of job rooms) ≡ proposal l r w n i c)
       ↔ ((p : SplitProposal) × (answer_of job rooms ≡ Answer·is.Found p) × (numbered (Answer·is.Found p) ≡ proposal l r w n i c))
   proposal_exactly l r w n i c = (number_found (answer_of job rooms) l r w n i c, λ h. ap numbered h.1 ∙ h.2)
 
   -- the laws of the tables that an accepted job with a best use fills, whatever it is answered
-  pub answered_tables : refusal_of job rooms ≡ Checked·is.Sound → (best : ℕ) → IsBest (mains_of job) best → TableLaws (source_of_job job) best (tables_of job rooms)
+  pub answered_tables : refusal_of job rooms ≡ no_refusal → (best : ℕ) → IsBest (mains_of job) best → TableLaws (source_of_job job) best (tables_of job rooms)
   answered_tables e best is =
       let a = job_accepted job rooms e in
       let b = (job_best_exactly job a best).1 is in
       subst (TableLaws (source_of_job job) best)
-      (sym (ap₂ (λ (c : Checked) (u : BestUse). if_accepted c (tables_of_best (source_of_job job) u) no_tables) e b))
+      (sym (ap₂ (λ (c : Checked) (u : Option ℕ). if_accepted c (tables_of_best (source_of_job job) u) no_tables) e b))
       (table_laws (source_of_job job) a.uses a.blocks best (job_best_inside job a best b))
 
   -- around its best use

@@ -2,10 +2,7 @@
 use mathlib.Core.Path.{◌≡◌, sym, ap, ◌∙◌, subst}
 use Prim.Native.Nat.{ℕ, ◌<◌}
 use lib.ListN.{length}
-use Rattle.links.specs.declared.blocks.Checked.{Checked}
-use Rattle.links.specs.declared.blocks.Checked.TheVariants as Checked·is
 use Rattle.links.specs.declared.blocks.Refusal.{Refusal}
-use Rattle.use_rows.specs.declared.row.BestUse.TheVariants as BestUse·is
 use Rattle.uses.proofs.Best.{best_inside}
 use Rattle.filling.specs.UseTables.{best_of}
 use Rattle.filling.specs.SourceTables.{Tables, tables_of_best, WorkColumns, rooms_of, FilledBy}
@@ -26,6 +23,8 @@ use Rattle.outcome.specs.Outcome.{of_region}
 use Rattle.proposer.specs.Answer.{of_best, of_checked, IsProposed}
 use Rattle.outcome.specs.Growing.{GrowthColumns, growth_columns, seen_ready, Growable, GrowableIf, grown_from}
 use Rattle.outcome.specs.declared.grow.Answer.TheVariants as Answer·is
+use Rattle.links.specs.Blocks.{Checked, no_refusal}
+use Rattle.std.specs.Prelude.{Some, None}
 
 module _ (job : Job) (lent now : WorkColumns) where
   -- the columns that growth reads
@@ -34,7 +33,7 @@ module _ (job : Job) (lent now : WorkColumns) where
 
   -- ---- tables that are ready
   module _ (r : ReadyTables) (done : IsFilled job lent now (FilledTables·is.Ready r)) where
-    said : (refusal_of job (rooms_of lent) ≡ Checked·is.Sound) × (best : ℕ) × (best_of (source_of_job job) ≡ BestUse·is.At best)
+    said : (refusal_of job (rooms_of lent) ≡ no_refusal) × (best : ℕ) × (best_of (source_of_job job) ≡ Some best)
         × (r ≡ record {
           uses = length (uses_of_job job);
           gaps = length (gaps_of_job job best);
@@ -50,7 +49,7 @@ module _ (job : Job) (lent now : WorkColumns) where
     accepted : Accepted job
     accepted = job_accepted job (rooms_of lent) said.0
 
-    is_best : best_of (source_of_job job) ≡ BestUse·is.At best
+    is_best : best_of (source_of_job job) ≡ Some best
     unfolding best
     is_best = said.2
 
@@ -68,12 +67,12 @@ module _ (job : Job) (lent now : WorkColumns) where
     inside = best_inside (source_of_job job) accepted.scales best is_best
 
     -- all tables are those of the best use
-    tables_are : tables_of job (rooms_of lent) ≡ tables_of_best (source_of_job job) (BestUse·is.At best)
+    tables_are : tables_of job (rooms_of lent) ≡ tables_of_best (source_of_job job) (Some best)
     tables_are =
         ap (λ (c : Checked). if_accepted c (tables_of_best (source_of_job job) (best_of (source_of_job job))) no_tables) said.0
         ∙ ap (tables_of_best (source_of_job job)) is_best
 
-    filled_by : FilledBy (tables_of_best (source_of_job job) (BestUse·is.At best)) lent now
+    filled_by : FilledBy (tables_of_best (source_of_job job) (Some best)) lent now
     filled_by = subst (λ (t : Tables). FilledBy t lent now) tables_are done.tables
 
     gaps_are : r.gaps ≡ length (gaps_of_job job best)
@@ -117,7 +116,7 @@ module _ (job : Job) (lent now : WorkColumns) where
       → IsProposed job lent now (record { answer = Answer·is.NoBestUse; uses = n; gaps = 0; gap_segments = 0 })
   none_proposed n done =
       let s = filled_none job (rooms_of lent) n (sym done.answer) in
-      let t : tables_of_best (source_of_job job) BestUse·is.Nothing ≡ tables_of job (rooms_of lent) = ap (tables_of_best (source_of_job job)) (sym s.1)
+      let t : tables_of_best (source_of_job job) None ≡ tables_of job (rooms_of lent) = ap (tables_of_best (source_of_job job)) (sym s.1)
       ∙ sym (ap (λ (c : Checked). if_accepted c (tables_of_best (source_of_job job) (best_of (source_of_job job))) no_tables) s.0) in
       record {
         answer = ap (of_best job) (sym s.1) ∙ sym (ap (λ (c : Checked). of_checked c (of_best job (best_of (source_of_job job)))) s.0);

@@ -10,8 +10,6 @@ use lib.Ieee.Fits.{and_i, and_l, and_r}
 use lib.Ieee.{Float, binary32, to_bits}
 use lib.ListN.{length, get_or, length-map, get_or-eq_default}
 use Rattle.numbers.specs.Weight.{finite, units_of, zero_weight, Among}
-use Rattle.numbers.specs.declared.MaybeInst.{MaybeInst}
-use Rattle.numbers.specs.declared.MaybeInst.TheVariants as MaybeInst·is
 use Rattle.numbers.proofs.Units.{units_inj, zero_finite, zero_units}
 use Rattle.numbers.specs.Point.{inst_of}
 use Rattle.numbers.specs.Normal.{normalised, exceeds}
@@ -20,8 +18,6 @@ use Rattle.links.specs.declared.lower.Side.{Side}
 use Rattle.columns.proofs.Firsts.{split}
 use Rattle.use_rows.specs.Uses.{AllWeights, best_use, IsBest}
 use Rattle.overlaps.specs.Live.{Gaps}
-use Rattle.use_rows.specs.declared.row.BestUse.{BestUse}
-use Rattle.use_rows.specs.declared.row.BestUse.TheVariants.{At, Nothing}
 use Rattle.uses.proofs.Best.{best_is, no_best_exactly, best_inside}
 use Rattle.uses.proofs.UseTable.{use_table_weights}
 use Rattle.walks.specs.Meeting.{spill_weight}
@@ -32,7 +28,6 @@ use Rattle.growth.specs.Demand.{Around, Ended, In, FailedBefore, MeetsFixed, Sou
 use Rattle.columns.specs.Table.{Each}
 use Rattle.growth.specs.Evictions.{Promise, EachAfter, EvictsAfter, Evicts, EvictionsEnd, MeetsCarrier, member, promise_of, Given, IsFound, promised}
 use Rattle.growth.specs.declared.proposal.SplitProposal.{SplitProposal}
-use Rattle.growth.specs.declared.proposal.Region.TheVariants as Region·is
 use Rattle.growth.proofs.Tries.{ends_once}
 use Rattle.growth.proofs.Meetings.{met_of_gap, gap_of_met}
 use Rattle.growth.proofs.Ends.{covers_exactly}
@@ -48,18 +43,20 @@ use Rattle.proposer.specs.Demand.{mains_of, InRegion, FromLeft, ToRight, LiesWho
 use Rattle.views.specs.Met.{gap_of_segment, reservation_of, FixedMet, WeightMet}
 use Rattle.proposer.specs.Evictions.{MeetsCarrying, Entry, weight_in, EvictionsAfter, Evictions, Stands, JobEvictionsEnd}
 use Rattle.views.proofs.JobView.{gap_weighs, gap_weighed_by, gap_fixed, job_tiles, job_sound, segment_in_gap}
+use Rattle.std.specs.Prelude.{Option, Some, None}
+use Rattle.numbers.specs.declared.Inst.{Inst}
 
 -- an accepted job, its best use and its proposal
 pub record ProposalOf (job : Job) (best : ℕ) (p : SplitProposal) : Type 0 where
   pub accepted : Accepted job
-  pub is_best : best_use (mains_of job) ≡ At best
-  pub found : region_of (seen_of_job job best) ≡ Region·is.Found p
+  pub is_best : best_use (mains_of job) ≡ Some best
+  pub found : region_of (seen_of_job job best) ≡ Some p
 
 -- it is one as document 01 says, and stands in the use table
-pub job_best : (job : Job) → Accepted job → (best : ℕ) → best_use (mains_of job) ≡ At best → IsBest (mains_of job) best
+pub job_best : (job : Job) → Accepted job → (best : ℕ) → best_use (mains_of job) ≡ Some best → IsBest (mains_of job) best
 job_best job accepted best e = best_is (mains_of job) (use_table_weights (source_of_job job) accepted.scales) best e
 
-pub job_best_inside : (job : Job) → Accepted job → (best : ℕ) → best_use (mains_of job) ≡ At best → best < length (uses_of_job job)
+pub job_best_inside : (job : Job) → Accepted job → (best : ℕ) → best_use (mains_of job) ≡ Some best → best < length (uses_of_job job)
 job_best_inside job accepted best e = best_inside (source_of_job job) accepted.scales best e
 
 -- the main weights are weights
@@ -71,20 +68,20 @@ best_once : (ws : List Float) (a b : ℕ) → IsBest ws a → IsBest ws b → a 
 best_once ws a b p q =
     ⊎_elim (λ (h : b < a). let x = p.earliest b h in let y = q.largest a p.inside in absurd (omega (arith, x, y))) (λ h. h) (split b a)
 
-pub job_best_exactly : (job : Job) → Accepted job → (best : ℕ) → (best_use (mains_of job) ≡ At best) ↔ IsBest (mains_of job) best
+pub job_best_exactly : (job : Job) → Accepted job → (best : ℕ) → (best_use (mains_of job) ≡ Some best) ↔ IsBest (mains_of job) best
 job_best_exactly job accepted best = (job_best job accepted best, λ is. by is (best_use (mains_of job)) refl)
   where
-    by : IsBest (mains_of job) best → (b : BestUse) → best_use (mains_of job) ≡ b → best_use (mains_of job) ≡ At best
-    by is (At other) e =
+    by : IsBest (mains_of job) best → (b : Option ℕ) → best_use (mains_of job) ≡ b → best_use (mains_of job) ≡ Some best
+    by is (Some other) e =
         let that = job_best job accepted other e in
-        e ∙ ap (λ (n : ℕ). At n) (le_antisymm (best_once (mains_of job) other best that is) (best_once (mains_of job) best other is that))
-    by is Nothing e =
+        e ∙ ap (λ (n : ℕ). Some n) (le_antisymm (best_once (mains_of job) other best that is) (best_once (mains_of job) best other is that))
+    by is None e =
         ⊎_elim (λ h. let m = is.several in absurd (omega (arith, h, m)))
         (λ h. let z = h best is.inside in let m = is.above_zero in absurd (omega (arith, z, m)))
         ((no_best_exactly (mains_of job) (job_mains job accepted)).0 e)
 
 -- none of kind 1: exactly if the use table has one row, or each main weight is zero
-pub job_no_best_exactly : (job : Job) → Accepted job → (best_use (mains_of job) ≡ Nothing) ↔
+pub job_no_best_exactly : (job : Job) → Accepted job → (best_use (mains_of job) ≡ None) ↔
     ((length (mains_of job) ≤ 1) ⊎ ((k : ℕ) → k < length (mains_of job) → get_or (mains_of job) k zero_weight ≡ zero_weight))
 job_no_best_exactly job accepted =
     let mains = job_mains job accepted in
@@ -219,21 +216,21 @@ module _ (job : Job) (best : ℕ) (p : SplitProposal) (given : ProposalOf job be
         down : (a b : ℕ) → a < b → b - 1 < b
         down a b h = omega (arith, h)
 
-        left_of : (e : MaybeInst) (x : ℕ) → T (from_end e (inst_of x)) → FromLeft e x
-        left_of MaybeInst·is.Absent x t = tt
-        left_of (MaybeInst·is.At i) x t = let l = leb→le i.0 (x / 4) t in omega (arith, l)
+        left_of : (e : Option Inst) (x : ℕ) → T (from_end e (inst_of x)) → FromLeft e x
+        left_of None x t = tt
+        left_of (Some i) x t = let l = leb→le i.0 (x / 4) t in omega (arith, l)
 
-        of_left : (e : MaybeInst) (x : ℕ) → FromLeft e x → T (from_end e (inst_of x))
-        of_left MaybeInst·is.Absent x l = tt
-        of_left (MaybeInst·is.At i) x l = le→leb i.0 (x / 4) (omega (arith, l))
+        of_left : (e : Option Inst) (x : ℕ) → FromLeft e x → T (from_end e (inst_of x))
+        of_left None x l = tt
+        of_left (Some i) x l = le→leb i.0 (x / 4) (omega (arith, l))
 
-        right_of : (e : MaybeInst) (y : ℕ) → 0 < y → T (before_end e (inst_of (y - 1))) → ToRight e y
-        right_of MaybeInst·is.Absent y z t = tt
-        right_of (MaybeInst·is.At i) y z t = let l = ltb→lt ((y - 1) / 4) i.0 t in omega (arith, l, z)
+        right_of : (e : Option Inst) (y : ℕ) → 0 < y → T (before_end e (inst_of (y - 1))) → ToRight e y
+        right_of None y z t = tt
+        right_of (Some i) y z t = let l = ltb→lt ((y - 1) / 4) i.0 t in omega (arith, l, z)
 
-        of_right : (e : MaybeInst) (x y : ℕ) → x < y → ToRight e y → T (before_end e (inst_of x))
-        of_right MaybeInst·is.Absent x y h l = tt
-        of_right (MaybeInst·is.At i) x y h l = lt→ltb (x / 4) i.0 (omega (arith, l, h))
+        of_right : (e : Option Inst) (x y : ℕ) → x < y → ToRight e y → T (before_end e (inst_of x))
+        of_right None x y h l = tt
+        of_right (Some i) x y h l = lt→ltb (x / 4) i.0 (omega (arith, l, h))
 
   -- what counts as fixed there counts against it: there is none
   pub region_no_fixed : FixedMet job best (InRegion job best p) → ⊥

@@ -1,9 +1,8 @@
 -- A refused job leaves each lent column as it was
+use Rattle.std.specs.Prelude.{Ok}
 use mathlib.Core.Path.{◌≡◌, refl, sym, ap, ◌∙◌, subst}
 use Prim.Native.Nat.{ℕ}
 use native.Mathlib.Omega.{arith}
-use Rattle.links.specs.declared.blocks.Checked.{Checked}
-use Rattle.links.specs.declared.blocks.Checked.TheVariants as Checked·is
 use Rattle.links.specs.declared.blocks.Refusal.{Refusal}
 use Rattle.filling.specs.UseTables.{best_of}
 use Rattle.refusals.specs.Job.{Job, source_of_job}
@@ -14,12 +13,14 @@ use Rattle.filling.specs.SourceTables.{Tables, tables_of_best, WorkColumns, room
 use Rattle.outcome.specs.Outcome.{refused, numbered}
 use Rattle.outcome.specs.declared.grow.Proposed.{Proposed}
 use Rattle.proposer.proofs.Answered.{refused_said}
+use Rattle.links.specs.Blocks.{Checked}
+use Rattle.std.specs.Prelude.{Err}
 
 -- a refused job has no rows
-refused_tables : (job : Job) (c : Checked) (x : Refusal) → c ≡ Checked·is.Refused x
+refused_tables : (job : Job) (c : Checked) (x : Refusal) → c ≡ Err x
     → if_accepted c (tables_of_best (source_of_job job) (best_of (source_of_job job))) no_tables ≡ no_tables
-refused_tables job (Checked·is.Refused q) x e = refl
-refused_tables job Checked·is.Sound x e = absurd (let z : ◌≡◌ {A = ℕ} 0 1 = cc in omega arith)
+refused_tables job (Err q) x e = refl
+refused_tables job (Ok u) x e = absurd (let z : ◌≡◌ {A = ℕ} 0 1 = cc in omega arith)
 
 -- columns in which no row is filled are as they were lent
 none_filled : (lent now : WorkColumns) → FilledBy no_tables lent now → now ≡ lent

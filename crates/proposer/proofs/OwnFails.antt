@@ -17,7 +17,6 @@ use Rattle.numbers.proofs.Heaviest.{heaviest_weight, heaviest_among, heaviest_ab
 use Rattle.growth.specs.Growth.{GapsSeen, own_span, gaps_in, weights_in, heaviest_in, weight_test}
 use Rattle.growth.specs.Proposal.{region_of}
 use Rattle.growth.specs.Demand.{SoundGaps}
-use Rattle.growth.specs.declared.proposal.Region.TheVariants as Region·is
 use Rattle.growth.proofs.Meetings.{met_weights, met_of_gap, gap_of_met}
 use Rattle.growth.proofs.Proposals.{nothing_exactly}
 use Rattle.refusals.specs.Job.{Job}
@@ -28,6 +27,7 @@ use Rattle.views.specs.Met.{gap_of_segment, FixedMet, WeightMet, AtBest}
 use Rattle.views.proofs.JobView.{gap_weighs, gap_weighed_by, gap_fixed_exactly, job_sound}
 use Rattle.views.proofs.OwnGap.{own_weight, at_best_exactly}
 use Rattle.proposer.specs.Demand.{own_normalised, OwnFails}
+use Rattle.std.specs.Prelude.{None}
 
 -- a test over the heaviest of some weights fails exactly if it fails over zero or over one of them
 heaviest_fails : (n : ℕ) → n ≤ 2048 → (v : Float) (ws : List Float) → Finite v → Weights ws
@@ -120,7 +120,7 @@ module _ (job : Job) (accepted : Accepted job) (best : ℕ) (h : best < length (
       )
 
   -- no region is found exactly if the own gap fails
-  pub job_nothing_exactly : (region_of (seen_of_job job best) ≡ Region·is.Nothing) ↔ OwnFails job best
+  pub job_nothing_exactly : (region_of (seen_of_job job best) ≡ None) ↔ OwnFails job best
   job_nothing_exactly =
       let all = nothing_exactly seen in
       let test = heaviest_fails 2007 (lit≤ tt) (own_normalised job best) (weights_in seen.met (gaps_in (own_span seen))) own_finite met_own in (

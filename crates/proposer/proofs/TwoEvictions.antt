@@ -7,7 +7,6 @@ use lib.Ieee.{binary32, of_bits, to_bits, add, sub, mul, div, round, lt, eq, of_
 use Rattle.numbers.specs.Weight.{value_of}
 use Rattle.numbers.specs.Normal.{normalised, fraction, exceeds}
 use Rattle.numbers.specs.Cost.{spill_cost, scaled}
-use Rattle.numbers.specs.declared.MaybeInst.TheVariants as MaybeInst·is
 use Rattle.columns.specs.First.{first_below}
 use Rattle.columns.specs.Table.{table, any_of}
 use Rattle.columns.specs.Below.{count_below, any_below, sum_below, joined, picked}
@@ -30,13 +29,14 @@ use Rattle.outcome.specs.declared.grow.Answer.TheVariants.{Found}
 use Rattle.proposer.specs.Answer.{answer_of}
 use Rattle.proposer.specs.Evictions.{Evictions, AnsweredJob, entry_of}
 use Rattle.proposer.proofs.CaseJobs.{blocks_of_a, segment_of_a, uses_of_a, reserved_row, job_like_a, reserving, enough}
+use Rattle.std.specs.Prelude.{None}
 
 -- a proposal without ends, of four instructions and without a split cost: the bits of its use weight and of its interference weight
 abbrev boundless : ℕ → ℕ → SplitProposal
 boundless weight met =
     record {
-      left = MaybeInst·is.Absent;
-      right = MaybeInst·is.Absent;
+      left = None;
+      right = None;
       use_weight = of_bits binary32 weight;
       live_insts = 4;
       interference_weight = of_bits binary32 met;

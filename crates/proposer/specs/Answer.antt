@@ -1,9 +1,7 @@
 -- The answer to a job
-use Rattle.std.specs.Prelude.{◌≡◌, length}
-use Rattle.links.specs.declared.blocks.Checked.{Checked}
-use Rattle.links.specs.declared.blocks.Checked.TheVariants as Checked·is
-use Rattle.use_rows.specs.declared.row.BestUse.{BestUse}
-use Rattle.use_rows.specs.declared.row.BestUse.TheVariants as BestUse·is
+use Rattle.std.specs.Prelude.{ℕ}
+use Rattle.std.specs.Prelude.{Ok}
+use Rattle.std.specs.Prelude.{◌≡◌, length, Err, Option, Some, None}
 use Rattle.filling.specs.UseTables.{best_of}
 use Rattle.filling.specs.SourceTables.{WorkColumns, rooms_of, FilledBy}
 use Rattle.filling.specs.declared.lent.Rooms.{Rooms}
@@ -16,16 +14,17 @@ use Rattle.outcome.specs.Outcome.{of_region}
 use Rattle.outcome.specs.declared.grow.Answer.{Answer}
 use Rattle.outcome.specs.declared.grow.Answer.TheVariants as Answer·is
 use Rattle.outcome.specs.declared.grow.Proposed.{Proposed}
+use Rattle.links.specs.Blocks.{Checked}
 
 -- none of kind 1: no best use
-abbrev pub of_best : Job → BestUse → Answer
-of_best job (BestUse·is.At best) = of_region (region_of (seen_of_job job best))
-of_best job BestUse·is.Nothing = Answer·is.NoBestUse
+abbrev pub of_best : Job → Option ℕ → Answer
+of_best job (Some best) = of_region (region_of (seen_of_job job best))
+of_best job None = Answer·is.NoBestUse
 
 -- a refused job has no other answer
 abbrev pub of_checked : Checked → Answer → Answer
-of_checked Checked·is.Sound answer = answer
-of_checked (Checked·is.Refused r) answer = Answer·is.Refused r
+of_checked (Ok u) answer = answer
+of_checked (Err r) answer = Answer·is.Refused r
 
 -- the answer to a job whose lent tables have so many rows
 abbrev pub answer_of : Job → Rooms → Answer

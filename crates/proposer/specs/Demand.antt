@@ -1,14 +1,10 @@
 -- In what the theorems on a job's answer are stated: its best use, what the region of its proposal meets in the job's own rows, demand 3
-use Rattle.std.specs.Prelude.{◌≡◌, not, ◌⊎◌, ◌↔◌, List, map, ℕ, ◌+◌, ◌*◌, ◌≤◌, ◌<◌, T, Float, length}
+use Rattle.std.specs.Prelude.{◌≡◌, not, ◌⊎◌, ◌↔◌, List, map, ℕ, ◌+◌, ◌*◌, ◌≤◌, ◌<◌, T, Float, length, Option, Some, None}
 use Rattle.numbers.specs.Point.{inst_of}
 use Rattle.numbers.specs.Weight.{units_of, zero_weight}
 use Rattle.numbers.specs.Normal.{normalised, exceeds}
-use Rattle.numbers.specs.declared.MaybeInst.{MaybeInst}
-use Rattle.numbers.specs.declared.MaybeInst.TheVariants as MaybeInst·is
 use Rattle.links.specs.declared.lower.Side.{Side}
 use Rattle.use_rows.specs.declared.row.SplitUse.{SplitUse}
-use Rattle.use_rows.specs.declared.row.BestUse.{BestUse}
-use Rattle.use_rows.specs.declared.row.BestUse.TheVariants as BestUse·is
 use Rattle.use_rows.specs.Uses.{AllWeights, IsBest}
 use Rattle.filling.specs.UseTables.{best_of}
 use Rattle.growth.specs.Growth.{own_span, used_up, growth, end_of_growth}
@@ -19,15 +15,16 @@ use Rattle.refusals.specs.Job.{Job, source_of_job}
 use Rattle.tables.specs.JobTables.{uses_of_job, segments_of_job}
 use Rattle.views.specs.View.{seen_of_job}
 use Rattle.views.specs.Met.{segment_of_job, FixedMet, WeightMet, best_row, AtBest}
+use Rattle.numbers.specs.declared.Inst.{Inst}
 
 -- the main weights of a job's uses
 abbrev pub mains_of : Job → List Float
 mains_of job = map (λ (u : SplitUse). u.weight) (uses_of_job job)
 
 -- the number of a job's best use
-abbrev pub number_of : BestUse → ℕ
-number_of (BestUse·is.At best) = best
-number_of BestUse·is.Nothing = 0
+abbrev pub number_of : Option ℕ → ℕ
+number_of (Some best) = best
+number_of None = 0
 
 abbrev pub best_number : Job → ℕ
 best_number job = number_of (best_of (source_of_job job))
@@ -51,13 +48,13 @@ abbrev pub InRegion : Job → ℕ → SplitProposal → ℕ → Type 0
 InRegion job best p k = T (covers p (inst_of (segment_of_job job best k).from.0))
 
 -- a point at or after 4 × left, a point at or before 4 × right; an absent end sets no bound
-abbrev pub FromLeft : MaybeInst → ℕ → Type 0
-FromLeft MaybeInst·is.Absent point = Unit {0}
-FromLeft (MaybeInst·is.At i) point = 4 * i.0 ≤ point
+abbrev pub FromLeft : Option Inst → ℕ → Type 0
+FromLeft None point = Unit {0}
+FromLeft (Some i) point = 4 * i.0 ≤ point
 
-abbrev pub ToRight : MaybeInst → ℕ → Type 0
-ToRight MaybeInst·is.Absent point = Unit {0}
-ToRight (MaybeInst·is.At i) point = point ≤ 4 * i.0
+abbrev pub ToRight : Option Inst → ℕ → Type 0
+ToRight None point = Unit {0}
+ToRight (Some i) point = point ≤ 4 * i.0
 
 -- a gap segment lies whole between 4 × left and 4 × right
 abbrev pub LiesWhole : Job → ℕ → SplitProposal → ℕ → Type 0

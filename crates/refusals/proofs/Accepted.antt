@@ -13,8 +13,7 @@ use lib.Seq.{length-take-le}
 use borrow.Author.Tests.{ltb-false, eqb-true}
 use Rattle.numbers.specs.Weight.{weight_limit}
 use Rattle.numbers.proofs.UseCosts.{Scales, value_cost}
-use Rattle.links.specs.Blocks.{blocks_of, end_limit, SoundBlocks, SoundColumns}
-use Rattle.links.specs.declared.blocks.Checked.TheVariants.{Sound}
+use Rattle.links.specs.Blocks.{blocks_of, end_limit, SoundBlocks, SoundColumns, no_refusal}
 use Rattle.links.proofs.Answers.{in_freqs, in_firsts, in_ends}
 use Rattle.links.proofs.Columns.{part_list, last_limited}
 use Rattle.jobs.specs.Lines.{bad_value, bad_segment, bad_def_at, bad_use_at, bad_end_at, bad_weight, bad_reservation, bad_fixed_use_at}
@@ -75,7 +74,7 @@ pub record Accepted (job : Job) : Type 0 where
   pub register : Known (register_of job)
   pub end_limited : (limits_of job).end ≤ 4 * end_limit
 
-pub tables_accepted : (job : Job) → table_refusal_of job ≡ Sound → Accepted job
+pub tables_accepted : (job : Job) → table_refusal_of job ≡ no_refusal → Accepted job
 tables_accepted job e =
     record {
       parameters = limited job.k job.cheaper_than_move job.cheaper_than_load job.indirect (line 0 (lit≤ tt) 0 (lit≤ tt));

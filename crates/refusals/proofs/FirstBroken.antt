@@ -10,12 +10,11 @@ use lib.ListN.{length, get_or}
 use borrow.Author.Tests.{lt-ltb, le-ltb}
 use Rattle.columns.proofs.Tests.{cond_true, cond_false}
 use Rattle.columns.specs.First.{first_below}
-use Rattle.links.specs.Blocks.{refusal}
+use Rattle.links.specs.Blocks.{refusal, Checked, no_refusal}
 use Rattle.links.specs.declared.blocks.Refusal.{Refusal}
-use Rattle.links.specs.declared.blocks.Checked.{Checked}
-use Rattle.links.specs.declared.blocks.Checked.TheVariants.{Sound, Refused}
 use Rattle.columns.proofs.Firsts.{split, first_in, first_found, first_none}
 use Rattle.refusals.specs.Refusals.{Line, no_line, first_broken, Passed, FirstAt, Reported, SomeReported}
+use Rattle.std.specs.Prelude.{Err, Ok}
 
 -- the first bad place of a line
 abbrev bad_place : Line → ℕ
@@ -54,14 +53,14 @@ pub answer_passed : (l : Line) (ls : List Line) → Passed l → first_broken (l
 answer_passed l ls f = answer_on l ls (let e = passed_none l f in omega (arith, e))
 
 -- ---- a list behind another
-pub empty_sound : first_broken [] ≡ Sound
+pub empty_sound : first_broken [] ≡ no_refusal
 unfolding first_broken
 empty_sound = refl
 
-not_sound : (r : Refusal) → Refused r ≡ Sound → ⊥
+not_sound : (r : Refusal) → Err r ≡ no_refusal → ⊥
 not_sound r e = let z : ◌≡◌ {A = ℕ} 0 1 = cc in omega arith
 
-pub refused_stays : (ls ms : List Line) (r : Refusal) → first_broken ls ≡ Refused r → first_broken (ls ++ ms) ≡ Refused r
+pub refused_stays : (ls ms : List Line) (r : Refusal) → first_broken ls ≡ Err r → first_broken (ls ++ ms) ≡ Err r
 refused_stays [] ms r e = absurd (not_sound r (sym e ∙ empty_sound))
 refused_stays (l ∷ ls) ms r e =
     elim (split (bad_place l) l.places) [
@@ -69,7 +68,7 @@ refused_stays (l ∷ ls) ms r e =
       | inr h ↦ answer_on l (ls ++ ms) h ∙ refused_stays ls ms r (sym (answer_on l ls h) ∙ e)
     ]
 
-pub sound_goes_on : (ls ms : List Line) → first_broken ls ≡ Sound → first_broken (ls ++ ms) ≡ first_broken ms
+pub sound_goes_on : (ls ms : List Line) → first_broken ls ≡ no_refusal → first_broken (ls ++ ms) ≡ first_broken ms
 sound_goes_on [] ms e = refl
 sound_goes_on (l ∷ ls) ms e =
     elim (split (bad_place l) l.places) [
@@ -78,7 +77,7 @@ sound_goes_on (l ∷ ls) ms e =
     ]
 
 -- ---- accepted exactly if no line is broken at any place
-pub accepted_passed : (ls : List Line) → first_broken ls ≡ Sound → (i : ℕ) → i < length ls → Passed (get_or ls i no_line)
+pub accepted_passed : (ls : List Line) → first_broken ls ≡ no_refusal → (i : ℕ) → i < length ls → Passed (get_or ls i no_line)
 accepted_passed [] e i h = absurd (not-suc-le-zero h)
 accepted_passed (l ∷ ls) e i h =
     elim (split (bad_place l) l.places) [
@@ -90,12 +89,12 @@ accepted_passed (l ∷ ls) e i h =
     each zero h f g = f
     each (suc i) h f g = g i (le_of_suc-le-suc h)
 
-pub passed_accepted : (ls : List Line) → ((i : ℕ) → i < length ls → Passed (get_or ls i no_line)) → first_broken ls ≡ Sound
+pub passed_accepted : (ls : List Line) → ((i : ℕ) → i < length ls → Passed (get_or ls i no_line)) → first_broken ls ≡ no_refusal
 passed_accepted [] f = empty_sound
 passed_accepted (l ∷ ls) f = answer_passed l ls (f 0 (suc-le-suc zero-le)) ∙ passed_accepted ls (λ i h. f (suc i) (suc-le-suc h))
 
-pub accepted_exactly : (ls : List Line) → (first_broken ls ≡ Sound → (i : ℕ) → i < length ls → Passed (get_or ls i no_line))
-    × (((i : ℕ) → i < length ls → Passed (get_or ls i no_line)) → first_broken ls ≡ Sound)
+pub accepted_exactly : (ls : List Line) → (first_broken ls ≡ no_refusal → (i : ℕ) → i < length ls → Passed (get_or ls i no_line))
+    × (((i : ℕ) → i < length ls → Passed (get_or ls i no_line)) → first_broken ls ≡ no_refusal)
 accepted_exactly ls = (accepted_passed ls, passed_accepted ls)
 
 -- ---- refused with a number and a place exactly if some line of that number is first broken there, and those before it have passed
@@ -110,12 +109,12 @@ later l ls n p i f r =
 
 -- the number and the place of an answer
 abbrev number_of : Checked → ℕ
-number_of Sound = 0
-number_of (Refused r) = r.number
+number_of (Ok u) = 0
+number_of (Err r) = r.number
 
 abbrev place_of : Checked → ℕ
-place_of Sound = 0
-place_of (Refused r) = r.place
+place_of (Ok u) = 0
+place_of (Err r) = r.place
 
 pub refused_reported : (ls : List Line) (n p : ℕ) → first_broken ls ≡ refusal n p → SomeReported ls n p
 refused_reported [] n p e = absurd (not_sound _ (sym e ∙ empty_sound))
@@ -162,7 +161,7 @@ refused_by_number ls numbered n p = (there, reported_refused ls (suc n) p n)
         same_suc a b e = omega (arith, e)
 
 -- ---- a list with more behind it
-pub sound_before : (ls ms : List Line) → first_broken (ls ++ ms) ≡ Sound → first_broken ls ≡ Sound
+pub sound_before : (ls ms : List Line) → first_broken (ls ++ ms) ≡ no_refusal → first_broken ls ≡ no_refusal
 sound_before [] ms e = empty_sound
 sound_before (l ∷ ls) ms e =
     elim (split (bad_place l) l.places) [
@@ -170,5 +169,5 @@ sound_before (l ∷ ls) ms e =
       | inr h ↦ answer_on l ls h ∙ sound_before ls ms (sym (answer_on l (ls ++ ms) h) ∙ e)
     ]
 
-pub sound_behind : (ls ms : List Line) → first_broken (ls ++ ms) ≡ Sound → first_broken ms ≡ Sound
+pub sound_behind : (ls ms : List Line) → first_broken (ls ++ ms) ≡ no_refusal → first_broken ms ≡ no_refusal
 sound_behind ls ms e = sym (sound_goes_on ls ms (sound_before ls ms e)) ∙ e

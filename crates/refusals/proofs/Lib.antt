@@ -1,6 +1,5 @@
 -- Laws of the list of lines, and what an accepted job satisfies
 pub mod FirstBroken
-pub mod Verdicts
 pub mod Sizes
 pub mod Stages
 pub mod Accepted

@@ -88,10 +88,3 @@ sized units t e =
       few_units = ltb-false unit_limit units p3.1;
       items = short t p4.1;
     }
-
--- ---- what the code finds
--- sizes are equal by their fields
-pub sizes_by : {b b' v v' s s' u u' w w' e e' f f' : ℕ} → b ≡ b' → v ≡ v' → s ≡ s' → u ≡ u' → w ≡ w' → e ≡ e' → f ≡ f'
-    → ◌≡◌ {A = Sizes} (record { blocks = b; values = v; segments = s; uses = u; weights = w; reservations = e; fixed_uses = f })
-    (record { blocks = b'; values = v'; segments = s'; uses = u'; weights = w'; reservations = e'; fixed_uses = f' })
-sizes_by p1 p2 p3 p4 p5 p6 p7 = cc

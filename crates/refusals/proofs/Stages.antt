@@ -7,9 +7,8 @@ use native.Mathlib.Omega.{arith}
 use lib.ListN.{length, get_or}
 use lib.Dec.{lit≤}
 use Rattle.columns.specs.First.{first_below}
-use Rattle.links.specs.Blocks.{BlockRow, blocks_of, start_of, bad_block, check_of, item_limit, end_limit, SoundBlocks}
+use Rattle.links.specs.Blocks.{BlockRow, blocks_of, start_of, bad_block, check_of, item_limit, end_limit, SoundBlocks, no_refusal}
 use Rattle.links.specs.declared.blocks.Refusal.{Refusal}
-use Rattle.links.specs.declared.blocks.Checked.TheVariants.{Sound, Refused}
 use Rattle.columns.proofs.Firsts.{split}
 use Rattle.links.proofs.Checks.{check_refuses, check_accepts, check_sound}
 use Rattle.links.proofs.Answers.{in_ends, last_column}
@@ -21,6 +20,7 @@ use Rattle.refusals.specs.Refusals.{Line, first_broken, line1, line2, line3, lin
 use Rattle.refusals.specs.Refusals.{FewSegments, Few, limits_by}
 use Rattle.refusals.proofs.FirstBroken.{answer_here, answer_on, refused_stays, sound_goes_on, accepted_passed}
 use Rattle.refusals.proofs.Sizes.{Sized, sized}
+use Rattle.std.specs.Prelude.{Err}
 
 -- line 3 of a block list that line 2 has passed is what the check of block lists answers
 pub blocks_answer : (blocks : List BlockRow) → 0 < length blocks → length blocks ≤ item_limit → check_of blocks ≡ first_broken (line3 blocks ∷ [])
@@ -62,10 +62,10 @@ module _ (job : Job) where
   after_sizes = line3 job.blocks ∷ after_blocks
 
   -- lines 1 and 2
-  pub sizes_refused : (r : Refusal) → first_broken size_lines ≡ Refused r → Refused r ≡ first_broken (job_lines job)
+  pub sizes_refused : (r : Refusal) → first_broken size_lines ≡ Err r → Err r ≡ first_broken (job_lines job)
   sizes_refused r e = sym (refused_stays size_lines after_sizes r e)
 
-  module _ (sizes : first_broken size_lines ≡ Sound) where
+  module _ (sizes : first_broken size_lines ≡ no_refusal) where
     pub job_sized : Sized job.units (sizes_of job)
     job_sized = sized job.units (sizes_of job) (accepted_passed size_lines sizes 1 (lit≤ tt) 0 (lit≤ tt))
 
@@ -76,10 +76,10 @@ module _ (job : Job) where
     on_1 = sound_goes_on size_lines after_sizes sizes
 
     -- line 3
-    pub blocks_refused : (r : Refusal) → check_of job.blocks ≡ Refused r → Refused r ≡ first_broken (job_lines job)
+    pub blocks_refused : (r : Refusal) → check_of job.blocks ≡ Err r → Err r ≡ first_broken (job_lines job)
     blocks_refused r e = sym (on_1 ∙ refused_stays (line3 job.blocks ∷ []) after_blocks r (sym same_blocks ∙ e))
 
-    module _ (blocks : check_of job.blocks ≡ Sound) where
+    module _ (blocks : check_of job.blocks ≡ no_refusal) where
       pub job_blocks : SoundBlocks job.blocks
       job_blocks = check_sound job.blocks blocks
 
@@ -87,19 +87,19 @@ module _ (job : Job) where
       on_3 = on_1 ∙ sound_goes_on (line3 job.blocks ∷ []) after_blocks (sym same_blocks ∙ blocks)
 
       -- line 4
-      pub values_refused : (r : Refusal) → first_broken (line4 job.codes ∷ []) ≡ Refused r → Refused r ≡ first_broken (job_lines job)
+      pub values_refused : (r : Refusal) → first_broken (line4 job.codes ∷ []) ≡ Err r → Err r ≡ first_broken (job_lines job)
       values_refused r e = sym (on_3 ∙ refused_stays (line4 job.codes ∷ []) after_values r e)
 
-      module _ (values : first_broken (line4 job.codes ∷ []) ≡ Sound) where
+      module _ (values : first_broken (line4 job.codes ∷ []) ≡ no_refusal) where
         on_4 : first_broken (job_lines job) ≡ first_broken after_values
         on_4 = on_3 ∙ sound_goes_on (line4 job.codes ∷ []) after_values values
 
         -- lines 5 to 8
-        pub segments_refused : (r : Refusal) → first_broken segment_lines ≡ Refused r → Refused r ≡ first_broken (job_lines job)
+        pub segments_refused : (r : Refusal) → first_broken segment_lines ≡ Err r → Err r ≡ first_broken (job_lines job)
         segments_refused r e = sym (on_4 ∙ refused_stays segment_lines reservation_lines r e)
 
         -- lines 9 to 11
-        pub reservations_answer : first_broken segment_lines ≡ Sound → first_broken reservation_lines ≡ first_broken (job_lines job)
+        pub reservations_answer : first_broken segment_lines ≡ no_refusal → first_broken reservation_lines ≡ first_broken (job_lines job)
         reservations_answer e = sym (on_4 ∙ sound_goes_on segment_lines reservation_lines e)
 
   -- what later groups rely on

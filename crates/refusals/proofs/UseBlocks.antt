@@ -7,8 +7,7 @@ use lib.ListN.{length}
 use Rattle.columns.specs.First.{first_below}
 use Rattle.columns.specs.Below.{sum_below, count_below, any_below}
 use Rattle.numbers.specs.Figure.{apart}
-use Rattle.links.specs.Blocks.{is_bad, block_of}
-use Rattle.links.specs.declared.blocks.Checked.TheVariants.{Sound}
+use Rattle.links.specs.Blocks.{is_bad, block_of, no_refusal}
 use Rattle.jobs.specs.Lines.{bad_bounds, bad_list, bad_def, bad_use, bad_end, bad_span, bad_kind, bad_fixed_use}
 use Rattle.use_lists.specs.Steps.{number_before}
 use Rattle.uses.specs.UseSteps.{is_fixed_def, block_of_use, distances, UseSteps}
@@ -17,7 +16,7 @@ use Rattle.refusals.specs.Job.{Job, source_of_job}
 use Rattle.refusals.specs.Refusals.{first_broken, bad_parameters, some_long, bad_sizes, table_refusal_of}
 use Rattle.refusals.proofs.Accepted.{tables_accepted}
 
-pub uses_step : (job : Job) → table_refusal_of job ≡ Sound → UseSteps job.blocks job.uses job.segments
+pub uses_step : (job : Job) → table_refusal_of job ≡ no_refusal → UseSteps job.blocks job.uses job.segments
 uses_step job e = let a = tables_accepted job e in use_steps (source_of_job job) a.uses a.blocks
 
 -- two blocks of one instruction each, two segments; the uses are at 1, which is the first segment's end, at 0, a fixed def, and at 1
@@ -47,7 +46,7 @@ abbrev block_there : ℕ → ℕ
 block_there = block_of_use back_and_forth.blocks back_and_forth.uses
 
 -- it is accepted, steps back by one block for its fixed def, and reaches the bound: each distance is 1
-pub bound_reached : (table_refusal_of back_and_forth ≡ Sound) × (map block_there (0 ∷ 1 ∷ 2 ∷ []) ≡ 1 ∷ 0 ∷ 1 ∷ []) × (is_fixed_def back_and_forth.segments 1 ≡ true)
+pub bound_reached : (table_refusal_of back_and_forth ≡ no_refusal) × (map block_there (0 ∷ 1 ∷ 2 ∷ []) ≡ 1 ∷ 0 ∷ 1 ∷ []) × (is_fixed_def back_and_forth.segments 1 ≡ true)
     × (map (λ (u : ℕ). apart (number_before block_there u) (block_there u)) (0 ∷ 1 ∷ 2 ∷ []) ≡ 1 ∷ 1 ∷ 1 ∷ [])
     × (distances block_there (length back_and_forth.uses) + 3 ≡ length back_and_forth.blocks + 2 * length back_and_forth.segments)
 unfolding back_and_forth block_of first_below first_broken bad_parameters some_long bad_sizes is_bad bad_bounds bad_list bad_def bad_use bad_end bad_span bad_kind bad_fixed_use

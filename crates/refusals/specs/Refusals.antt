@@ -2,9 +2,7 @@
 use Rattle.std.specs.Prelude.{◌≡◌, ℕ, ◌-◌, ◌*◌, ◌≤◌, ◌<◌, Bool, true, false, ◌||◌, cond, List, [], ◌∷◌, ltb, eqb, length, get_or}
 use Rattle.numbers.specs.Weight.{cost_limit}
 use Rattle.columns.specs.First.{first_below}
-use Rattle.links.specs.Blocks.{BlockRow, bad_block, item_limit, end_limit, refusal}
-use Rattle.links.specs.declared.blocks.Checked.{Checked}
-use Rattle.links.specs.declared.blocks.Checked.TheVariants.{Sound}
+use Rattle.links.specs.Blocks.{BlockRow, bad_block, item_limit, end_limit, refusal, Checked, no_refusal}
 use Rattle.jobs.specs.declared.rows.Segment.{Segment}
 use Rattle.jobs.specs.declared.rows.Use.{Use}
 use Rattle.jobs.specs.declared.rows.Reservation.{Reservation}
@@ -20,9 +18,9 @@ pub record Line : Type 0 where
   pub places : ℕ
   pub broken : ℕ → Bool
 
--- the first line with a place at which it is broken, by its number and its first such place; Sound if there is none
+-- the first line with a place at which it is broken, by its number and its first such place; no_refusal if there is none
 unfoldable pub first_broken : List Line → Checked
-first_broken [] = Sound
+first_broken [] = no_refusal
 first_broken (l ∷ ls) =
     let place = first_below l.broken l.places in
     cond (ltb place l.places) (refusal l.number place) (first_broken ls)
@@ -118,7 +116,7 @@ table_refusal_of job = first_broken (job_lines job)
 
 -- the answer of a line of so many places whose first bad place is given: the number of places if there is none
 abbrev pub verdict_of : ℕ → ℕ → ℕ → Checked
-verdict_of number bad places = cond (ltb bad places) (refusal number bad) Sound
+verdict_of number bad places = cond (ltb bad places) (refusal number bad) no_refusal
 
 -- ---- what makes an answer exact: proofs/FirstBroken
 -- no line

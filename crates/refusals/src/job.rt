@@ -1,10 +1,13 @@
-// A job's parameters, and how many items its tables have.
-ghost use Rattle.std.specs.Prelude.{◌≡◌, length};
-ghost use Rattle.links.specs.Blocks.{blocks_of};
-ghost use Rattle.jobs.specs.Rows.{segments_of, uses_of, reservations_of, fixed_uses_of};
+// A job: its tables, its parameters, and how many items its tables have.
+ghost use Rattle.std.specs.Prelude.{◌≡◌};
+ghost use Rattle.numbers.specs.Cost.{scales_of};
+ghost use Rattle.refusals.specs.Job.{sizes_of};
 
-use jobs::rows;
+use jobs::rows::{FixedUses, Reservations, Segments, Uses};
 use links::blocks;
+use numbers::costs::RematScales;
+use numbers::weights::Limit;
+use std::marker::Model;
 
 // The adjustment k, the bits of the three scales, and the number of units.
 #[derive(Clone, Copy)]
@@ -14,6 +17,19 @@ pub struct Parameters {
     pub cheaper_than_load: u32,
     pub indirect: u32,
     pub units: u32,
+}
+
+impl From<Parameters> for RematScales {
+    ghost from_gives = { λ p r. r ≡ scales_of p.cheaper_than_move p.cheaper_than_load p.indirect };
+
+    // The scales, from their bits.
+    fn from(p: Parameters) -> RematScales {
+        RematScales {
+            cheaper_than_move: Limit::Cost.value_of(p.cheaper_than_move),
+            cheaper_than_load: Limit::Cost.value_of(p.cheaper_than_load),
+            indirect: Limit::Cost.value_of(p.indirect),
+        }
+    }
 }
 
 // How many items each input table has.
@@ -28,53 +44,57 @@ pub struct Sizes {
     pub fixed_uses: usize,
 }
 
-// The items of the input tables: as many as the shortest column of each has.
-pub fn sizes_of(
-    freq: &[u32],
-    first: &[u32],
-    end: &[u32],
-    code: &[u32],
-    s_start: &[u32],
-    s_end: &[u32],
-    s_value: &[u32],
-    s_first_use: &[u32],
-    s_end_use: &[u32],
-    s_flags: &[u32],
-    position: &[u32],
-    u_kind: &[u32],
-    cost: &[u32],
-    weight: &[u32],
-    r_unit: &[u32],
-    r_start: &[u32],
-    r_end: &[u32],
-    r_kind: &[u32],
-    r_index: &[u32],
-    r_fixed: &[u32],
-    f_unit: &[u32],
-    point: &[u32],
-    f_value: &[u32],
-) -> Sizes
-    ensures { result ≡ record {
-      blocks = length (blocks_of freq.now first.now end.now);
-      values = length code.now;
-      segments = length (segments_of
-          s_start.now s_end.now s_value.now s_first_use.now
-          s_end_use.now s_flags.now);
-      uses = length (uses_of position.now u_kind.now cost.now);
-      weights = length weight.now;
-      reservations = length (reservations_of
-          r_unit.now r_start.now r_end.now r_kind.now r_index.now
-          r_fixed.now);
-      fixed_uses = length (fixed_uses_of f_unit.now point.now f_value.now);
-    } }
-{
-    Sizes {
-        blocks: blocks::count(freq, first, end),
-        values: code.len(),
-        segments: rows::segment_count(s_start, s_end, s_value, s_first_use, s_end_use, s_flags),
-        uses: rows::use_count(position, u_kind, cost),
-        weights: weight.len(),
-        reservations: rows::reservation_count(r_unit, r_start, r_end, r_kind, r_index, r_fixed),
-        fixed_uses: rows::fixed_use_count(f_unit, point, f_value),
+// A job: the columns of its block list, the values' rematerialisation codes, its segments and uses, the bits of its spill weights, what is
+// reserved, and its parameters. A contract sees it as the record of its lists.
+#[derive(Drop)]
+pub struct Job<'a> {
+    pub freq: &'a [u32],
+    pub first: &'a [u32],
+    pub end: &'a [u32],
+    pub code: &'a [u32],
+    pub segments: Segments<'a>,
+    pub uses: Uses<'a>,
+    pub weight: &'a [u32],
+    pub reservations: Reservations<'a>,
+    pub fixed_uses: FixedUses<'a>,
+    pub parameters: Parameters,
+}
+
+impl<'a> Model for Job<'a> {
+    ghost use Rattle.links.specs.Blocks.{blocks_of};
+    ghost use Rattle.refusals.specs.Job.{Job};
+
+    ghost Value = { Job };
+
+    ghost view = { λ j. record {
+      k = j.parameters.k;
+      cheaper_than_move = j.parameters.cheaper_than_move;
+      cheaper_than_load = j.parameters.cheaper_than_load;
+      indirect = j.parameters.indirect;
+      units = j.parameters.units;
+      blocks = blocks_of j.freq.now j.first.now j.end.now;
+      codes = j.code.now;
+      segments = j.segments;
+      uses = j.uses;
+      weights = j.weight.now;
+      reservations = j.reservations;
+      fixed_uses = j.fixed_uses;
+    } };
+}
+
+impl<'a> Job<'a> {
+    // The items of its tables: as many as the shortest column of each has.
+    pub fn sizes(&self) -> Sizes
+        ensures { result ≡ sizes_of self.now }
+    {
+        Sizes {
+            blocks: blocks::count(self.freq, self.first, self.end),
+            values: self.code.len(),
+            segments: self.segments.len(),
+            uses: self.uses.len(),
+            weights: self.weight.len(),
+            reservations: self.reservations.len(),
+            fixed_uses: self.fixed_uses.len(),
+        }
     }
 }

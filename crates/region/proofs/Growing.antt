@@ -5,7 +5,6 @@ use Prim.Native.Nat.{ℕ, ◌+◌, ◌-◌, ◌≤◌, ◌<◌, max}
 use native.Mathlib.Nat.{le_trans, le_of_eq}
 use native.Mathlib.Omega.{arith}
 use mathlib.Core.Bool.{false, true≢false}
-use mathlib.Core.List.{List}
 use lib.Dec.{T, leb}
 use lib.Ieee.{Float}
 use lib.ListN.{length, get_or}
@@ -33,21 +32,19 @@ use Rattle.growth.specs.Growth.{GapsSeen, gaps_in, weights_in, growth, is_open, 
 use Rattle.growth.specs.Columns.{number_at, float_at, span_of, state_of, InsideGaps, CountFits, turn_of, grown_with, tried_with, no_growth}
 use Rattle.growth.specs.Columns.{after_with, after_tried, Going}
 use Rattle.growth.specs.Proposal.{region_of}
-use Rattle.growth.specs.declared.proposal.Region.TheVariants.{Nothing}
 use Rattle.growth.specs.declared.step.Came.{Came}
 use Rattle.growth.specs.declared.step.Came.TheVariants as Came·is
 use Rattle.growth.specs.declared.step.Grown.{Grown}
 use Rattle.growth.specs.declared.step.Growth.{Growth}
 use Rattle.growth.specs.declared.step.Tried.{Tried}
-use Rattle.growth.specs.declared.step.Turn.{Turn}
-use Rattle.growth.specs.declared.step.Turn.TheVariants.{Try, End}
 use Rattle.growth.proofs.Tries.{not_is, open_free, open_left, left_to_try}
 use Rattle.growth.proofs.Proposals.{growth_met}
 use Rattle.growth.proofs.Loop.{TurnOf, own_tried_lem, own_after, answer_nothing, going_start, going_open, going_inside, going_after, going_less, going_found}
 use Rattle.growth.proofs.Loop.{going_tried, going_count_fits, going_gap, going_other}
 use Rattle.region.specs.OneTry.{gap_on, insts_at, Triable, tried_on, Relies, Attempts}
-use Rattle.region.specs.Find.{seen_by, InTable, Begun, edge_on, barred_at, Due, own_try, its_turn, Reached, Answers, point_at}
+use Rattle.region.specs.Find.{GapRows, seen_of, InRows, edge_on, barred_at, Due, own_try, its_turn, Reached, Answers, point_at}
 use Rattle.region.specs.declared.one_try.Attempt.{Attempt}
+use Rattle.std.specs.Prelude.{None, Option, Some}
 
 -- ---- the ends of a region, side by side
 -- the gap just outside begins at the region's end
@@ -91,10 +88,9 @@ both_sides P Previous p q Next = q
 both_sides P Next p q Previous = q
 both_sides P Next p q Next = p
 
-module _ (p : Register) (t : Reserved) (g : SegmentColumns) (froms : List ℕ) (weights : List Float) (lives : List ℕ) (freqs : List Float) (own k : ℕ)
-    (table : InTable (seen_by p t g froms weights lives freqs own k) weights lives freqs) where
+module _ (p : Register) (t : Reserved) (g : SegmentColumns) (gaps : GapRows) (own k : ℕ) (table : InRows p t g gaps own k) where
   abbrev seen : GapsSeen
-  seen = seen_by p t g froms weights lives freqs own k
+  seen = seen_of p t g gaps own k
 
   -- the heavier of zero and a weight is that weight
   heavier_zero : {w : Float} → Weight w → heavier zero_weight w ≡ w
@@ -127,7 +123,7 @@ module _ (p : Register) (t : Reserved) (g : SegmentColumns) (froms : List ℕ) (
         by (own_try e f) = subst (λ (s : Side). on_side s 1 0 ≤ now.region.left) (sym f) (omega arith)
         by (its_turn going turn) = some side (going_open seen now side turn)
 
-    pub due_triable : Triable side weights lives now
+    pub due_triable : Triable side gaps.weights gaps.lives now
     due_triable =
         record {
           some = due_some;
@@ -137,7 +133,7 @@ module _ (p : Register) (t : Reserved) (g : SegmentColumns) (froms : List ℕ) (
         }
 
     -- the instructions that it adds
-    going_insts : Going seen now → TurnOf seen now (Try side) → insts_at lives own (gap_on side now) ≡ number_at lives (gap_on side now)
+    going_insts : Going seen now → TurnOf seen now (Some side) → insts_at gaps.lives own (gap_on side now) ≡ number_at gaps.lives (gap_on side now)
     going_insts going turn = cond_false _ _ (ne_eqb (gap_on side now) own (going_other seen table.sound now side going turn))
 
     -- what it relies on
@@ -150,13 +146,13 @@ module _ (p : Register) (t : Reserved) (g : SegmentColumns) (froms : List ℕ) (
             subst (λ (x : Growth). Weight x.region.heaviest) (sym going.is_after)
             (heaviest_weight (weights_in seen.met (gaps_in (growth seen going.tries).region)) (growth_met seen table.sound going.tries))
 
-    due_count : CountFits now.region (insts_at lives own (gap_on side now))
+    due_count : CountFits now.region (insts_at gaps.lives own (gap_on side now))
     due_count = by due
       where
-        by : Due seen now side → CountFits now.region (insts_at lives own (gap_on side now))
+        by : Due seen now side → CountFits now.region (insts_at gaps.lives own (gap_on side now))
         by (own_try e f) =
-            subst (λ (x : Growth). CountFits x.region (insts_at lives own (gap_on side x))) (sym e)
-            (subst (λ (s : Side). CountFits (no_growth own).region (insts_at lives own (gap_on s (no_growth own)))) (sym f)
+            subst (λ (x : Growth). CountFits x.region (insts_at gaps.lives own (gap_on side x))) (sym e)
+            (subst (λ (s : Side). CountFits (no_growth own).region (insts_at gaps.lives own (gap_on s (no_growth own)))) (sym f)
             (subst (λ (n : ℕ). CountFits (no_growth own).region n) (sym (cond_true _ _ (eq-eqb own own refl))) (omega arith)))
         by (its_turn going turn) =
             subst (CountFits now.region) (sym (going_insts going turn)) (going_count_fits seen table.sound now side going turn)
@@ -170,7 +166,7 @@ module _ (p : Register) (t : Reserved) (g : SegmentColumns) (froms : List ℕ) (
         by (its_turn going turn) = not_is (barred_at side now) (open_free seen side (state_of now) (going_open seen now side turn))
 
     module _ (ok : Walkable t g) (ws : Walkers) (reached : Reached p t g now ws) where
-      pub due_relies : Relies side p t g lives own now ws
+      pub due_relies : Relies side p t g gaps.lives own now ws
       due_relies =
           record {
             walkable = ok;
@@ -180,39 +176,39 @@ module _ (p : Register) (t : Reserved) (g : SegmentColumns) (froms : List ℕ) (
           }
 
       -- after it the walkers stand right
-      pub after_reached : (r : Attempt) → Attempts side weights lives own g t p k now ws r → Reached p t g (after_tried r.tried now) r.walkers
+      pub after_reached : (r : Attempt) → Attempts side gaps.weights gaps.lives own g t p k now ws r → Reached p t g (after_tried r.tried now) r.walkers
       after_reached r a =
           let right = a.right due_relies in
           let gap = gap_on side now in
-          let tr = tried_on side p t g weights lives own k now in
+          let tr = tried_on side p t g gaps.weights gaps.lives own k now in
           subst (λ (x : Tried). Reached p t g (after_tried x now) r.walkers) (sym right.tried)
           (record {
             fits = a.fits;
             at = both_sides (λ (s : Side). barred_at s (after_tried tr now) ≡ false
                 → At s p t.rows g (edge_on s (after_tried tr now).region) (walk_on s r.walkers)) side
                 (λ e. subst (λ (n : ℕ). At side p t.rows g n (walk_on side r.walkers))
-                (far_edge side gap now.region (float_at weights gap) (insts_at lives own gap) (heaviest_in_gap p t g gap now.region.heaviest)
+                (far_edge side gap now.region (float_at gaps.weights gap) (insts_at gaps.lives own gap) (heaviest_in_gap p t g gap now.region.heaviest)
                 ∙ same_side tr.came side tr.region now e) right.at)
                 (λ e. subst (λ (n : ℕ). At (other_side side) p t.rows g n (walk_on (other_side side) r.walkers))
-                (other_edge tr.came side gap (float_at weights gap) (insts_at lives own gap) (heaviest_in_gap p t g gap now.region.heaviest) now)
+                (other_edge tr.came side gap (float_at gaps.weights gap) (insts_at gaps.lives own gap) (heaviest_in_gap p t g gap now.region.heaviest) now)
                 (subst (At (other_side side) p t.rows g (edge_on (other_side side) now.region)) (sym a.stays)
                 (reached.at (other_side side) (sym (other_barred tr.came side tr.region now) ∙ e))));
           })
 
     -- ---- what it is
     -- that of growth
-    turn_tried : Going seen now → TurnOf seen now (Try side) → tried_on side p t g weights lives own k now ≡ tried side seen (span_of now.region)
+    turn_tried : Going seen now → TurnOf seen now (Some side) → tried_on side p t g gaps.weights gaps.lives own k now ≡ tried side seen (span_of now.region)
     turn_tried going turn =
-        ap (λ (n : ℕ). tried_with side (gap_on side now) now.region (float_at weights (gap_on side now)) n (fixed_met_any p t (segments_of_gap g (gap_on side now)))
+        ap (λ (n : ℕ). tried_with side (gap_on side now) now.region (float_at gaps.weights (gap_on side now)) n (fixed_met_any p t (segments_of_gap g (gap_on side now)))
         (heaviest_in_gap p t g (gap_on side now) now.region.heaviest) k) (going_insts going turn)
         ∙ going_tried seen table.sound refl now side going turn
 
   -- or that of the own gap
-  own_is : tried_on Next p t g weights lives own k (no_growth own) ≡ own_tried seen
+  own_is : tried_on Next p t g gaps.weights gaps.lives own k (no_growth own) ≡ own_tried seen
   own_is =
-      ap (λ (n : ℕ). tried_with Next own (no_growth own).region (float_at weights own) n (fixed_met_any p t (segments_of_gap g own))
+      ap (λ (n : ℕ). tried_with Next own (no_growth own).region (float_at gaps.weights own) n (fixed_met_any p t (segments_of_gap g own))
       (heaviest_in_gap p t g own zero_weight) k) (cond_true _ _ (eq-eqb own own refl))
-      ∙ ap (λ (h : Float). tried_with Next own (no_growth own).region (float_at weights own) 1 (fixed_met_any p t (segments_of_gap g own)) h k)
+      ∙ ap (λ (h : Float). tried_with Next own (no_growth own).region (float_at gaps.weights own) 1 (fixed_met_any p t (segments_of_gap g own)) h k)
       (heavier_zero (heaviest_weight (weights_met_all p t (segments_of_gap g own)) (all_weights p t (segments_of_gap g own))))
       ∙ own_tried_lem seen refl (table.sound.weights own table.sound.inside)
 
@@ -220,19 +216,19 @@ module _ (p : Register) (t : Reserved) (g : SegmentColumns) (froms : List ℕ) (
   pub record Gone (now : Growth) : Type 0 where
     pub inside : now.region.left < now.region.right → InsideGaps seen.count now.region
     pub some : now.region.left < now.region.right → Going seen now
-    pub none : now.region.right ≤ now.region.left → Nothing ≡ region_of seen
+    pub none : now.region.right ≤ now.region.left → None ≡ region_of seen
 
   going_gone : (now : Growth) → Going seen now → Gone now
   going_gone now going =
       let i = going_inside seen table.sound.inside now going in
       record { inside = λ _. i; some = λ _. going; none = λ h. absurd (let s = i.some in omega (arith, s, h)) }
 
-  pub due_gone : (now : Growth) (side : Side) (due : Due seen now side) (t' : Tried) → t' ≡ tried_on side p t g weights lives own k now
+  pub due_gone : (now : Growth) (side : Side) (due : Due seen now side) (t' : Tried) → t' ≡ tried_on side p t g gaps.weights gaps.lives own k now
       → Gone (after_tried t' now)
   due_gone now side (own_try e f) t' is =
       subst (λ (x : Growth). Gone (after_tried t' x)) (sym e)
       (subst (λ (x : Tried). Gone (after_tried x (no_growth own)))
-      (sym (is ∙ ap (tried_on side p t g weights lives own k) e ∙ ap (λ (s : Side). tried_on s p t g weights lives own k (no_growth own)) f ∙ own_is))
+      (sym (is ∙ ap (tried_on side p t g gaps.weights gaps.lives own k) e ∙ ap (λ (s : Side). tried_on s p t g gaps.weights gaps.lives own k (no_growth own)) f ∙ own_is))
       (own_after seen Gone (λ pass. going_gone _ (going_start seen pass))
       (λ fail. record {
         inside = λ h. absurd (omega (arith, h));
@@ -243,13 +239,13 @@ module _ (p : Register) (t : Reserved) (g : SegmentColumns) (froms : List ℕ) (
       going_gone _ (going_after seen now side t' going turn (is ∙ turn_tried now side (its_turn going turn) going turn))
 
   -- with fewer left to try
-  pub due_less : (now : Growth) (side : Side) (due : Due seen now side) (t' : Tried) → t' ≡ tried_on side p t g weights lives own k now
+  pub due_less : (now : Growth) (side : Side) (due : Due seen now side) (t' : Tried) → t' ≡ tried_on side p t g gaps.weights gaps.lives own k now
       → Gone (after_tried t' now) → (after_tried t' now).region.left < (after_tried t' now).region.right
       → left_to_try seen (state_of (after_tried t' now)) < left_to_try seen (state_of now)
   due_less now side (own_try e f) t' is gone h =
       subst (λ (x : Growth). left_to_try seen (state_of (after_tried t' x)) < left_to_try seen (state_of x)) (sym e)
       (subst (λ (x : Tried). left_to_try seen (state_of (after_tried x (no_growth own))) < left_to_try seen (state_of (no_growth own)))
-      (sym (is ∙ ap (tried_on side p t g weights lives own k) e ∙ ap (λ (s : Side). tried_on s p t g weights lives own k (no_growth own)) f ∙ own_is))
+      (sym (is ∙ ap (tried_on side p t g gaps.weights gaps.lives own k) e ∙ ap (λ (s : Side). tried_on s p t g gaps.weights gaps.lives own k (no_growth own)) f ∙ own_is))
       (own_after seen (λ (x : Growth). left_to_try seen (state_of x) < left_to_try seen (state_of (no_growth own)))
       (λ _. less own seen.count table.sound.inside) (λ _. fewer own seen.count)))
     where
@@ -260,43 +256,46 @@ module _ (p : Register) (t : Reserved) (g : SegmentColumns) (froms : List ℕ) (
       fewer o c = omega arith
   due_less now side (its_turn going turn) t' is gone h = going_less seen now side t' going turn (is ∙ turn_tried now side (its_turn going turn) going turn)
 
+  -- behind a try, whatever the walkers are then
+  module _ (now : Growth) (side : Side) (due : Due seen now side) (ok : Walkable t g) (ws : Walkers) (reached : Reached p t g now ws) (r : Attempt)
+      (answer : Attempts side gaps.weights gaps.lives own g t p k now ws r) (after : Growth) (is : after ≡ after_tried r.tried now) where
+    pub gone_behind : Gone after
+    gone_behind = subst Gone (sym is) (due_gone now side due r.tried (answer.right (due_relies now side due ok ws reached)).tried)
+
+    pub less_behind : after.region.left < after.region.right → left_to_try seen (state_of after) < left_to_try seen (state_of now)
+    less_behind h =
+        subst (λ (x : Growth). left_to_try seen (state_of x) < left_to_try seen (state_of now)) (sym is)
+        (due_less now side due r.tried (answer.right (due_relies now side due ok ws reached)).tried (rw is at gone_behind) (rw is at h))
+
   -- ---- the turn after it
-  turn_some : (now : Growth) (x : Turn) → x ≡ turn_of seen.count seen.freq seen.live now → now.region.left < now.region.right → TurnOf seen now x
+  turn_some : (now : Growth) (x : Option Side) → x ≡ turn_of seen.count seen.freq seen.live now → now.region.left < now.region.right → TurnOf seen now x
   unfolding turn_of
   turn_some now x e h = e ∙ cond_true _ _ (lt-ltb now.region.left now.region.right h)
 
-  turn_none : (now : Growth) → now.region.right ≤ now.region.left → turn_of seen.count seen.freq seen.live now ≡ End
+  turn_none : (now : Growth) → now.region.right ≤ now.region.left → turn_of seen.count seen.freq seen.live now ≡ None
   unfolding turn_of
   turn_none now h = cond_false _ _ (le-ltb now.region.left now.region.right h)
 
   -- with a turn there is a region
-  pub turn_region : (now : Growth) (side : Side) → Try side ≡ turn_of seen.count seen.freq seen.live now → now.region.left < now.region.right
+  pub turn_region : (now : Growth) (side : Side) → Some side ≡ turn_of seen.count seen.freq seen.live now → now.region.left < now.region.right
   turn_region now side e = ⊎_elim (λ h. h) (λ h. absurd (never (e ∙ turn_none now h))) (split now.region.left now.region.right)
     where
-      never : Try side ≡ End → ⊥
+      never : Some side ≡ None → ⊥
       never e = let z : ◌≡◌ {A = ℕ} 0 1 = cc in omega arith
 
-  pub turn_due : (now : Growth) (side : Side) → Gone now → Try side ≡ turn_of seen.count seen.freq seen.live now → Due seen now side
-  turn_due now side gone e = let h = turn_region now side e in its_turn (gone.some h) (turn_some now (Try side) e h)
+  pub turn_due : (now : Growth) (side : Side) → Gone now → Some side ≡ turn_of seen.count seen.freq seen.live now → Due seen now side
+  turn_due now side gone e = let h = turn_region now side e in its_turn (gone.some h) (turn_some now (Some side) e h)
 
   -- with none the region is the answer's
-  pub end_answers : (now : Growth) → Gone now → End ≡ turn_of seen.count seen.freq seen.live now → Answers seen now.region
+  pub end_answers : (now : Growth) → Gone now → None ≡ turn_of seen.count seen.freq seen.live now → Answers seen now.region
   end_answers now gone e =
       record {
         inside = gone.inside;
-        found = λ h. going_found seen table.sound.inside now (gone.some h) (turn_some now End e h);
+        found = λ h. going_found seen table.sound.inside now (gone.some h) (turn_some now None e h);
         nothing = gone.none;
       }
 
 -- ---- the start
--- before the first try
-pub begun_reached : (p : Register) (t : Reserved) (g : SegmentColumns) (own : ℕ) (ws : Walkers) → Begun p t g own ws → Reached p t g (no_growth own) ws
-begun_reached p t g own ws b = record { fits = b.fits; at = at }
-  where
-    at : (side : Side) → barred_at side (no_growth own) ≡ false → At side p t.rows g (edge_on side (no_growth own).region) (walk_on side ws)
-    at Previous _ = b.at Previous
-    at Next _ = b.at Next
-
 -- a walk stands at the own gap's left edge
 module _ (p : Register) (t : Reserved) (g : SegmentColumns) (ordered : OrderedGaps g) (long : g.used ≡ length g.from) (own next : ℕ)
     (found : FirstIn (λ (k : ℕ). leb own (get_or g.gap k 0)) 0 g.used next) where

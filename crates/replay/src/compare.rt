@@ -1,122 +1,101 @@
-// One record: its sheet is answered, and the bytes of the answer and of the tables are held to those recorded.
+// One record: what it is answered is held to the bytes recorded of the answer and of the tables.
 //
 // A print that fails is passed over, here and in the other files: the counts are what the program is for.
-use crate::text::{line_at, part};
-use answers::answer::answer_sheet;
+use crate::text::part;
+use answers::job::Answered;
 use answers::room::{ANSWER_BYTES, TABLE_BYTES};
-use filling::lent::Rooms;
-use sheet::{Written, same};
+use sheet::NoRoom;
 
 // Names a record.
 pub(crate) fn tell(rt: &impl Print, record: usize) {
     let _ = print!(rt; "record {record}: ");
 }
 
-// Says that a file ends before its records do, or goes on behind them.
-pub(crate) fn tell_broken(rt: &impl Print, record: usize) {
-    let _ = println!(rt; "broken off at record {record}");
-}
-
-// How many agree, and of how many.
-pub(crate) fn print_count(rt: &impl Print, agree: usize, all: usize, what: &str) {
-    let _ = println!(rt; "{agree} of {all}{what}");
-}
-
-// Whether the answer's bytes are those recorded.
-fn answer_agrees(rt: &impl Print, record: usize, out: &[u8], w: Written, recorded: &[u8]) -> bool {
-    let Written::Bytes(n) = w else {
-        tell(rt, record);
-        let _ = println!(rt; "no room for the answer");
-        return false;
-    };
-    if same(part(out, 0, n), recorded) {
-        return true;
-    }
-    tell(rt, record);
-    let _ = println!(rt; "answer differs");
-    false
-}
-
-// The first line of a text that another text has not: its number, and where it starts.
+// A record of a job: its place in the file, its sheet, and what is recorded of the answer and of the tables.
 #[derive(Clone, Copy)]
-struct Line {
-    number: usize,
-    at: usize,
+pub(crate) struct Record<'a> {
+    pub(crate) number: usize,
+    pub(crate) sheet: &'a [u8],
+    pub(crate) answer: &'a [u8],
+    pub(crate) tables: &'a [u8],
 }
 
-// The line behind the last where the other has all of them.
-fn first_apart(text: &[u8], other: &[u8]) -> Line {
-    let mut number: usize = 0;
-    let mut at: usize = 0;
-    while at < text.len() {
-        let line = line_at(text, at);
-        if !same(line, line_at(other, at)) {
-            break;
-        }
-        at += line.len();
-        number += 1;
+impl<'a> Record<'a> {
+    // Has the job answered, and says whether the answer and the tables agree with those recorded.
+    pub(crate) fn agrees<F: FnOnce(&mut [u8], &mut [u8]) -> Answered>(
+        &self,
+        rt: &impl Print,
+        answer: F,
+    ) -> bool
+        requires { F.IsAlwaysCallable answer }
+    {
+        let mut out = [0u8; ANSWER_BYTES];
+        let mut lines = [0u8; TABLE_BYTES];
+        let r = answer(&mut out, &mut lines);
+        let a = self.answer_agrees(rt, written(&out, r.answer));
+        let t = self.tables_agree(rt, written(&lines, r.tables));
+        a && t
     }
-    Line { number, at }
+
+    // Whether the answer's bytes are those recorded.
+    fn answer_agrees(&self, rt: &impl Print, found: Option<&[u8]>) -> bool {
+        let Some(found) = found else {
+            return self.no_room(rt, "answer");
+        };
+        if found == self.answer {
+            return true;
+        }
+        tell(rt, self.number);
+        let _ = println!(rt; "answer differs");
+        false
+    }
+
+    // Whether the bytes of the tables are those recorded; else the first line that differs is named, and printed as it is recorded and
+    // as it is answered.
+    fn tables_agree(&self, rt: &impl Print, found: Option<&[u8]>) -> bool {
+        let Some(found) = found else {
+            return self.no_room(rt, "tables");
+        };
+        if found == self.tables {
+            return true;
+        }
+        let line = common_lines(self.tables, found);
+        tell(rt, self.number);
+        let _ = println!(rt; "tables differ at line {line}");
+        print_line(rt, "recorded: ", self.tables, line);
+        print_line(rt, "answered: ", found, line);
+        false
+    }
+
+    fn no_room(&self, rt: &impl Print, what: &str) -> bool {
+        tell(rt, self.number);
+        let _ = println!(rt; "no room for the {what}");
+        false
+    }
+}
+
+// What a call has written to the front of a buffer; nothing where it had no room.
+fn written(out: &[u8], w: Result<usize, NoRoom>) -> Option<&[u8]> {
+    match w {
+        Ok(n) => Some(part(out, 0, n)),
+        Err(_) => None,
+    }
+}
+
+fn is_feed(b: &u8) -> bool {
+    *b == b'\n'
+}
+
+// How many lines two texts have in common before the first that differs.
+fn common_lines(text: &[u8], other: &[u8]) -> usize {
+    text.split_inclusive(is_feed)
+        .zip(other.split_inclusive(is_feed))
+        .take_while(|pair| pair.0 == pair.1)
+        .count()
 }
 
 // Prints a line of a text; an empty one past its end.
-fn print_line(rt: &impl Print, what: &str, text: &[u8], at: usize) {
+fn print_line(rt: &impl Print, what: &str, text: &[u8], number: usize) {
     let _ = print!(rt; "{what}");
-    let _ = rt.write_all(line_at(text, at));
-    if text.len() <= at {
-        let _ = println!(rt; "");
-    }
-}
-
-// Whether the bytes of the tables are those recorded; else the first line that differs is named, and printed as it is recorded and as it
-// is answered.
-fn tables_agree(rt: &impl Print, record: usize, out: &[u8], w: Written, recorded: &[u8]) -> bool {
-    let Written::Bytes(n) = w else {
-        tell(rt, record);
-        let _ = println!(rt; "no room for the tables");
-        return false;
-    };
-    let found = part(out, 0, n);
-    if same(found, recorded) {
-        return true;
-    }
-    let apart = first_apart(recorded, found);
-    tell(rt, record);
-    let _ = println!(rt; "tables differ at line {}", apart.number);
-    print_line(rt, "recorded: ", recorded, apart.at);
-    print_line(rt, "answered: ", found, apart.at);
-    false
-}
-
-// Whether what was written agrees with what is recorded.
-pub(crate) fn written_agrees(
-    rt: &impl Print,
-    record: usize,
-    out: &[u8],
-    answer_written: Written,
-    lines: &[u8],
-    tables_written: Written,
-    answer: &[u8],
-    tables: &[u8],
-) -> bool {
-    let a = answer_agrees(rt, record, out, answer_written, answer);
-    let t = tables_agree(rt, record, lines, tables_written, tables);
-    a && t
-}
-
-// Answers a record's sheet with tables of the rows lent, and says whether the answer and the tables agree with those recorded.
-pub(crate) fn replay_record(
-    rt: &impl Print,
-    record: usize,
-    text: &[u8],
-    answer: &[u8],
-    tables: &[u8],
-    lent: Rooms,
-) -> bool {
-    let mut out = [0u8; ANSWER_BYTES];
-    let mut lines = [0u8; TABLE_BYTES];
-    let r = answer_sheet(text, lent, &mut out, &mut lines);
-    let a = r.answer;
-    let t = r.tables;
-    written_agrees(rt, record, &out, a, &lines, t, answer, tables)
+    let _ = rt.write_all(text.split_inclusive(is_feed).nth(number).unwrap_or(b"\n"));
 }

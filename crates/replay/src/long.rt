@@ -1,137 +1,82 @@
 // One record of a job that no sheet can hold: in one table the last line stands until there are so many items.
-ghost use Rattle.std.specs.Prelude.{◌≤◌, ◌<◌, ◌+◌};
-
-use crate::compare::{tell, written_agrees};
+use crate::compare::{Record, tell};
+use crate::text::tail;
 use answers::job::answer_job;
-use answers::room::{ANSWER_BYTES, TABLE_BYTES, sheet_rooms};
-use refusals::job::Parameters;
+use answers::room::sheet_rooms;
+use jobs::rows::{FixedUses, Reservations, Segments, Uses};
+use refusals::job::{Job, Parameters};
 use sheet::kinds::{B, E, F, KINDS, P, S, U, V, W, fields_of};
-use sheet::{CELLS, Verdict, column_of, read_sheet};
+use sheet::{CELLS, column_of, read_sheet};
+use std::alloc::{AllocError, Global};
+use std::io;
 
-// The kinds that a record numbers from 0 on.
+// The kinds that a record numbers from 0 on, in the order in which a job has their columns.
 const TABLES: [usize; 7] = [B, V, S, U, W, E, F];
 
-// The columns stand one behind the other, up to six to a kind, each with room for so many items.
+// No column of a job has more items here.
 const ITEMS: usize = 4097;
-
-const FIELDS: usize = 6;
-
-const ALL: usize = ITEMS * FIELDS * KINDS;
-
-// Where column c of kind k starts; behind all columns for what is none.
-fn place_of(k: usize, c: usize) -> usize
-    ensures { result ≤ 1000000 }
-{
-    if k >= KINDS {
-        return ALL;
-    }
-    if c >= FIELDS {
-        return ALL;
-    }
-    ITEMS * (FIELDS * k + c)
-}
 
 // The number that was read for a row of a kind's column.
 fn cell(cells: &[u32], k: usize, c: usize, row: usize) -> u32 {
-    let from = column_of(k, c);
-    if from < cells.len() {
-        if row < cells.len() - from {
-            return cells[from + row];
-        }
-    }
-    0
+    tail(cells, column_of(k, c)).get(row).copied().unwrap_or(0)
 }
 
-// The row that stands in place of row i, where so many were read.
-fn row_of(i: usize, read: usize) -> usize
-    ensures { result ≤ i }
-{
-    if i < read {
-        return i;
-    }
-    if read == 0 {
-        return 0;
-    }
-    read - 1
-}
-
-// Stores a number where the columns go so far.
-fn put(long: &mut [u32], at: usize, number: u32) {
-    if at < long.len() {
-        long[at] = number;
-    }
-}
-
-// How many items of each kind were read; the kind whose table is lengthened, and to how many items.
+// How many items of each kind were read; the kind whose table is lengthened, if it is any, and to how many items.
 #[derive(Clone, Copy)]
 struct Sizes {
     read: [usize; KINDS],
-    kind: usize,
+    lengthened: Option<usize>,
     items: usize,
 }
 
-// How many items of a kind were read.
-fn read_of(sizes: Sizes, k: usize) -> usize {
-    let read = sizes.read;
-    if k < KINDS {
-        return read[k];
+impl Sizes {
+    // How many items of a kind were read.
+    fn read(&self, k: usize) -> usize {
+        self.read.get(k).copied().unwrap_or(0)
     }
-    0
-}
 
-// How many the job has, within the room of a column.
-fn items_of(sizes: Sizes, k: usize) -> usize
-    ensures { result ≤ 4097 }
-{
-    let mut n = read_of(sizes, k);
-    if k == sizes.kind {
-        n = sizes.items;
+    // How many the job has.
+    fn items(&self, k: usize) -> usize {
+        let n = if self.lengthened == Some(k) {
+            self.items
+        } else {
+            self.read(k)
+        };
+        n.min(ITEMS)
     }
-    if n > ITEMS {
-        return ITEMS;
-    }
-    n
-}
 
-// Stores the items of a column: those that were read, and then the last one again.
-fn lengthen_column(long: &mut [u32], cells: &[u32], sizes: Sizes, k: usize, c: usize) {
-    let place = place_of(k, c);
-    let read = read_of(sizes, k);
-    let n = items_of(sizes, k);
-    let mut i: usize = 0;
-    while i < n {
-        put(long, place + i, cell(cells, k, c, row_of(i, read)));
-        i += 1;
+    // The items of a column: those that were read, and then the last one again.
+    fn column(
+        &self,
+        alloc: Global,
+        cells: &[u32],
+        k: usize,
+        c: usize,
+    ) -> Result<Vec<u32>, AllocError> {
+        let last = self.read(k).saturating_sub(1);
+        (0..self.items(k))
+            .map(|i| cell(cells, k, c, i.min(last)))
+            .collect(alloc)
     }
-}
 
-// Stores the columns of a kind.
-fn lengthen_kind(long: &mut [u32], cells: &[u32], sizes: Sizes, k: usize) {
-    let n = fields_of(k);
-    let mut c: usize = 0;
-    while c < n {
-        lengthen_column(long, cells, sizes, k, c);
-        c += 1;
+    // The columns of the job.
+    fn columns(&self, alloc: Global, cells: &[u32]) -> Result<Vec<Vec<u32>>, AllocError> {
+        let mut columns = Vec::new(alloc);
+        for k in TABLES {
+            for c in 0..fields_of(k) {
+                columns.push(self.column(alloc, cells, k, c)?)?;
+            }
+        }
+        Ok(columns)
     }
 }
 
-// Stores the job's columns.
-fn lengthen(long: &mut [u32], cells: &[u32], sizes: Sizes) {
-    let mut k: usize = B;
-    while k < KINDS {
-        lengthen_kind(long, cells, sizes, k);
-        k += 1;
+// A column by its place among those of a job; an empty one behind the last.
+fn column_at(columns: &[Vec<u32>], i: usize) -> &[u32] {
+    match columns.get(i) {
+        Some(column) => column.as_slice(),
+        None => &[],
     }
-}
-
-// A column as it was stored.
-fn stored(long: &[u32], sizes: Sizes, k: usize, c: usize) -> &[u32] {
-    let from = place_of(k, c);
-    let to = from + items_of(sizes, k);
-    if to <= long.len() {
-        return &long[from..to];
-    }
-    &long[..0]
 }
 
 // The line P.
@@ -145,95 +90,63 @@ fn parameters_in(cells: &[u32]) -> Parameters {
     }
 }
 
-// Answers the job whose columns are stored, and says whether the answer and the tables agree with those recorded.
-fn replay_stored(
-    rt: &impl Print,
-    record: usize,
-    long: &[u32],
-    sizes: Sizes,
-    parameters: Parameters,
-    answer: &[u8],
-    tables: &[u8],
-) -> bool {
-    let mut out = [0u8; ANSWER_BYTES];
-    let mut lines = [0u8; TABLE_BYTES];
-    let r = answer_job(
-        [
-            stored(long, sizes, B, 0),
-            stored(long, sizes, B, 1),
-            stored(long, sizes, B, 2),
-            stored(long, sizes, V, 0),
-            stored(long, sizes, S, 0),
-            stored(long, sizes, S, 1),
-            stored(long, sizes, S, 2),
-            stored(long, sizes, S, 3),
-            stored(long, sizes, S, 4),
-            stored(long, sizes, S, 5),
-            stored(long, sizes, U, 0),
-            stored(long, sizes, U, 1),
-            stored(long, sizes, U, 2),
-            stored(long, sizes, W, 0),
-            stored(long, sizes, E, 0),
-            stored(long, sizes, E, 1),
-            stored(long, sizes, E, 2),
-            stored(long, sizes, E, 3),
-            stored(long, sizes, E, 4),
-            stored(long, sizes, E, 5),
-            stored(long, sizes, F, 0),
-            stored(long, sizes, F, 1),
-            stored(long, sizes, F, 2),
-        ],
+// The job of these columns.
+fn job_of<'a>(columns: &'a [Vec<u32>], parameters: Parameters) -> Job<'a> {
+    Job {
+        freq: column_at(columns, 0),
+        first: column_at(columns, 1),
+        end: column_at(columns, 2),
+        code: column_at(columns, 3),
+        segments: Segments {
+            start: column_at(columns, 4),
+            end: column_at(columns, 5),
+            value: column_at(columns, 6),
+            first_use: column_at(columns, 7),
+            end_use: column_at(columns, 8),
+            flags: column_at(columns, 9),
+        },
+        uses: Uses {
+            position: column_at(columns, 10),
+            kind: column_at(columns, 11),
+            cost: column_at(columns, 12),
+        },
+        weight: column_at(columns, 13),
+        reservations: Reservations {
+            unit: column_at(columns, 14),
+            start: column_at(columns, 15),
+            end: column_at(columns, 16),
+            kind: column_at(columns, 17),
+            index: column_at(columns, 18),
+            fixed: column_at(columns, 19),
+        },
+        fixed_uses: FixedUses {
+            unit: column_at(columns, 20),
+            point: column_at(columns, 21),
+            value: column_at(columns, 22),
+        },
         parameters,
-        sheet_rooms(),
-        &mut out,
-        &mut lines,
-    );
-    let a = r.answer;
-    let t = r.tables;
-    written_agrees(rt, record, &out, a, &lines, t, answer, tables)
-}
-
-// The kind that a record's number stands for; none for a number too high.
-fn kind_at(table: usize) -> usize {
-    if table < 7 {
-        return TABLES[table];
     }
-    KINDS
 }
 
 // Reads a record's sheet, lengthens a table, and says whether the answer and the tables agree with those recorded.
 pub(crate) fn replay_long(
-    rt: &impl Print,
-    record: usize,
-    text: &[u8],
-    answer: &[u8],
-    tables: &[u8],
+    rt: &(impl Print + AllocGlobal),
+    record: &Record<'_>,
     table: usize,
     items: usize,
-) -> bool {
+) -> io::Result<bool> {
     let mut cells = [0u32; CELLS];
-    let reading = read_sheet(text, &mut cells);
-    let v = reading.verdict;
-    let Verdict::Sound = v else {
-        tell(rt, record);
+    let Ok(read) = read_sheet(record.sheet, &mut cells) else {
+        tell(rt, record.number);
         let _ = println!(rt; "no sheet");
-        return false;
+        return Ok(false);
     };
-    let read = reading.counts;
     let sizes = Sizes {
         read,
-        kind: kind_at(table),
+        lengthened: TABLES.get(table).copied(),
         items,
     };
-    let mut long = [0u32; ALL];
-    lengthen(&mut long, &cells, sizes);
-    replay_stored(
-        rt,
-        record,
-        &long,
-        sizes,
-        parameters_in(&cells),
-        answer,
-        tables,
-    )
+    let columns = sizes.columns(rt.alloc(), &cells)?;
+    let job = job_of(&columns, parameters_in(&cells));
+    Ok(record.agrees(rt, |out, lines| answer_job(&job, sheet_rooms(), out, lines)))
 }

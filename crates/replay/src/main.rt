@@ -10,207 +10,190 @@ mod long;
 mod points;
 mod text;
 
-ghost use Rattle.std.specs.Prelude.{◌≤◌, ◌<◌, ◌≡◌, length, take};
+ghost use Rattle.std.specs.Prelude.{◌≤◌};
 
+use answers::answer::answer_sheet;
 use answers::room::sheet_rooms;
-use compare::{print_count, replay_record, tell_broken};
+use compare::Record;
 use filling::lent::Rooms;
 use long::replay_long;
-use points::replay_points;
+use points::replay_list;
 use std::env::{Env, FillError};
-use std::fs;
 use std::io::Read;
 use std::str::from_utf8;
-use text::{byte_at, closed_at, field, part};
+use std::{fs, io};
+use text::{closed_at, field, part, tail};
+
+// Room for the largest file: no more of one is read.
+pub(crate) const ROOM: usize = 1048576;
+
+// How long a file's first line is, and lines n and b; line t; line s; and the line `=`.
+const FIRST_LINE: usize = 13;
+
+pub(crate) const HEAD_LINE: usize = 24;
+
+const LENT_LINE: usize = 46;
+
+const SHEET_LINE: usize = 79;
+
+pub(crate) const END_LINE: usize = 2;
+
+// What a record comes to: of how many answers, how many agree; and how many bytes it has, with its line `=`.
+#[derive(Clone, Copy)]
+pub(crate) struct Replayed {
+    pub(crate) all: usize,
+    pub(crate) agree: usize,
+    pub(crate) bytes: usize,
+}
 
 // A line t has the rows of the tables that are lent; without one there is room for every sheet.
-fn lent_at(text: &[u8], at: usize) -> Rooms
-    requires { at ≤ 1048576 }
-{
-    if byte_at(text, at) != b't' {
+fn lent_by(line: &[u8]) -> Rooms {
+    if !line.starts_with(b"t") {
         return sheet_rooms();
     }
     Rooms {
-        uses: field(text, at, 0),
-        gaps: field(text, at, 1),
-        gap_segments: field(text, at, 2),
-        links: field(text, at, 3),
+        uses: field(line, 0),
+        gaps: field(line, 1),
+        gap_segments: field(line, 2),
+        links: field(line, 3),
     }
 }
 
 // How many bytes a line t or n takes in front of line s.
-fn head_at(text: &[u8], at: usize) -> usize
+fn head_length(text: &[u8]) -> usize
     ensures { result ≤ 46 }
 {
-    if byte_at(text, at) == b't' {
-        return 46;
+    match text.first() {
+        Some(b't') => LENT_LINE,
+        Some(b'n') => HEAD_LINE,
+        _ => 0,
     }
-    if byte_at(text, at) == b'n' {
-        return 24;
-    }
-    0
 }
 
-// Whether the record at a place agrees. A line n says which table is lengthened, and to how many items.
+// Whether a record agrees, given its first line. A line n says which table is lengthened, and to how many items.
 fn record_agrees(
+    rt: &(impl Print + AllocGlobal),
+    line: &[u8],
+    record: &Record<'_>,
+) -> io::Result<bool> {
+    if line.starts_with(b"n") {
+        return replay_long(rt, record, field(line, 0), field(line, 1));
+    }
+    Ok(record.agrees(
+        rt,
+        |out, lines| answer_sheet(record.sheet, lent_by(line), out, lines),
+    ))
+}
+
+// Replays the record of a job that a text begins with. Its line s has the lengths of the sheet and of the answer; the tables end before
+// the line `=`.
+fn replay_job(rt: &(impl Print + AllocGlobal), number: usize, text: &[u8]) -> io::Result<Replayed> {
+    let head = head_length(text);
+    let line = tail(text, head);
+    let sheet = field(line, 0);
+    let answer = field(line, 1);
+    let body = tail(line, SHEET_LINE);
+    let rest = tail(body, sheet + answer);
+    let tables = closed_at(part(rest, 0, 999999));
+    let record = Record {
+        number,
+        sheet: part(body, 0, sheet),
+        answer: part(body, sheet, answer),
+        tables: part(rest, 0, tables),
+    };
+    let agrees = record_agrees(rt, text, &record)?;
+    Ok(Replayed {
+        all: 1,
+        agree: usize::from(agrees),
+        bytes: head + SHEET_LINE + sheet + answer + tables + END_LINE,
+    })
+}
+
+// Replays a file's records, each by its number and its place, and prints how many of what agree. Its first line has the number of records.
+fn replay_records<F: Fn(usize, usize) -> io::Result<Replayed>>(
     rt: &impl Print,
     text: &[u8],
-    at: usize,
-    record: usize,
-    sheet: &[u8],
-    answer: &[u8],
-    tables: &[u8],
-) -> bool
-    requires { at ≤ 1048576 }
+    what: &str,
+    replay: F,
+) -> io::Result<()>
+    requires { F.IsAlwaysCallable replay }
 {
-    if byte_at(text, at) == b'n' {
-        let table = field(text, at, 0);
-        let items = field(text, at, 1);
-        return replay_long(rt, record, sheet, answer, tables, table, items);
+    let records = field(text, 0);
+    let mut all = 0usize;
+    let mut agree = 0usize;
+    let mut at = FIRST_LINE;
+    for record in 0..records {
+        if at >= text.len() {
+            tell_broken(rt, record);
+            return Ok(());
+        }
+        let r = replay(record, at)?;
+        // no bound is known here of what a record counts, so the sums saturate
+        all = all.saturating_add(r.all);
+        agree = agree.saturating_add(r.agree);
+        at = at.saturating_add(r.bytes);
     }
-    replay_record(rt, record, sheet, answer, tables, lent_at(text, at))
+    if at != text.len() {
+        tell_broken(rt, records);
+        return Ok(());
+    }
+    let _ = println!(rt; "{agree} of {all} {what} agree");
+    Ok(())
 }
 
-// A record's end, behind its line `=`.
-#[derive(Clone, Copy)]
-struct Replayed {
-    agrees: bool,
-    end: usize,
+// Says that a file ends before its records do, or goes on behind them.
+fn tell_broken(rt: &impl Print, record: usize) {
+    let _ = println!(rt; "broken off at record {record}");
 }
 
-// Replays the record at a place. Its line s has the lengths of the sheet and of the answer; the tables end before the line `=`.
-fn replay_at(rt: &impl Print, text: &[u8], at: usize, record: usize) -> Replayed
-    requires { at ≤ 1048576 }
-    ensures { (at < result.end) × (result.end ≤ 999999999) }
-{
-    let s = at + head_at(text, at);
-    let sheet = field(text, s, 0);
-    let answer = field(text, s, 1);
-    let body = s + 79;
-    let rest = body + sheet + answer;
-    let tables = closed_at(part(text, rest, 999999));
-    let agrees = record_agrees(
+// Replays a file's text: block lists, or jobs.
+fn replay_text(rt: &(impl Print + AllocGlobal), text: &[u8]) -> io::Result<()> {
+    if tail(text, FIRST_LINE).starts_with(b"b") {
+        return replay_records(
+            rt,
+            text,
+            "calls",
+            |record, at| replay_list(rt, record, tail(text, at), at),
+        );
+    }
+    replay_records(
         rt,
         text,
-        at,
-        record,
-        part(text, body, sheet),
-        part(text, body + sheet, answer),
-        part(text, rest, tables),
-    );
-    let end = rest + tables + 2;
-    Replayed { agrees, end }
+        "records",
+        |record, at| replay_job(rt, record, tail(text, at)),
+    )
 }
 
-fn counted(agrees: bool) -> usize
-    ensures { result ≤ 1 }
-{
-    if agrees { 1 } else { 0 }
+// Reads as much of a file as there is room for; a read that fails is the end.
+fn read_front(rt: &impl AllocGlobal, file: impl Read + Drop) -> Vec<u8> {
+    let mut text = Vec::new(rt.alloc());
+    let _ = file.take(ROOM as u64).read_to_end(&mut text);
+    text
 }
 
-// Replays a file's records, and prints how many agree. Its first line has their number.
-fn replay_text(rt: &impl Print, text: &[u8]) {
-    let records = field(text, 0, 0);
-    let mut agree: usize = 0;
-    let mut record: usize = 0;
-    let mut at: usize = 13;
-    while record < records {
-        if at >= text.len() {
-            break;
-        }
-        if at > 1048576 {
-            break;
-        }
-        let r = replay_at(rt, text, at, record);
-        agree += counted(r.agrees);
-        at = r.end;
-        record += 1;
-    }
-    if record == records && at == text.len() {
-        print_count(rt, agree, records, " records agree");
-        return;
-    }
-    tell_broken(rt, record);
-}
-
-// Room for the largest file.
-fn room(b: u8) -> [u8; 1048576]
-    ensures { 1048576 ≡ length result }
-{
-    [b; 1048576]
-}
-
-// One read; one that fails is the end.
-fn read_some(from: &mut impl Read, buf: &mut [u8]) -> usize
-    ensures { (result ≤ length buf.new) × (result ≡ length (take result buf.new)) }
-{
-    match from.read(buf) {
-        Ok(n) => n,
-        Err(_) => 0,
-    }
-}
-
-// Reads until the buffer is full or the file ends, and answers how many bytes were read.
-fn read_full(from: &mut impl Read, buf: &mut [u8]) -> usize
-    ensures { (result ≤ length buf.new) × (result ≡ length (take result buf.new)) }
-{
-    let mut done: usize = 0;
-    while done < buf.len() {
-        let n = read_some(from, &mut buf[done..]);
-        if n == 0 {
-            break;
-        }
-        done += n;
-    }
-    done
-}
-
-fn replay_open(rt: &impl Print, file: &mut impl Read) {
-    let mut text = room(0);
-    let n = read_full(file, &mut text);
-    if byte_at(&text, 13) == b'b' {
-        replay_points(rt, &text[..n]);
-        return;
-    }
-    replay_text(rt, &text[..n]);
-}
-
-fn replay_path(rt: &HostRuntime, path: &[u8]) {
+fn replay_path(rt: &HostRuntime, path: &[u8]) -> io::Result<()> {
     let _ = rt.write_all(path);
     let _ = print!(rt; ": ");
-    let Ok(name) = from_utf8(path) else {
+    let opened = from_utf8(path)
+        .ok()
+        .and_then(|name| fs::open(rt, name).ok());
+    let Some(file) = opened else {
         let _ = println!(rt; "can't be opened");
-        return;
+        return Ok(());
     };
-    let Ok(mut file) = fs::open(rt, name) else {
-        let _ = println!(rt; "can't be opened");
-        return;
-    };
-    replay_open(rt, &mut file);
+    replay_text(rt, &read_front(rt, file))
 }
 
-// An argument longer than the buffer names nothing.
-fn replay_named(rt: &HostRuntime, i: usize) {
+fn main(rt: HostRuntime) -> io::Result<()> {
     let mut path = [0u8; 4096];
-    match rt.arg(i, &mut path) {
-        Ok(n) => replay_path(rt, &path[..n]),
-        Err(_) => replay_path(rt, b""),
-    }
-}
-
-// Whether there is an argument at a place.
-fn is_argument(rt: &impl Env, i: usize) -> bool {
-    match rt.arg(i, &mut []) {
-        Err(FillError::NotPresent) => false,
-        _ => true,
-    }
-}
-
-fn main(rt: HostRuntime) {
+    // not std's `args`: there one argument that is no UTF-8 fails them all
     for i in 1..usize::MAX {
-        if !is_argument(&rt, i) {
-            break;
+        match rt.arg(i, &mut path) {
+            Ok(n) => replay_path(&rt, &path[..n])?,
+            // an argument longer than the buffer names nothing
+            Err(FillError::TooLong) => replay_path(&rt, b"")?,
+            Err(FillError::NotPresent) => break,
         }
-        replay_named(&rt, i);
     }
+    Ok(())
 }

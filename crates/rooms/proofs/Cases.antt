@@ -5,9 +5,7 @@ use mathlib.Core.List.{List, [], ◌∷◌}
 use Prim.Native.Nat.{ℕ}
 use lib.ListN.{replicate}
 use Rattle.columns.specs.First.{first_below}
-use Rattle.links.specs.Blocks.{BlockRow, is_bad, refusal}
-use Rattle.links.specs.declared.blocks.Checked.{Checked}
-use Rattle.links.specs.declared.blocks.Checked.TheVariants.{Sound}
+use Rattle.links.specs.Blocks.{BlockRow, is_bad, refusal, Checked, no_refusal}
 use Rattle.jobs.specs.Lines.{bad_bounds, bad_list, bad_def, bad_use, bad_end, bad_span, bad_kind, bad_fixed_use}
 use Rattle.columns.specs.Below.{count_below, any_below}
 use Rattle.jobs.specs.declared.rows.Segment.{Segment}
@@ -109,7 +107,7 @@ answers =
     ∷ with_segments (segment 2 12 2 ∷ []) two_uses
     ∷ []
 
-pub answers_are : answers ≡ refusal 1 0 ∷ refusal 4 0 ∷ refusal 6 0 ∷ refusal 7 1 ∷ Sound ∷ refusal 8 0 ∷ refusal 8 0 ∷ []
+pub answers_are : answers ≡ refusal 1 0 ∷ refusal 4 0 ∷ refusal 6 0 ∷ refusal 7 1 ∷ no_refusal ∷ refusal 8 0 ∷ refusal 8 0 ∷ []
 unfolding first_broken first_below bad_parameters some_long bad_sizes is_bad bad_bounds bad_list bad_def bad_use bad_end bad_span bad_kind bad_fixed_use count_below any_below
 answers_are = refl
 
@@ -187,12 +185,12 @@ limits =
 -- k, three scales, units and none; 4,096 items of B V S U W E F; block end, frequency, code, flags, kind, cost of a class use and of a fixed
 -- one, spill weight; the rows of each work table
 pub limits_are : limits
-    ≡ edge Sound (refusal 1 0)
-    ∷ edge Sound (refusal 1 0)
-    ∷ edge Sound (refusal 1 0)
-    ∷ edge Sound (refusal 1 0)
-    ∷ edge Sound (refusal 2 0)
-    ∷ edge Sound (refusal 2 0)
+    ≡ edge no_refusal (refusal 1 0)
+    ∷ edge no_refusal (refusal 1 0)
+    ∷ edge no_refusal (refusal 1 0)
+    ∷ edge no_refusal (refusal 1 0)
+    ∷ edge no_refusal (refusal 2 0)
+    ∷ edge no_refusal (refusal 2 0)
     ∷ edge (refusal 3 1) (refusal 2 0)
     ∷ edge (refusal 4 0) (refusal 2 0)
     ∷ edge (refusal 5 1) (refusal 2 0)
@@ -200,18 +198,18 @@ pub limits_are : limits
     ∷ edge (refusal 9 0) (refusal 2 0)
     ∷ edge (refusal 10 0) (refusal 2 0)
     ∷ edge (refusal 11 0) (refusal 2 0)
-    ∷ edge Sound (refusal 3 0)
-    ∷ edge Sound (refusal 3 0)
-    ∷ edge Sound (refusal 4 0)
-    ∷ edge Sound (refusal 5 0)
-    ∷ edge Sound (refusal 7 1)
-    ∷ edge Sound (refusal 7 1)
-    ∷ edge Sound (refusal 7 1)
-    ∷ edge Sound (refusal 9 0)
-    ∷ edge Sound (refusal 12 0)
-    ∷ edge Sound (refusal 12 1)
-    ∷ edge Sound (refusal 12 2)
-    ∷ edge Sound (refusal 12 3)
+    ∷ edge no_refusal (refusal 3 0)
+    ∷ edge no_refusal (refusal 3 0)
+    ∷ edge no_refusal (refusal 4 0)
+    ∷ edge no_refusal (refusal 5 0)
+    ∷ edge no_refusal (refusal 7 1)
+    ∷ edge no_refusal (refusal 7 1)
+    ∷ edge no_refusal (refusal 7 1)
+    ∷ edge no_refusal (refusal 9 0)
+    ∷ edge no_refusal (refusal 12 0)
+    ∷ edge no_refusal (refusal 12 1)
+    ∷ edge no_refusal (refusal 12 2)
+    ∷ edge no_refusal (refusal 12 3)
     ∷ []
 unfolding first_broken first_below bad_parameters some_long bad_sizes is_bad bad_bounds bad_list bad_def bad_use bad_end bad_span bad_kind bad_fixed_use count_below any_below
 limits_are = refl

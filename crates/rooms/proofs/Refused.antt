@@ -1,15 +1,12 @@
 -- The twelve lines by their numbers, and what a job and its lent tables satisfy that have passed them
 use mathlib.Core.Path.{◌≡◌, ◌∙◌}
-use mathlib.Core.Bool.{Bool, false}
 use mathlib.Core.List.{[], ◌∷◌}
-use Prim.Native.Nat.{ℕ, zero, suc, ◌+◌, ◌<◌}
-use native.Mathlib.Nat.{not-suc-le-zero, le_of_suc-le-suc}
+use Prim.Native.Nat.{ℕ, suc, ◌+◌, ◌<◌}
 use native.Mathlib.Omega.{arith}
 use lib.Dec.{lit≤}
 use lib.ListN.{length, get_or}
 use borrow.Author.Tests.{ltb-false}
-use Rattle.links.specs.Blocks.{refusal}
-use Rattle.links.specs.declared.blocks.Checked.TheVariants.{Sound}
+use Rattle.links.specs.Blocks.{refusal, no_refusal}
 use Rattle.filling.specs.SourceTables.{Roomy}
 use Rattle.filling.specs.declared.lent.Rooms.{Rooms}
 use Rattle.refusals.specs.declared.job.Sizes.{Sizes}
@@ -35,8 +32,8 @@ job_refused_exactly job rooms n p = refused_by_number (lines job rooms) (lines_n
 
 -- it is accepted exactly if all twelve have passed
 pub job_accepted_exactly : (job : Job) (rooms : Rooms)
-    → (refusal_of job rooms ≡ Sound → (i : ℕ) → i < length (lines job rooms) → Passed (get_or (lines job rooms) i no_line))
-    × (((i : ℕ) → i < length (lines job rooms) → Passed (get_or (lines job rooms) i no_line)) → refusal_of job rooms ≡ Sound)
+    → (refusal_of job rooms ≡ no_refusal → (i : ℕ) → i < length (lines job rooms) → Passed (get_or (lines job rooms) i no_line))
+    × (((i : ℕ) → i < length (lines job rooms) → Passed (get_or (lines job rooms) i no_line)) → refusal_of job rooms ≡ no_refusal)
 job_accepted_exactly job rooms = (accepted_passed (lines job rooms), passed_accepted (lines job rooms))
 
 -- ---- line 12
@@ -44,7 +41,7 @@ pub few_items : (units : ℕ) (t : Sizes) → Sized units t → FewItems t
 few_items units t s = record { blocks = s.items.blocks; segments = s.items.segments; uses = s.items.uses }
 
 -- what line 12 relies on: line 2 has passed
-pub accepted_few : (job : Job) → first_broken (job_lines job) ≡ Sound → FewItems (sizes_of job)
+pub accepted_few : (job : Job) → first_broken (job_lines job) ≡ no_refusal → FewItems (sizes_of job)
 accepted_few job e = few_items job.units (sizes_of job) (sized job.units (sizes_of job) (accepted_passed (job_lines job) e 1 (lit≤ tt) 0 (lit≤ tt)))
 
 -- each work table has its rows
@@ -58,26 +55,9 @@ roomy t r f =
     }
 
 -- ---- what a job and its lent tables satisfy that have passed lines 1 to 12
-pub job_accepted : (job : Job) (rooms : Rooms) → refusal_of job rooms ≡ Sound → Accepted job
+pub job_accepted : (job : Job) (rooms : Rooms) → refusal_of job rooms ≡ no_refusal → Accepted job
 job_accepted job rooms e = tables_accepted job (sound_before (job_lines job) (line12 (sizes_of job) rooms ∷ []) e)
 
-pub job_roomy : (job : Job) (rooms : Rooms) → refusal_of job rooms ≡ Sound → Roomy (length job.uses) (length job.blocks) (length job.segments) rooms
+pub job_roomy : (job : Job) (rooms : Rooms) → refusal_of job rooms ≡ no_refusal → Roomy (length job.uses) (length job.blocks) (length job.segments) rooms
 job_roomy job rooms e =
     roomy (sizes_of job) rooms (accepted_passed (line12 (sizes_of job) rooms ∷ []) (sound_behind (job_lines job) (line12 (sizes_of job) rooms ∷ []) e) 0 (lit≤ tt))
-
--- a test that fails at the first places
-pub passed_1 : (test : ℕ → Bool) → test 0 ≡ false → (k : ℕ) → k < 1 → test k ≡ false
-passed_1 test a zero h = a
-passed_1 test a (suc k) h = absurd (not-suc-le-zero (le_of_suc-le-suc h))
-
-pub passed_2 : (test : ℕ → Bool) → test 0 ≡ false → test 1 ≡ false → (k : ℕ) → k < 2 → test k ≡ false
-passed_2 test a b zero h = a
-passed_2 test a b (suc k) h = passed_1 (λ (j : ℕ). test (suc j)) b k (le_of_suc-le-suc h)
-
-pub passed_3 : (test : ℕ → Bool) → test 0 ≡ false → test 1 ≡ false → test 2 ≡ false → (k : ℕ) → k < 3 → test k ≡ false
-passed_3 test a b c zero h = a
-passed_3 test a b c (suc k) h = passed_2 (λ (j : ℕ). test (suc j)) b c k (le_of_suc-le-suc h)
-
-pub passed_4 : (test : ℕ → Bool) → test 0 ≡ false → test 1 ≡ false → test 2 ≡ false → test 3 ≡ false → (k : ℕ) → k < 4 → test k ≡ false
-passed_4 test a b c d zero h = a
-passed_4 test a b c d (suc k) h = passed_3 (λ (j : ℕ). test (suc j)) b c d k (le_of_suc-le-suc h)

@@ -1,7 +1,6 @@
 -- Line 12: the rows that the lent work tables have, and the rows that they need; the twelve lines
 use Rattle.std.specs.Prelude.{ℕ, ◌+◌, ◌≤◌, Bool, List, [], ◌∷◌, ◌++◌, ltb, get_or}
-use Rattle.links.specs.Blocks.{item_limit}
-use Rattle.links.specs.declared.blocks.Checked.{Checked}
+use Rattle.links.specs.Blocks.{item_limit, Checked}
 use Rattle.filling.specs.declared.lent.Rooms.{Rooms}
 use Rattle.refusals.specs.declared.job.Sizes.{Sizes}
 use Rattle.refusals.specs.Job.{Job, sizes_of}

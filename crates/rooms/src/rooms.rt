@@ -5,11 +5,12 @@ ghost use Rattle.refusals.specs.Refusals.{first_broken};
 ghost use Rattle.rooms.specs.Rooms.{too_short, line12, FewItems};
 
 use filling::lent::Rooms;
-use links::blocks::Checked;
+use links::blocks::Refusal;
 use refusals::job::Sizes;
 use refusals::lines::verdict;
 
-// Line 12: the first work table that is too short, of uses, gaps, gap segments and links.
+// Line 12: the first work table that is too short, of uses, gaps, gap segments and links; else their number, as in the checks of `jobs`.
+#[tactic(auto, unfolding(columns::specs::First::first_below))]
 fn first_short(t: Sizes, r: Rooms) -> usize
     requires { FewItems t }
     ensures { result ≡ first_below (too_short t r) 4 }
@@ -30,7 +31,8 @@ fn first_short(t: Sizes, r: Rooms) -> usize
 }
 
 // Line 12.
-pub(crate) fn check_rooms(t: Sizes, r: Rooms) -> Checked
+#[tactic(auto, unfolding(refusals::specs::Refusals::first_broken))]
+pub(crate) fn check_rooms(t: Sizes, r: Rooms) -> Result<(), Refusal>
     requires { FewItems t }
     ensures { result ≡ first_broken (line12 t r ∷ []) }
 {

@@ -14,12 +14,11 @@ use lib.Dec.{eqb, leb}
 use native.Mathlib.Decide.{ℕ_discrete}
 use borrow.Author.Tests.{eq-eqb, ne_eqb, leb-true, lt-ltb, le-ltb}
 use Rattle.sheet.specs.Kinds.{pick, kinds, limit, once, needed, width, kind_of, lines_to, most_lines}
-use Rattle.sheet.specs.Refusal.{lines_of, is_line, kind_of_line, latest, of_kind, is_in_order, fault, judged, verdict_below, verdict, row_of, sheet_of, Counted}
+use Rattle.sheet.specs.Refusal.{lines_of, is_line, kind_of_line, latest, of_kind, is_in_order, fault, refusal, judged, verdict_below, verdict, row_of, sheet_of}
 use Rattle.sheet.specs.Refusal.{open_kind, none_needed, is_complete, Checked}
-use Rattle.sheet.specs.Next.{next_at}
-use Rattle.sheet.specs.declared.check.Verdict.{Verdict}
-use Rattle.sheet.specs.declared.check.Verdict.TheVariants.{Sound, Refused}
-use Rattle.sheet.specs.declared.check.Next.TheVariants.{Line, Bad}
+use Rattle.sheet.specs.Next.{line_to, next_at}
+use Rattle.std.specs.Prelude.{Ok, Err, Some, None}
+use Rattle.sheet.specs.declared.check.Line.{Line}
 use Rattle.sheet.proofs.KindLaws.{lines_small}
 use Rattle.sheet.proofs.FieldLaws.{not_both, pick_both}
 use Rattle.sheet.proofs.LineLaws.{line_is, line_kind, line_lines, First, first_line}
@@ -55,21 +54,21 @@ module _ (x : List ℕ) (k : ℕ) where
 
 -- one line and the verdict
 module _ (above : List (List ℕ)) (l : List ℕ) (ls : List (List ℕ)) (k : ℕ) (kind : kind_of_line l ≡ k) where
-  refused : (n : ℕ) → fault above l ≡ suc n → verdict_below above (l ∷ ls) ≡ Refused (suc n) (length above + 1)
+  refused : (n : ℕ) → fault above l ≡ suc n → verdict_below above (l ∷ ls) ≡ refusal (suc n) (length above + 1)
   unfolding verdict_below
   refused n e = ap (λ (m : ℕ). judged m (length above + 1) (verdict_below (above ++ (l ∷ [])) ls)) e
 
-  pub malformed : is_line k l ≡ false → verdict_below above (l ∷ ls) ≡ Refused 14 (length above + 1)
+  pub malformed : is_line k l ≡ false → verdict_below above (l ∷ ls) ≡ refusal 14 (length above + 1)
   unfolding fault
   malformed n = refused 13 (rw (kind, n))
 
   module _ (good : is_line k l ≡ true) where
-    pub disordered : is_in_order (length above) (latest above) k ≡ false → verdict_below above (l ∷ ls) ≡ Refused 14 (length above + 1)
+    pub disordered : is_in_order (length above) (latest above) k ≡ false → verdict_below above (l ∷ ls) ≡ refusal 14 (length above + 1)
     unfolding fault
     disordered n = refused 13 (rw (kind, good, n))
 
     module _ (order : is_in_order (length above) (latest above) k ≡ true) where
-      pub too_many : limit k ≤ length (of_kind k above) → verdict_below above (l ∷ ls) ≡ Refused 15 (length above + 1)
+      pub too_many : limit k ≤ length (of_kind k above) → verdict_below above (l ∷ ls) ≡ refusal 15 (length above + 1)
       unfolding fault
       too_many h = refused 14 (rw (kind, good, order, le-ltb (length (of_kind k above)) (limit k) h))
 
@@ -241,12 +240,12 @@ pub good_moved : (text : List ℕ) (lines m at k e : ℕ) → Good text lines m 
 unfolding width
 good_moved text lines m at k e g = omega (arith, g.end)
 
-good_by : (a b : Bool) (j f k e : ℕ) → Line k e ≡ pick a (pick b (Line j f) Bad) Bad → (a ≡ true) × (b ≡ true) × (j ≡ k) × (f ≡ e)
-good_by true true j f k e q = (refl, refl, cc, cc)
+good_by : (a b : Bool) (j f k e : ℕ) → Some (line_to k e) ≡ pick a (pick b (Some (line_to j f)) None) None → (a ≡ true) × (b ≡ true) × (j ≡ k) × (f ≡ e)
+good_by true true j f k e q = let u : line_to k e ≡ line_to j f = cc in (refl, refl, sym (ap (λ (l : Line). l.kind) u), sym (ap (λ (l : Line). l.end) u))
 good_by true false j f k e q = let z : ◌≡◌ {A = ℕ} 0 1 = cc in absurd (omega arith)
 good_by false b j f k e q = let z : ◌≡◌ {A = ℕ} 0 1 = cc in absurd (omega arith)
 
-bad_by : (a b : Bool) (j f : ℕ) → Bad ≡ pick a (pick b (Line j f) Bad) Bad → (a ≡ false) ⊎ ((a ≡ true) × (b ≡ false))
+bad_by : (a b : Bool) (j f : ℕ) → None ≡ pick a (pick b (Some (line_to j f)) None) None → (a ≡ false) ⊎ ((a ≡ true) × (b ≡ false))
 bad_by true true j f q = let z : ◌≡◌ {A = ℕ} 0 1 = cc in absurd (omega arith)
 bad_by true false j f q = inr (refl, refl)
 bad_by false b j f q = inl refl
@@ -262,7 +261,7 @@ module _ (text counts : List ℕ) (lines m at : ℕ) (u : Upto text counts lines
   unfolding here kind_of_line
   kind_of_head f = ap kind_of (f.head ∙ get_or-drop at text 0 0 ∙ ap (λ (j : ℕ). get_or text j 0) (add-zero at))
 
-  pub next_good : (k e : ℕ) → Line k e ≡ next_at text at lines m → Good text lines m at k e
+  pub next_good : (k e : ℕ) → Some (line_to k e) ≡ next_at text at lines m → Good text lines m at k e
   unfolding here
   next_good k e q =
       let p = good_by (is_line here (take (width here) (drop at text))) (is_in_order lines m here) here (at + width here) k e
@@ -275,13 +274,13 @@ module _ (text counts : List ℕ) (lines m at : ℕ) (u : Upto text counts lines
       }
 
   -- the verdict, from that of the lines left
-  said : (n : ℕ) → verdict_below u.above (lines_of (drop at text)) ≡ Refused n (length u.above + 1) → verdict text ≡ Refused n (lines + 1)
-  said n e = verdict_lines text ∙ sym u.left ∙ e ∙ ap (λ (j : ℕ). Refused n (j + 1)) (sym u.counted)
+  said : (n : ℕ) → verdict_below u.above (lines_of (drop at text)) ≡ refusal n (length u.above + 1) → verdict text ≡ refusal n (lines + 1)
+  said n e = verdict_lines text ∙ sym u.left ∙ e ∙ ap (λ (j : ℕ). refusal n (j + 1)) (sym u.counted)
 
   order_there : (k : ℕ) (b : Bool) → is_in_order lines m k ≡ b → is_in_order (length u.above) (latest u.above) k ≡ b
   order_there k b e = rw (← u.counted, ← u.last) e
 
-  pub next_bad : Bad ≡ next_at text at lines m → verdict text ≡ Refused 14 (lines + 1)
+  pub next_bad : None ≡ next_at text at lines m → verdict text ≡ refusal 14 (lines + 1)
   unfolding here
   next_bad q =
       let x = drop at text in
@@ -300,7 +299,7 @@ module _ (text counts : List ℕ) (lines m at : ℕ) (u : Upto text counts lines
     rows_there : length (of_kind k u.above) ≡ get_or counts k 0
     rows_there = sym (u.rows k good_kind)
 
-    pub next_many : limit k ≤ get_or counts k 0 → verdict text ≡ Refused 15 (lines + 1)
+    pub next_many : limit k ≤ get_or counts k 0 → verdict text ≡ refusal 15 (lines + 1)
     next_many n =
         let x = drop at text in
         said 15
@@ -357,37 +356,32 @@ module _ (text counts : List ℕ) (lines m at : ℕ) (u : Upto text counts lines
   none_left : drop at text ≡ []
   none_left = drop_of_length-le text h
 
-  ended : verdict text ≡ pick (is_complete (length u.above) (latest u.above)) Sound (Refused 14 (length u.above + 1))
+  ended : verdict text ≡ pick (is_complete (length u.above) (latest u.above)) (Ok tt) (refusal 14 (length u.above + 1))
   unfolding verdict_below lines_of
   ended = verdict_lines text ∙ sym u.left ∙ ap (λ (x : List ℕ). verdict_below u.above (lines_of x)) none_left
 
   end_there : (b : Bool) → b ≡ is_complete lines m → is_complete (length u.above) (latest u.above) ≡ b
   end_there b e = rw (← u.counted, ← u.last) (sym e)
 
-  pub upto_missing : false ≡ is_complete lines m → verdict text ≡ Refused 14 (lines + 1)
+  pub upto_missing : false ≡ is_complete lines m → verdict text ≡ refusal 14 (lines + 1)
   upto_missing e =
       ended
-      ∙ ap (λ (b : Bool). pick b Sound (Refused 14 (length u.above + 1))) (end_there false e)
-      ∙ ap (λ (j : ℕ). Refused 14 (j + 1)) (sym u.counted)
+      ∙ ap (λ (b : Bool). pick b (Ok tt) (refusal 14 (length u.above + 1))) (end_there false e)
+      ∙ ap (λ (j : ℕ). refusal 14 (j + 1)) (sym u.counted)
 
-  pub upto_end : true ≡ is_complete lines m → Checked text Sound counts
+  pub upto_end : true ≡ is_complete lines m → Checked text (Ok counts)
   unfolding lines_of sheet_of
   upto_end t =
-      let e : verdict text ≡ Sound = ended ∙ ap (λ (b : Bool). pick b Sound (Refused 14 (length u.above + 1))) (end_there true t) in
+      let e : verdict text ≡ Ok tt = ended ∙ ap (λ (b : Bool). pick b (Ok tt) (refusal 14 (length u.above + 1))) (end_there true t) in
       let w : u.above ≡ lines_of text = sym (append-nil u.above) ∙ ap (λ (x : List ℕ). u.above ++ lines_of x) (sym none_left) ∙ u.whole in
       record {
         answer = sym e;
         counted = record {
-          sound = λ s k l. u.rows k l ∙ ap (λ (x : List (List ℕ)). length (of_kind k x)) w ∙ sym (length-map (of_kind k (lines_of text)) (row_of k));
-          refused = λ f. absurd (f refl);
+          rows = λ k l. u.rows k l ∙ ap (λ (x : List (List ℕ)). length (of_kind k x)) w ∙ sym (length-map (of_kind k (lines_of text)) (row_of k));
           within = λ k l. omega (arith, u.rows k l, u.within k l);
         };
       }
 
 -- a text that is refused
-pub not_counted : (text : List ℕ) (v : Verdict) → (v ≡ Sound → ⊥) → Counted text v (replicate kinds 0)
-not_counted text v f = record { sound = λ s. absurd (f s); refused = λ g. refl; within = λ k h. omega (arith, get_or-replicate {A = ℕ} kinds k 0 0 h) }
-
-pub refused_checked : (text : List ℕ) (n p : ℕ) → verdict text ≡ Refused n p → Checked text (Refused n p) (replicate kinds 0)
-refused_checked text n p e =
-    record { answer = sym e; counted = not_counted text (Refused n p) (λ s. let z : ◌≡◌ {A = ℕ} 0 1 = cc in omega arith) }
+pub refused_checked : (text : List ℕ) (n p : ℕ) → verdict text ≡ refusal n p → Checked text (Err (record { number = n; line = p }))
+refused_checked text n p e = record { answer = sym e; counted = tt }

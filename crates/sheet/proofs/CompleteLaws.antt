@@ -12,7 +12,7 @@ use Rattle.sheet.specs.Kinds.{pick, kinds, limit, once, needed}
 use Rattle.sheet.specs.Sheet.{line, lines_text, Sheet, text_from, render, IsRow, AreRows, IsSheet, Within}
 use Rattle.sheet.specs.Refusal.{lines_of, is_line, kind_of_line, latest, of_kind, open_kind, none_needed, is_in_order, is_complete, verdict_below, verdict}
 use Rattle.sheet.specs.Refusal.{row_of, sheet_of}
-use Rattle.sheet.specs.declared.check.Verdict.TheVariants.{Sound}
+use Rattle.std.specs.Prelude.{Ok}
 use Rattle.sheet.proofs.KindLaws.{not_needed}
 use Rattle.sheet.proofs.LineLaws.{line_kind, line_row, is_line_lem, line_lines}
 use Rattle.sheet.proofs.CheckLaws.{false_if, kind_more, kind_other, open_of, open_more, verdict_lines}
@@ -171,7 +171,7 @@ ready_none : Ready [] 0
 unfolding open_kind none_needed of_kind
 ready_none = record { low = omega arith; none = refl; fresh = λ j h. refl }
 
-pub render_sound : (s : Sheet) → IsSheet s → Within s → verdict (render s) ≡ Sound
+pub render_sound : (s : Sheet) → IsSheet s → Within s → verdict (render s) ≡ Ok tt
 unfolding render
 render_sound s is w =
     let e = lines_text_lem s 0 kinds (omega arith) in

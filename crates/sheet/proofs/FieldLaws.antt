@@ -9,10 +9,11 @@ use native.Mathlib.Numerals.{add-one}
 use native.Mathlib.Nat.{pow-succ', pow-zero, pow-le-pow_right}
 use lib.ListN.{length, get_or, set, drop, length-append}
 use lib.Dec.{eqb, leb, lit<}
-use borrow.Author.Tests.{eq-eqb, ne_eqb, eqb-true, le-leb, leb-true}
+use borrow.Author.Tests.{eq-eqb, ne_eqb, le-leb, leb-true}
 use Rattle.sheet.specs.Kinds.{pick}
-use Rattle.sheet.specs.Field.{digit_or_blank, digits, field, value_behind, value, same_text, is_field}
+use Rattle.sheet.specs.Field.{digit_or_blank, digits, field, value_behind, value, is_field}
 use lib.Seq.{sets}
+use Rattle.std.proofs.lemmas.Slice.Eq.{bytes_eq-Decides}
 use Rattle.sheet.proofs.Lists.{drop_next, sets_snoc}
 
 pub not_both : true ≡ false → ⊥
@@ -42,33 +43,6 @@ pub bound_small : (n i : ℕ) → i ≤ 11 → n + 23 ≤ 23 * 10 ^ i → n ≤ 
 bound_small n i h b =
     let m : 10 ^ i ≤ 10 ^ 11 = pow-le-pow_right (lit< tt) h in
     omega arith
-
--- the comparison of two texts
-pub same_step : (a b : List ℕ) (i : ℕ) → i < length a → length a ≡ length b → get_or a i 0 ≡ get_or b i 0
-    → same_text (drop (i + 1) a) (drop (i + 1) b) ≡ same_text (drop i a) (drop i b)
-unfolding same_text
-same_step a b i h l e =
-    let hb : i < length b = omega arith in
-    rw (drop_next a i h, drop_next b i hb, eq-eqb (get_or a i 0) (get_or b i 0) e)
-
-pub same_stop : (a b : List ℕ) (i : ℕ) → i < length a → length a ≡ length b → (get_or a i 0 ≡ get_or b i 0 → ⊥) → same_text (drop i a) (drop i b) ≡ false
-unfolding same_text
-same_stop a b i h l e =
-    let hb : i < length b = omega arith in
-    rw (drop_next a i h, drop_next b i hb, ne_eqb (get_or a i 0) (get_or b i 0) e)
-
-pub same_past : (a b : List ℕ) (i : ℕ) → length a ≤ i → length a ≡ length b → same_text (drop i a) (drop i b) ≡ true
-unfolding same_text
-same_past a b i h l =
-    let hb : length b ≤ i = omega arith in
-    rw (lib.ListN.drop_of_length-le a h, lib.ListN.drop_of_length-le b hb)
-
-pub same_lengths : (a b : List ℕ) → (length a ≡ length b → ⊥) → same_text a b ≡ false
-unfolding same_text
-same_lengths [] [] h = absurd (h refl)
-same_lengths [] (y ∷ ys) h = refl
-same_lengths (x ∷ xs) [] h = refl
-same_lengths (x ∷ xs) (y ∷ ys) h = pick_false (eqb x y) (same_text xs ys) (same_lengths xs ys (λ e. h (ap suc e)))
 
 pub columns_length : (w n : ℕ) → length (digits w n) ≡ w
 unfolding digits
@@ -127,27 +101,11 @@ pub field_value : (n : ℕ) → n < 4294967296 → value (field n) ≡ n
 unfolding value field
 field_value n h = value_snoc (digits 10 (n / 10)) 0 (48 + n % 10) ∙ omega (arith, columns_value 10 (n / 10) (omega arith))
 
-pub same_refl : (a : List ℕ) → same_text a a ≡ true
-unfolding same_text
-same_refl [] = refl
-same_refl (x ∷ xs) = rw (eq-eqb x x refl) (same_refl xs)
-
-pub same_equal : (a b : List ℕ) → same_text a b ≡ true → a ≡ b
-unfolding same_text
-same_equal [] [] e = refl
-same_equal [] (y ∷ ys) e = absurd (not_both (sym e))
-same_equal (x ∷ xs) [] e = absurd (not_both (sym e))
-same_equal (x ∷ xs) (y ∷ ys) e =
-    let p = pick_both (eqb x y) (same_text xs ys) e in
-    let h : x ≡ y = eqb-true x y p.0 in
-    let t : xs ≡ ys = same_equal xs ys p.1 in
-    cc
-
 -- a text is a field exactly if it is the text of an unsigned 32-bit number
 pub is_field_lem : (n : ℕ) → n < 4294967296 → is_field (field n) ≡ true
 unfolding is_field
 is_field_lem n h =
-    rw (eq-eqb (length (field n)) 11 (field_length n), field_value n h, le-leb n 4294967295 (omega arith)) (same_refl (field n))
+    rw (eq-eqb (length (field n)) 11 (field_length n), field_value n h, le-leb n 4294967295 (omega arith)) ((bytes_eq-Decides (field n) (field n)).1 refl)
 
 pub record FieldIs (x : List ℕ) : Type 0 where
   pub text : x ≡ field (value x)
@@ -159,7 +117,7 @@ field_is x e =
     let p = pick_both (eqb (length x) 11) _ e in
     let q = pick_both (leb (value x) 4294967295) _ p.1 in
     let b : value x ≤ 4294967295 = leb-true (value x) 4294967295 q.0 in
-    record { text = same_equal x (field (value x)) q.1; small = omega arith }
+    record { text = (bytes_eq-Decides x (field (value x))).0 q.1; small = omega arith }
 
 -- a field has no line feed in it
 abbrev pub NoFeed : List ℕ → Type 0

@@ -2,18 +2,21 @@
 -- Assumes nothing.
 use Prim.Native.Nat.{ℕ, zero, suc, ◌+◌, ◌*◌, ◌-◌, ◌≤◌, ◌<◌}
 use mathlib.Core.Path.{◌≡◌, refl, sym, ap, ◌∙◌, subst, subst⁻¹}
-use mathlib.Core.List.{List, [], ◌∷◌, ◌++◌, append_assoc}
+use mathlib.Core.List.{List, [], ◌∷◌, ◌++◌, append_assoc, append-nil}
 use native.Mathlib.Omega.{arith}
 use native.Mathlib.Numerals.{add-one}
 use native.Mathlib.Nat.{zero-mul, suc-mul, mul-le-mul_right, sub-zero, suc-sub-suc, zero-sub}
 use lib.ListN.{length, get_or, set, take, drop, length-append, length-drop, length-take}
-use lib.Seq.{sets, take_at, drop_at, drop-drop, take-nil, take-take}
+use lib.Seq.{sets, take_all, take_at, drop_at, drop-drop, take-nil, take-take}
+use borrow.Rule.Slice.PartMut.{put_mid}
+use Rattle.std.proofs.Math.Seq.{take-suc-set}
+use Rattle.sheet.proofs.Lists.{put_mid_sets}
 use Rattle.sheet.proofs.KindLaws.{base_fits}
 use Rattle.sheet.specs.Kinds.{kinds, fields, limit, width, base, cell_count}
 use Rattle.sheet.specs.Field.{value}
 use Rattle.sheet.specs.Sheet.{fields_text, line_text, line, lines_text, text_from, render, Small, IsRow, AreRows}
 use Rattle.sheet.specs.Refusal.{numbers, row_of, verdict, sheet_of}
-use Rattle.sheet.specs.declared.check.Verdict.TheVariants.{Sound}
+use Rattle.std.specs.Prelude.{Ok}
 use Rattle.sheet.proofs.SoundLaws.{sound_sheet}
 use Rattle.sheet.specs.Lines.{AreLines, rows_of, Readable, fields_at}
 use Rattle.sheet.specs.Cells.{place, column, stored_columns, stored_kinds, stored}
@@ -27,24 +30,29 @@ module _ (text : List ℕ) (p step count i : ℕ) (h : i < count) where
   pub readable_more : Readable text p step (count - i) → Readable text p step (suc (count - (i + 1)))
   readable_more r = subst (Readable text p step) less r
 
-  pub fill_step : (cells whole : List ℕ) (place n w : ℕ) → w ≡ 11 → n ≡ value (take w (drop p text))
-      → sets cells (place + i) (fields_at text p step (count - i)) ≡ whole
-      → sets (set cells (place + i) n) (place + (i + 1)) (fields_at text (p + step) step (count - (i + 1))) ≡ whole
+  pub fill_step : (column whole : List ℕ) (n w : ℕ) → w ≡ 11 → i < length column → n ≡ value (take w (drop p text))
+      → take i column ++ fields_at text p step (count - i) ≡ whole
+      → take (i + 1) (set column i n) ++ fields_at text (p + step) step (count - (i + 1)) ≡ whole
   unfolding fields_at
-  fill_step cells whole place n w e v q =
+  fill_step column whole n w e in_column v q =
       let m : n ≡ value (take 11 (drop p text)) = v ∙ ap (λ (j : ℕ). value (take j (drop p text))) e in
-      let t : place + (i + 1) ≡ suc (place + i) = omega arith in
-      let r : sets cells (place + i) (fields_at text p step (suc (count - (i + 1)))) ≡ whole =
-      subst (λ (j : ℕ). sets cells (place + i) (fields_at text p step j) ≡ whole) less q in
-      ap (λ (j : ℕ). sets (set cells (place + i) n) j (fields_at text (p + step) step (count - (i + 1)))) t
-      ∙ ap (λ (d : ℕ). sets (set cells (place + i) d) (suc (place + i)) (fields_at text (p + step) step (count - (i + 1)))) m
-      ∙ r
+      let rest = fields_at text (p + step) step (count - (i + 1)) in
+      let t : take (i + 1) (set column i n) ≡ take i column ++ (n ∷ []) = ap (λ (j : ℕ). take j (set column i n)) (add-one i) ∙ take-suc-set column i n in_column in
+      ap (λ (x : List ℕ). x ++ rest) t
+      ∙ append_assoc (take i column) (n ∷ []) rest
+      ∙ ap (λ (d : ℕ). take i column ++ d ∷ rest) m
+      ∙ sym (ap (λ (j : ℕ). take i column ++ fields_at text p step j) less)
+      ∙ q
 
-pub fill_end : (text cells whole : List ℕ) (p step count i place : ℕ) → count ≤ i → sets cells place (fields_at text p step (count - i)) ≡ whole → cells ≡ whole
+pub fill_end : (text column whole : List ℕ) (p step count i : ℕ) → length column ≤ i → count ≤ i → take i column ++ fields_at text p step (count - i) ≡ whole
+    → column ≡ whole
 unfolding fields_at
-fill_end text cells whole p step count i place h q =
+fill_end text column whole p step count i g h q =
     let z : count - i ≡ 0 = omega arith in
-    subst (λ (j : ℕ). sets cells place (fields_at text p step j) ≡ whole) z q
+    sym (append-nil column)
+    ∙ ap (λ (x : List ℕ). x ++ []) (sym (take_all i column g))
+    ∙ sym (ap (λ (j : ℕ). take i column ++ fields_at text p step j) z)
+    ∙ q
 
 -- a part of the front of a list is a part of the list
 pub drop_take : (j w : ℕ) (x : List ℕ) → drop j (take w x) ≡ take (w - j) (drop j x)
@@ -183,11 +191,14 @@ module _ (k n w most first : ℕ) (t : Entries k n w most first) (c : ℕ) (h : 
       subst (λ (j : ℕ). first + c * j + count ≤ cell_count) (sym t.limit_is)
       (place_fits first (fields k) (limit k) c count cell_count (omega (arith, t.fields_are)) l (omega (arith, t.base_is, base_fits k t.is_kind)))
 
-  pub column_stored : (cells after : List ℕ) → after ≡ sets cells (first + c * most) (fields_at text (at + 1 + 11 * c) w count)
-      → after ≡ sets cells (place k c) (column c (rows_of k count (drop at text)))
+  pub column_stored : (cells part : List ℕ) (from m z : ℕ) → from ≡ first + c * most → m ≡ count → z ≡ count → from + count ≤ length cells
+      → length part ≡ z → part ≡ fields_at text (at + 1 + 11 * c) w z
+      → put_mid from m cells part ≡ sets cells (place k c) (column c (rows_of k count (drop at text)))
   unfolding place
-  column_stored cells after e =
-      e
+  column_stored cells part from m z f p q inside long e =
+      put_mid_sets cells part from m (omega arith) (omega arith)
+      ∙ ap (λ (j : ℕ). sets cells j part) f
+      ∙ ap (sets cells (first + c * most)) (e ∙ ap (fields_at text (at + 1 + 11 * c) w) q)
       ∙ ap (λ (j : ℕ). sets cells (first + c * most) (fields_at text (at + 1 + 11 * c) j count)) t.width_is
       ∙ ap (λ (j : ℕ). sets cells (j + c * most) (fields_at text (at + 1 + 11 * c) (width k) count)) t.base_is
       ∙ ap (λ (j : ℕ). sets cells (base k + c * j) (fields_at text (at + 1 + 11 * c) (width k) count)) t.limit_is
@@ -201,7 +212,7 @@ pub record Left (text cells₀ cells : List ℕ) (at k : ℕ) : Type 0 where
   pub rest : drop at text ≡ text_from (sheet_of text) k (kinds - k)
   pub left : stored_kinds (sheet_of text) k (kinds - k) cells ≡ stored (sheet_of text) cells₀
 
-module _ (text : List ℕ) (sound : verdict text ≡ Sound) where
+module _ (text : List ℕ) (sound : verdict text ≡ Ok tt) where
   pub left_all : (cells : List ℕ) → Left text cells cells 0 0
   unfolding stored render
   left_all cells = record { known = omega arith; inside = omega arith; same = refl; rest = sym (sound_sheet text sound).same; left = refl }

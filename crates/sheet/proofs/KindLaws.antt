@@ -9,40 +9,17 @@ use native.Mathlib.Nat.{eq-or-lt_of_le, le_of_suc-le-suc}
 use native.Mathlib.Decide.{dec_lt}
 use native.Mathlib.Omega.{arith}
 use lib.Dec.{T, eqb, leb}
-use lib.ListN.{length, get_or, drop, get_or-eq_default}
-use lib.Seq.{drop-cons}
-use borrow.Author.Tests.{eq-eqb, ne_eqb, eqb-true, eqb-false, leb-true, not-true}
+use lib.ListN.{length, get_or, get_or-eq_default}
+use borrow.Author.Tests.{eqb-true, eqb-false, leb-true, not-true}
 use Rattle.sheet.specs.declared.kinds.Asked.{Asked}
 use Rattle.sheet.specs.declared.kinds.Asked.TheVariants.{ExactlyOne, AtMostOne, Any}
 use Rattle.sheet.specs.declared.kinds.Kind.{Kind}
-use Rattle.sheet.specs.Kinds.{pick, kind, kind_table, kinds, kind_at, letter, fields, limit, is_once, once, is_needed, needed, width, position, kind_of}
+use Rattle.sheet.specs.Kinds.{pick, kind, kind_table, kinds, kind_at, letter, fields, limit, is_once, once, is_needed, needed, width, kind_of}
 use Rattle.sheet.specs.Kinds.{widest_to, widest, base, cell_count, lines_to, most_lines}
 
 -- far above every entry of the table
 abbrev entry_bound : ℕ
 entry_bound = 65536
-
-pub position_here : (c k : ℕ) → k < kinds → letter k ≡ c → kind_of c ≡ k + position c (drop k kind_table) → k ≡ kind_of c
-unfolding position letter kind_at
-position_here c k h e p =
-    let q : position c (drop k kind_table) ≡ 0 = rw (drop-cons kind_table k (kind 0 0 0 Any) h, eq-eqb (get_or kind_table k (kind 0 0 0 Any)).letter c e) in
-    omega arith
-
-pub position_step : (c k : ℕ) → k < kinds → (letter k ≡ c → ⊥) → kind_of c ≡ k + position c (drop k kind_table)
-    → kind_of c ≡ k + 1 + position c (drop (k + 1) kind_table)
-unfolding position letter kind_at
-position_step c k h e p =
-    let y : k + 1 ≡ suc k = omega arith in
-    let q : position c (drop k kind_table) ≡ suc (position c (drop (suc k) kind_table)) =
-    rw (drop-cons kind_table k (kind 0 0 0 Any) h, ne_eqb (get_or kind_table k (kind 0 0 0 Any)).letter c e) in
-    subst (λ (j : ℕ). kind_of c ≡ j + position c (drop j kind_table)) (sym y) (omega arith)
-
-pub position_past : (c k : ℕ) → k ≤ kinds → kinds ≤ k → kind_of c ≡ k + position c (drop k kind_table) → kinds ≡ kind_of c
-unfolding position
-position_past c k a b p =
-    let e : k ≡ kinds = omega arith in
-    let q : kind_of c ≡ kinds + position c (drop kinds kind_table) = subst (λ (j : ℕ). kind_of c ≡ j + position c (drop j kind_table)) e p in
-    omega arith
 
 -- a test that holds of each number below n, which antt computes
 abbrev pub all_below : ℕ → (ℕ → Bool) → Bool
@@ -59,7 +36,7 @@ all_at zero f t k h = absurd (omega arith)
 all_at (suc n) f t k h = all_by n f k h (f n) refl t (λ u. all_at n f u k)
 
 pub letter_kind : (k : ℕ) → k < kinds → kind_of (letter k) ≡ k
-unfolding kind_of letter kind_at position
+unfolding kind_of letter kind_at
 letter_kind k h = eqb-true (kind_of (letter k)) k (all_at kinds (λ j. eqb (kind_of (letter j)) j) tt k h)
 
 pub letter_no_feed : (k : ℕ) → k < kinds → letter k ≡ 10 → ⊥

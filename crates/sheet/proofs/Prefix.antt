@@ -12,10 +12,9 @@ use lib.Seq.{take_all, take-take, get_or-take, length-take-le, get_or-set_same, 
 use Rattle.sheet.specs.Kinds.{kinds, kind_at, fields, limit, width, widest, kind_of, bytes, longest_text}
 use Rattle.sheet.specs.Sheet.{lines_text, Sheet, text_from, render, IsSheet}
 use Rattle.sheet.specs.Refusal.{verdict, sheet_of}
-use Rattle.sheet.specs.Next.{next_at}
-use Rattle.sheet.specs.declared.check.Verdict.TheVariants.{Sound}
-use Rattle.sheet.specs.declared.check.Next.{Next}
-use Rattle.sheet.specs.declared.check.Next.TheVariants.{Line, Bad}
+use Rattle.sheet.specs.Next.{line_to, next_at}
+use Rattle.std.specs.Prelude.{Option, Some, None, Ok}
+use Rattle.sheet.specs.declared.check.Line.{Line}
 use Rattle.sheet.proofs.KindLaws.{split, width_most, widest_two}
 use Rattle.sheet.proofs.SoundLaws.{sound_sheet}
 use Rattle.sheet.proofs.FillLaws.{lines_length}
@@ -99,7 +98,7 @@ module _ (s : Sheet) (is : IsSheet s) where
       )
 
 -- a text that is a sheet within the limits has no more
-pub sheet_short : (text : List ℕ) → verdict text ≡ Sound → length text ≤ longest_text
+pub sheet_short : (text : List ℕ) → verdict text ≡ Ok tt → length text ≤ longest_text
 unfolding render bytes longest_text
 sheet_short text e =
     let t = sound_sheet text e in
@@ -144,7 +143,7 @@ module _ (text : List ℕ) (n : ℕ) (long : longest_text + widest ≤ n) (longe
       same : next_at front at lines m ≡ next_at text at lines m
       same = line_same text at n lines m (omega (arith, low))
 
-      count : (k e : ℕ) → Line k e ≡ next_at text at lines m → (get_or counts k 0 < limit k) ⊎ (limit k ≤ get_or counts k 0) → Same fuel
+      count : (k e : ℕ) → Some (line_to k e) ≡ next_at text at lines m → (get_or counts k 0 < limit k) ⊎ (limit k ≤ get_or counts k 0) → Same fuel
           → verdict front ≡ verdict text
       count k e q (inr h) later =
           next_many front counts lines m at v b k e (next_good front counts lines m at v b k e (q ∙ sym same)) h
@@ -162,9 +161,9 @@ module _ (text : List ℕ) (n : ℕ) (long : longest_text + widest ≤ n) (longe
           ))
           (omega (arith, good_moved text lines m at k e g))
 
-      by : (x : Next) → x ≡ next_at text at lines m → Same fuel → verdict front ≡ verdict text
-      by Bad q later = next_bad front counts lines m at v b (q ∙ sym same) ∙ sym (next_bad text counts lines m at u a q)
-      by (Line k e) q later = count k e q (split (get_or counts k 0) (limit k)) later
+      by : (x : Option Line) → x ≡ next_at text at lines m → Same fuel → verdict front ≡ verdict text
+      by None q later = next_bad front counts lines m at v b (q ∙ sym same) ∙ sym (next_bad text counts lines m at u a q)
+      by (Some l) q later = count l.kind l.end q (split (get_or counts l.kind 0) (limit l.kind)) later
 
 -- the front of a text decides it
 pub front_decides : (text : List ℕ) (n : ℕ) → longest_text + widest ≤ n → verdict (take n text) ≡ verdict text

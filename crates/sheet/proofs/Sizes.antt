@@ -3,13 +3,13 @@
 use Prim.Native.Nat.{◌+◌, ◌≤◌}
 use mathlib.Core.Path.{◌≡◌, refl}
 use borrow.Author.Tests.{leb-true}
-use Rattle.sheet.specs.Kinds.{kind_p, kind_b, kind_v, kind_s, kind_u, kind_w, kind_e, kind_f, kinds, kind_at, fields, limit, width, widest_to, widest, position}
+use Rattle.sheet.specs.Kinds.{kind_p, kind_b, kind_v, kind_s, kind_u, kind_w, kind_e, kind_f, kinds, kind_at, fields, limit, width, widest_to, widest}
 use Rattle.sheet.specs.Kinds.{kind_of, base, cell_count, lines_to, most_lines, bytes, longest_text}
 
 -- each name is the place of its letter: P B V S U W E F
 pub names_are : (kind_of 80 ≡ kind_p) × (kind_of 66 ≡ kind_b) × (kind_of 86 ≡ kind_v) × (kind_of 83 ≡ kind_s)
     × (kind_of 85 ≡ kind_u) × (kind_of 87 ≡ kind_w) × (kind_of 69 ≡ kind_e) × (kind_of 70 ≡ kind_f)
-unfolding kind_of position
+unfolding kind_of
 names_are = (refl, refl, refl, refl, refl, refl, refl, refl)
 
 -- kinds, cells, lines, and the bytes of the longest sheet and of the longest line

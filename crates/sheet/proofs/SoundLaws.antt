@@ -12,10 +12,9 @@ use lib.Dec.{eqb, ltb}
 use borrow.Author.Tests.{eq-eqb, ne_eqb, eqb-true, ltb-true}
 use Rattle.sheet.specs.Kinds.{pick, kinds, limit, once, needed}
 use Rattle.sheet.specs.Sheet.{line, lines_text, Sheet, text_from, render, IsRow, AreRows, IsSheet, Within}
-use Rattle.sheet.specs.Refusal.{join_first, lines_of, is_line, kind_of_line, latest, of_kind, is_in_order, fault, judged, verdict_below, verdict, row_of, sheet_of}
+use Rattle.sheet.specs.Refusal.{join_first, lines_of, is_line, kind_of_line, latest, of_kind, is_in_order, fault, Verdict, refusal, judged, verdict_below, verdict, row_of, sheet_of}
 use Rattle.sheet.specs.Refusal.{open_kind, none_needed, is_complete}
-use Rattle.sheet.specs.declared.check.Verdict.{Verdict}
-use Rattle.sheet.specs.declared.check.Verdict.TheVariants.{Sound, Refused}
+use Rattle.std.specs.Prelude.{Ok}
 use Rattle.sheet.proofs.KindLaws.{split, needed_once}
 use Rattle.sheet.proofs.FieldLaws.{not_both}
 use Rattle.sheet.proofs.LineLaws.{LineIs, line_is}
@@ -36,7 +35,7 @@ abbrev pub Whole : List (List ℕ) → List (List ℕ) → Type 0
 Whole above [] = is_complete (length above) (latest above) ≡ true
 Whole above (l ∷ ls) = Passes above l × Whole (above ++ (l ∷ [])) ls
 
-pub pass_sound : (ls above : List (List ℕ)) → Whole above ls → verdict_below above ls ≡ Sound
+pub pass_sound : (ls above : List (List ℕ)) → Whole above ls → verdict_below above ls ≡ Ok tt
 unfolding verdict_below
 pass_sound [] above p = rw p
 pass_sound (l ∷ ls) above p = passed above l ls (kind_of_line l) refl p.0.good p.0.order p.0.room ∙ pass_sound ls (above ++ (l ∷ [])) p.1
@@ -54,15 +53,15 @@ fault_none above l e =
     (ltb (length (of_kind (kind_of_line l) above)) (limit (kind_of_line l))) e in
     record { good = p.0; order = p.1; room = ltb-true (length (of_kind (kind_of_line l) above)) (limit (kind_of_line l)) p.2 }
 
-judged_sound : (n place : ℕ) (v : Verdict) → judged n place v ≡ Sound → (n ≡ 0) × (v ≡ Sound)
+judged_sound : (n place : ℕ) (v : Verdict) → judged n place v ≡ Ok tt → (n ≡ 0) × (v ≡ Ok tt)
 judged_sound zero place v e = (refl, e)
 judged_sound (suc n) place v e = let z : ◌≡◌ {A = ℕ} 0 1 = cc in absurd (omega arith)
 
-complete_by : (b : Bool) (n : ℕ) → pick b Sound (Refused 14 n) ≡ Sound → b ≡ true
+complete_by : (b : Bool) (n : ℕ) → pick b (Ok tt) (refusal 14 n) ≡ Ok tt → b ≡ true
 complete_by true n e = refl
 complete_by false n e = let z : ◌≡◌ {A = ℕ} 0 1 = cc in absurd (omega arith)
 
-pub sound_pass : (ls above : List (List ℕ)) → verdict_below above ls ≡ Sound → Whole above ls
+pub sound_pass : (ls above : List (List ℕ)) → verdict_below above ls ≡ Ok tt → Whole above ls
 unfolding verdict_below
 sound_pass [] above e = complete_by (is_complete (length above) (latest above)) (length above + 1) e
 sound_pass (l ∷ ls) above e =
@@ -301,7 +300,7 @@ pub record IsText (text : List ℕ) (s : Sheet) : Type 0 where
   pub sheet : IsSheet s
   pub within : Within s
 
-pub sound_sheet : (text : List ℕ) → verdict text ≡ Sound → IsText text (sheet_of text)
+pub sound_sheet : (text : List ℕ) → verdict text ≡ Ok tt → IsText text (sheet_of text)
 unfolding render sheet_of of_kind
 sound_sheet text e =
     let ls = lines_of text in

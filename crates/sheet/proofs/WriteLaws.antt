@@ -11,13 +11,11 @@ use mathlib.Core.Bool.{true, false}
 use borrow.Author.Tests.{lt-ltb, le-ltb}
 use Rattle.sheet.specs.Field.{digit_or_blank, digits, field}
 use Rattle.sheet.specs.Sheet.{fields_text, line_text}
-use Rattle.sheet.specs.Answer.{end_text, ends_text, weights_text, figures_text, answer_text, Wrote}
-use Rattle.sheet.specs.declared.write.End.{End}
-use Rattle.sheet.specs.declared.write.End.TheVariants.{At, Absent}
+use Rattle.sheet.specs.Answer.{no_room, end_text, ends_text, weights_text, figures_text, answer_text, Wrote}
+use Rattle.std.specs.Prelude.{Option, Some, None, Ok, Err}
 use Rattle.sheet.specs.declared.write.Figures.{Figures}
 use Rattle.sheet.specs.declared.write.Answer.{Answer}
 use Rattle.sheet.specs.declared.write.Answer.TheVariants.{Proposal, NoneOf, Refused}
-use Rattle.sheet.specs.declared.write.Written.TheVariants.{Bytes, NoRoom}
 use Rattle.sheet.proofs.Lists.{drop_next, sets_append}
 use Rattle.sheet.proofs.FieldLaws.{field_length}
 
@@ -46,7 +44,7 @@ blank_end : digits 10 0 ≡ replicate 10 32
 unfolding digits digit_or_blank
 blank_end = refl
 
-pub end_absent : (out : List ℕ) (at : ℕ) → set (sets out at (field 0)) (at + 10) 45 ≡ sets out at (end_text Absent)
+pub end_absent : (out : List ℕ) (at : ℕ) → set (sets out at (field 0)) (at + 10) 45 ≡ sets out at (end_text None)
 unfolding field end_text
 end_absent out at =
     ap (λ (b : List ℕ). set (sets out at (b ++ (48 ∷ []))) (at + 10) 45) blank_end
@@ -54,21 +52,13 @@ end_absent out at =
     ∙ set-set (sets out at (replicate 10 32)) (at + 10) 48 45
     ∙ sets_append (replicate 10 32) (45 ∷ []) out at
 
-pub end_length : (e : End) → length (end_text e) ≡ 11
+pub end_length : (e : Option ℕ) → length (end_text e) ≡ 11
 unfolding end_text
-end_length (At n) = field_length n
-end_length Absent = refl
+end_length (Some n) = field_length n
+end_length None = refl
 
 -- the texts that the code puts together
-pub one_text : (c n : ℕ) → ((c ∷ []) ++ field n) ++ (10 ∷ []) ≡ line_text c (n ∷ [])
-unfolding line_text fields_text
-one_text c n = simp (append_assoc, append-nil)
-
-pub two_text : (c n p : ℕ) → (((c ∷ []) ++ field n) ++ field p) ++ (10 ∷ []) ≡ line_text c (n ∷ p ∷ [])
-unfolding line_text fields_text
-two_text c n p = simp (append_assoc, append-nil)
-
-pub ends_text_lem : (left right : End) → ((81 ∷ []) ++ end_text left) ++ end_text right ≡ ends_text left right
+pub ends_text_lem : (left right : Option ℕ) → ((81 ∷ []) ++ end_text left) ++ end_text right ≡ ends_text left right
 unfolding ends_text
 ends_text_lem left right = simp append_assoc
 
@@ -76,7 +66,7 @@ pub weights_text_lem : (a b c d : ℕ) → (((field a ++ field b) ++ field c) ++
 unfolding weights_text fields_text
 weights_text_lem a b c d = simp (append_assoc, append-nil)
 
-pub ends_length : (left right : End) → length (ends_text left right) ≡ 23
+pub ends_length : (left right : Option ℕ) → length (ends_text left right) ≡ 23
 unfolding ends_text
 ends_length left right = simp length-append (omega (arith, end_length left, end_length right))
 
@@ -89,12 +79,12 @@ unfolding line_text fields_text
 line_length_one c n = simp (length-append, field_length)
 
 -- what was written, by the room that there was
-pub wrote_none : (text before : List ℕ) (m : ℕ) → length text ≡ m → length before < m → Wrote text before before NoRoom
+pub wrote_none : (text before : List ℕ) (m : ℕ) → length text ≡ m → length before < m → Wrote text before before (Err no_room)
 wrote_none text before m e h =
     let t : ltb (length before) (length text) ≡ true = lt-ltb (length before) (length text) (omega arith) in
     record { answer = rw t; bytes = rw t }
 
-pub wrote_all : (text before after : List ℕ) (m : ℕ) → length text ≡ m → m ≤ length before → after ≡ sets before 0 text → Wrote text before after (Bytes m)
+pub wrote_all : (text before after : List ℕ) (m : ℕ) → length text ≡ m → m ≤ length before → after ≡ sets before 0 text → Wrote text before after (Ok m)
 wrote_all text before after m e h q =
     let t : ltb (length before) (length text) ≡ false = le-ltb (length before) (length text) (omega arith) in
     let z : 0 + length text ≡ length text = omega arith in

@@ -1,24 +1,21 @@
 -- An answer's text: Q and H of a proposal, N of none, R of a refusal.
 -- Assumes nothing.
-use Rattle.std.specs.Prelude.{ℕ, ◌≡◌, List, [], ◌∷◌, ◌++◌, length, drop, replicate, ltb}
+use Rattle.std.specs.Prelude.{ℕ, ◌≡◌, List, [], ◌∷◌, ◌++◌, length, drop, replicate, ltb, Option, Some, None, Result, Ok, Err}
 use Rattle.sheet.specs.Kinds.{pick}
 use Rattle.sheet.specs.Field.{field}
 use Rattle.sheet.specs.Sheet.{fields_text, line_text}
-use Rattle.sheet.specs.declared.write.End.{End}
-use Rattle.sheet.specs.declared.write.End.TheVariants.{At, Absent}
 use Rattle.sheet.specs.declared.write.Figures.{Figures}
 use Rattle.sheet.specs.declared.write.Answer.{Answer}
 use Rattle.sheet.specs.declared.write.Answer.TheVariants.{Proposal, NoneOf, Refused}
-use Rattle.sheet.specs.declared.write.Written.{Written}
-use Rattle.sheet.specs.declared.write.Written.TheVariants.{Bytes, NoRoom}
+use Rattle.sheet.specs.declared.write.NoRoom.{NoRoom}
 
--- an end: an instruction, or `-` in the last column where it is absent
-unfoldable pub end_text : End → List ℕ
-end_text (At n) = field n
-end_text Absent = replicate 10 32 ++ (45 ∷ [])
+-- an end: an instruction, or `-` in the last column where there is none
+unfoldable pub end_text : Option ℕ → List ℕ
+end_text (Some n) = field n
+end_text None = replicate 10 32 ++ (45 ∷ [])
 
 -- the letter Q and both ends
-unfoldable pub ends_text : End → End → List ℕ
+unfoldable pub ends_text : Option ℕ → Option ℕ → List ℕ
 ends_text left right = 81 ∷ end_text left ++ end_text right
 
 -- use weight, live instructions, interference weight and split cost, and the line's end
@@ -37,7 +34,11 @@ answer_text (Proposal f) = figures_text f
 answer_text (NoneOf kind) = line_text 78 (kind ∷ [])
 answer_text (Refused number place) = line_text 82 (number ∷ place ∷ [])
 
--- a text that is written to the front of a buffer, which is left as it was where it is too short
-pub record Wrote (text before after : List ℕ) (w : Written) : Type 0 where
-  pub answer : w ≡ pick (ltb (length before) (length text)) NoRoom (Bytes (length text))
+-- a buffer is too short
+abbrev pub no_room : NoRoom
+no_room = record {}
+
+-- a text that is written to the front of a buffer, which is left as it was where it is too short; how many bytes it has is answered
+pub record Wrote (text before after : List ℕ) (w : Result ℕ NoRoom) : Type 0 where
+  pub answer : w ≡ pick (ltb (length before) (length text)) (Err no_room) (Ok (length text))
   pub bytes : after ≡ pick (ltb (length before) (length text)) before (text ++ drop (length text) before)

@@ -1,12 +1,13 @@
 -- Where the numbers of a sheet are kept: one cell a number, column by column.
 -- Assumes nothing.
-use Rattle.std.specs.Prelude.{ℕ, zero, suc, ◌+◌, ◌*◌, ◌≡◌, List, [], ◌∷◌, map, length, get_or, ltb}
+use Rattle.std.specs.Prelude.{ℕ, zero, suc, ◌+◌, ◌*◌, ◌≡◌, List, [], ◌∷◌, map, length, get_or, ltb, Result, Ok, Err, IfOk}
+use Rattle.std.specs.Result.{result_map_both}
 use Rattle.std.proofs.lemmas.List.Edits.{sets}
 use Rattle.sheet.specs.Kinds.{pick, kinds, fields, limit, base, cell_count}
 use Rattle.sheet.specs.Sheet.{Sheet}
-use Rattle.sheet.specs.Refusal.{verdict, sheet_of, Counted}
-use Rattle.sheet.specs.declared.check.Verdict.{Verdict}
-use Rattle.sheet.specs.declared.check.Verdict.TheVariants.{Sound, Refused, NoRoom}
+use Rattle.sheet.specs.Refusal.{Verdict, verdict, sheet_of, Counted, said}
+use Rattle.sheet.specs.declared.fill.ReadError.{ReadError}
+use Rattle.sheet.specs.declared.fill.ReadError.TheVariants.{Refused, NoRoom}
 
 -- where column c of kind k starts: each column has as many cells as the kind's limit
 unfoldable pub place : ℕ → ℕ → ℕ
@@ -34,17 +35,20 @@ stored_kinds s k (suc n) cells = stored_kinds s (suc k) n (stored_columns k (s k
 unfoldable pub stored : Sheet → List ℕ → List ℕ
 stored s cells = stored_kinds s 0 kinds cells
 
--- the cells after a reading, by its verdict: only a sound one stores
-unfoldable pub cells_after : Verdict → Sheet → List ℕ → List ℕ
-cells_after Sound s cells = stored s cells
-cells_after (Refused n p) s cells = cells
-cells_after NoRoom s cells = cells
+-- the cells after a reading, by what it answers: only where the text is read are they stored
+unfoldable pub cells_after : Result (List ℕ) ReadError → Sheet → List ℕ → List ℕ
+cells_after (Ok counts) s cells = stored s cells
+cells_after (Err e) s cells = cells
 
--- a reading: too few cells are no room, whatever the text; else the verdict is the text's
-pub record Read (text before after : List ℕ) (v : Verdict) (counts : List ℕ) : Type 0 where
-  pub answer : v ≡ pick (ltb (length before) cell_count) NoRoom (verdict text)
-  pub cells : after ≡ cells_after v (sheet_of text) before
-  pub counted : Counted text v counts
+-- the verdict on a text as a reading has it
+abbrev pub as_read : Verdict → Result (Unit {0}) ReadError
+as_read v = result_map_both (λ u. u) Refused v
+
+-- a reading: too few cells are no room, whatever the text; else the verdict is the text's, and the counts are its own
+pub record Read (text before after : List ℕ) (r : Result (List ℕ) ReadError) : Type 0 where
+  pub answer : said r ≡ pick (ltb (length before) cell_count) (Err NoRoom) (as_read (verdict text))
+  pub cells : after ≡ cells_after r (sheet_of text) before
+  pub counted : IfOk r (Counted text)
 
 -- the sheet that the cells hold, by the counts: number c of row i of kind k is the cell i of column c
 unfoldable pub held_row : List ℕ → ℕ → ℕ → ℕ → ℕ → List ℕ

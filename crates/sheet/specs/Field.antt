@@ -1,6 +1,7 @@
 -- A field: a number right-justified in 11 columns, and the number that a field's bytes make.
 -- Assumes nothing.
-use Rattle.std.specs.Prelude.{ℕ, zero, suc, ◌+◌, ◌*◌, ◌-◌, ◌/◌, ◌%◌, Bool, true, false, List, [], ◌∷◌, ◌++◌, length, eqb, leb}
+use Rattle.std.specs.Prelude.{ℕ, zero, suc, ◌+◌, ◌*◌, ◌-◌, ◌/◌, ◌%◌, Bool, false, List, [], ◌∷◌, ◌++◌, length, eqb, leb}
+use Rattle.std.specs.Str.{bytes_eq}
 use Rattle.sheet.specs.Kinds.{pick}
 
 -- the last digit of what is left of a number, a blank where nothing is left: no leading zeros
@@ -24,13 +25,6 @@ value_behind n (c ∷ cs) = value_behind (n * 10 + (c - 48)) cs
 unfoldable pub value : List ℕ → ℕ
 value cs = value_behind 0 cs
 
--- two texts are the same, byte for byte
-unfoldable pub same_text : List ℕ → List ℕ → Bool
-same_text [] [] = true
-same_text [] (y ∷ ys) = false
-same_text (x ∷ xs) [] = false
-same_text (x ∷ xs) (y ∷ ys) = pick (eqb x y) (same_text xs ys) false
-
 -- a text is a field: it has 11 columns, the number that they make is unsigned 32-bit, and the text is that number's
 unfoldable pub is_field : List ℕ → Bool
-is_field x = pick (eqb (length x) 11) (pick (leb (value x) 4294967295) (same_text x (field (value x))) false) false
+is_field x = pick (eqb (length x) 11) (pick (leb (value x) 4294967295) (bytes_eq x (field (value x))) false) false

@@ -1,6 +1,7 @@
 -- The kinds of lines of a sheet: one table. A kind is its place there, and all else about kinds follows from the table.
 -- Assumes nothing.
-use Rattle.std.specs.Prelude.{ℕ, zero, suc, ◌+◌, ◌*◌, max, Bool, true, false, List, [], ◌∷◌, get_or, eqb}
+use Rattle.std.specs.Prelude.{ℕ, zero, suc, ◌+◌, ◌*◌, max, Bool, true, false, cond, List, [], ◌∷◌, get_or, ltb, Option, Some, None, ◌==◌}
+use Rattle.std.specs.List.{position_or_len}
 use Rattle.sheet.specs.declared.kinds.Asked.{Asked}
 use Rattle.sheet.specs.declared.kinds.Asked.TheVariants.{ExactlyOne, AtMostOne, Any}
 use Rattle.sheet.specs.declared.kinds.Kind.{Kind}
@@ -112,14 +113,13 @@ widest_to (suc n) = max (width n) (widest_to n)
 unfoldable pub widest : ℕ
 widest = widest_to kinds
 
--- where a letter first stands among some kinds; how many they are if it does not
-unfoldable pub position : ℕ → List Kind → ℕ
-position c [] = 0
-position c (x ∷ xs) = pick (eqb x.letter c) 0 (suc (position c xs))
-
 -- the kind that a letter names; `kinds` for any other byte
 unfoldable pub kind_of : ℕ → ℕ
-kind_of c = position c kind_table
+kind_of c = position_or_len (λ x. x.letter == c) kind_table
+
+-- a kind, and none for what is past them
+abbrev pub as_kind : ℕ → Option ℕ
+as_kind k = cond (ltb k kinds) (Some k) None
 
 -- where the cells of kind k start: behind those of the kinds before it, each with its fields times its limit
 unfoldable pub base : ℕ → ℕ

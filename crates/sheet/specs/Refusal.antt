@@ -1,11 +1,11 @@
 -- Refusals 14 and 15: the first bad line decides, and on one line 14 comes before 15.
 -- Assumes nothing.
-use Rattle.std.specs.Prelude.{ℕ, zero, suc, ◌+◌, ◌-◌, ◌<◌, ◌≤◌, max, ◌≡◌, Bool, true, false, List, [], ◌∷◌, ◌++◌, map, length, get_or, take, drop, replicate, eqb, leb, ltb}
+use Rattle.std.specs.Prelude.{ℕ, zero, suc, ◌+◌, ◌-◌, ◌<◌, ◌≤◌, max, ◌≡◌, Bool, true, false, List, [], ◌∷◌, ◌++◌, map, length, get_or, take, drop, eqb, leb, ltb, Result, Ok, Err, IfOk}
+use Rattle.std.specs.Result.{result_map_both}
 use Rattle.sheet.specs.Kinds.{pick, kinds, letter, fields, limit, once, needed, width, kind_of}
 use Rattle.sheet.specs.Field.{value, is_field}
 use Rattle.sheet.specs.Sheet.{Sheet}
-use Rattle.sheet.specs.declared.check.Verdict.{Verdict}
-use Rattle.sheet.specs.declared.check.Verdict.TheVariants.{Sound, Refused}
+use Rattle.sheet.specs.declared.check.BadLine.{BadLine}
 
 -- a byte put in front of the first of some lines
 abbrev pub join_first : ℕ → List (List ℕ) → List (List ℕ)
@@ -68,14 +68,21 @@ fault above l =
     (pick (is_in_order (length above) (latest above) (kind_of_line l)) (pick (ltb (length (of_kind (kind_of_line l) above)) (limit (kind_of_line l))) 0 15) 14)
     14
 
+-- what is said of a text: that it is sound, or the refusal of a line
+abbrev pub Verdict : Type 0
+Verdict = Result (Unit {0}) BadLine
+
+abbrev pub refusal : ℕ → ℕ → Verdict
+refusal number line = Err (record { number = number; line = line })
+
 -- a refusal with its place where there is a fault, else what is said of the lines below
 abbrev pub judged : ℕ → ℕ → Verdict → Verdict
 judged zero place v = v
-judged (suc n) place v = Refused (suc n) place
+judged (suc n) place v = refusal (suc n) place
 
 -- the first bad line of some lines below those above them, or the place of one that is missing at the end; lines count from 1
 unfoldable pub verdict_below : List (List ℕ) → List (List ℕ) → Verdict
-verdict_below above [] = pick (is_complete (length above) (latest above)) Sound (Refused 14 (length above + 1))
+verdict_below above [] = pick (is_complete (length above) (latest above)) (Ok tt) (refusal 14 (length above + 1))
 verdict_below above (l ∷ ls) = judged (fault above l) (length above + 1) (verdict_below (above ++ (l ∷ [])) ls)
 
 -- a text's verdict; so of an empty text the missing P is refused, at line 1
@@ -95,13 +102,16 @@ row_of k l = numbers (fields k) (drop 1 l)
 unfoldable pub sheet_of : List ℕ → Sheet
 sheet_of text k = map (row_of k) (of_kind k (lines_of text))
 
--- the counts that come with a verdict: those of a sound text, none where it is refused; each within its limit
-pub record Counted (text : List ℕ) (v : Verdict) (counts : List ℕ) : Type 0 where
-  pub sound : v ≡ Sound → (k : ℕ) → k < kinds → get_or counts k 0 ≡ length (sheet_of text k)
-  pub refused : (v ≡ Sound → ⊥) → counts ≡ replicate kinds 0
+-- how many lines of each kind a text has, each within its limit
+pub record Counted (text counts : List ℕ) : Type 0 where
+  pub rows : (k : ℕ) → k < kinds → get_or counts k 0 ≡ length (sheet_of text k)
   pub within : (k : ℕ) → k < kinds → get_or counts k 0 ≤ limit k
 
--- what a check answers
-pub record Checked (text : List ℕ) (v : Verdict) (counts : List ℕ) : Type 0 where
-  pub answer : v ≡ verdict text
-  pub counted : Counted text v counts
+-- an answer but for its counts
+abbrev pub said : {E : Type 0} → Result (List ℕ) E → Result (Unit {0}) E
+said r = result_map_both (λ counts. tt) (λ e. e) r
+
+-- what a check answers: the counts of a sound text, or the refusal
+pub record Checked (text : List ℕ) (r : Result (List ℕ) BadLine) : Type 0 where
+  pub answer : said r ≡ verdict text
+  pub counted : IfOk r (Counted text)

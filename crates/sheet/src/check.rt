@@ -11,19 +11,11 @@ const BAD_LINE: u32 = 14;
 
 const TOO_MANY: u32 = 15;
 
-// What a text, or a reading, comes to: a number and a line where it is refused; no room where the lent cells are too few.
-#[derive(Clone, Copy)]
-pub enum Verdict {
-    Sound,
-    Refused(u32, u32),
-    NoRoom,
-}
-
-// A verdict, and where it is Sound how many lines of each kind there are.
-#[derive(Clone, Copy)]
-pub struct Reading {
-    pub verdict: Verdict,
-    pub counts: [usize; kinds::KINDS],
+// Why a text is refused: the refusal's number, and the line, counted from 1. The number is no enum: it stands in the text of the answer.
+#[derive(Clone, Copy, Debug, PartialEq, Eq)]
+pub struct BadLine {
+    pub number: u32,
+    pub line: u32,
 }
 
 // Whether n fields stand at the front of a text.
@@ -31,14 +23,12 @@ fn are_fields(s: &[u8], n: usize) -> bool
     requires { 11 * n ≤ length s.now }
     ensures { result ≡ are_fields n s.now }
 {
-    let mut c: usize = 0;
-    while c < n {
+    for c in 0..n {
         let a = 11 * c;
         let e = a + 11;
         if !is_field(&s[a..e]) {
             return false;
         }
-        c += 1;
     }
     true
 }
@@ -80,12 +70,10 @@ fn open_kind(n: usize, m: usize) -> usize
 fn none_needed(a: usize, b: usize) -> bool
     ensures { result ≡ none_needed a (b - a) }
 {
-    let mut k = a;
-    while k < b {
+    for k in a..b {
         if kinds::is_needed(k) {
             return false;
         }
-        k += 1;
     }
     true
 }
@@ -108,71 +96,66 @@ fn is_complete(n: usize, m: usize) -> bool
     none_needed(open_kind(n, m), kinds::KINDS)
 }
 
-// What stands at a place: a line in order, with its kind and where it ends, or none.
-#[derive(Clone, Copy)]
-enum Next {
-    Line(usize, usize),
-    Bad,
+// A line in order: its kind, and where it ends.
+#[derive(Clone, Copy, Debug, PartialEq, Eq)]
+struct Line {
+    kind: usize,
+    end: usize,
 }
 
-// The line at a place, where n lines stand above it, the latest of kind m.
-fn next_line(text: &[u8], at: usize, n: usize, m: usize) -> Next
+// The line at a place, where n lines stand above it, the latest of kind m; none if what stands there is no line in order.
+fn next_line(text: &[u8], at: usize, n: usize, m: usize) -> Option<Line>
     requires { at < length text.now }
     ensures { result ≡ next_at text.now at n m }
 {
-    let k = kinds::kind_of(text[at]);
-    if k >= kinds::KINDS {
-        return Next::Bad;
-    }
-    let w = kinds::width_of(k);
+    let kind = kinds::kind_of(text[at])?;
+    let w = kinds::width_of(kind);
     if text.len() - at < w {
-        return Next::Bad;
+        return None;
     }
-    let e = at + w;
-    if !is_line(&text[at..e], k) {
-        return Next::Bad;
+    let end = at + w;
+    if !is_line(&text[at..end], kind) {
+        return None;
     }
-    if !is_in_order(n, m, k) {
-        return Next::Bad;
+    if !is_in_order(n, m, kind) {
+        return None;
     }
-    Next::Line(k, e)
+    Some(Line { kind, end })
 }
 
-// The verdict on a whole text, and how many lines of each kind it has.
-pub(crate) fn check_text(text: &[u8]) -> Reading
-    ensures { Checked text.now result.verdict result.counts }
+// How many lines of each kind a text has, or why it is refused.
+pub(crate) fn check_text(text: &[u8]) -> Result<[usize; kinds::KINDS], BadLine>
+    ensures { Checked text.now result }
 {
     let mut counts = [0usize; kinds::KINDS];
     let mut lines: u32 = 0;
     let mut latest: usize = 0;
     let mut at: usize = 0;
+    // no count: each line says where the next one begins
     while at < text.len() {
-        let Next::Line(k, e) = next_line(text, at, lines as usize, latest) else {
-            return Reading {
-                verdict: Verdict::Refused(BAD_LINE, lines + 1),
-                counts: [0usize; kinds::KINDS],
-            };
+        let Some(Line { kind, end }) = next_line(text, at, lines as usize, latest) else {
+            return Err(BadLine {
+                number: BAD_LINE,
+                line: lines + 1,
+            });
         };
-        let rows = counts[k];
-        if rows >= kinds::limit_of(k) {
-            return Reading {
-                verdict: Verdict::Refused(TOO_MANY, lines + 1),
-                counts: [0usize; kinds::KINDS],
-            };
+        let rows = counts[kind];
+        if rows >= kinds::limit_of(kind) {
+            return Err(BadLine {
+                number: TOO_MANY,
+                line: lines + 1,
+            });
         }
-        counts[k] = rows + 1;
+        counts[kind] = rows + 1;
         lines += 1;
-        latest = k;
-        at = e;
+        latest = kind;
+        at = end;
     }
     if !is_complete(lines as usize, latest) {
-        return Reading {
-            verdict: Verdict::Refused(BAD_LINE, lines + 1),
-            counts: [0usize; kinds::KINDS],
-        };
+        return Err(BadLine {
+            number: BAD_LINE,
+            line: lines + 1,
+        });
     }
-    Reading {
-        verdict: Verdict::Sound,
-        counts,
-    }
+    Ok(counts)
 }

@@ -1,7 +1,7 @@
 // A field of 11 columns: a number right-justified, with no leading zeros.
 ghost use Rattle.std.specs.Prelude.{◌≡◌, ◌+◌, ◌-◌, ◌≤◌, ◌<◌, length};
 ghost use Rattle.std.proofs.lemmas.List.Edits.{sets};
-ghost use Rattle.sheet.specs.Field.{digit_or_blank, field, value, same_text, is_field};
+ghost use Rattle.sheet.specs.Field.{digit_or_blank, field, value, is_field};
 
 // The columns of a field.
 const COLUMNS: usize = 11;
@@ -10,22 +10,17 @@ const COLUMNS: usize = 11;
 fn digit(c: u8) -> u64
     ensures { result ≡ c - 48 }
 {
-    if c < 48 {
-        return 0;
-    }
-    (c - 48) as u64
+    u64::from(c.saturating_sub(b'0'))
 }
 
-// The number that a field's columns make.
+// The number that a field's columns make. Not std's `parse`: a field has blanks in front.
 pub(crate) fn value_of(s: &[u8]) -> u64
     requires { length s.now ≤ 11 }
     ensures { result ≡ value s.now }
 {
     let mut n: u64 = 0;
-    let mut i: usize = 0;
-    while i < s.len() {
-        n = n * 10 + digit(s[i]);
-        i += 1;
+    for c in s {
+        n = n * 10 + digit(*c);
     }
     n
 }
@@ -40,36 +35,17 @@ fn digit_or_blank(n: u32) -> u8
     b'0' + (n % 10) as u8
 }
 
-// Writes a number into the 11 columns from `at` on.
+// Writes a number into the 11 columns from `at` on. Not by `write!`: the lent bytes are of a fixed length, and a field is filled from its end.
 pub(crate) fn put_number(out: &mut [u8], at: usize, n: u32)
     requires { at + 11 ≤ length out.old }
     ensures { out.new ≡ sets out.old at (field n) }
 {
     out[at + 10] = b'0' + (n % 10) as u8;
     let mut left = n / 10;
-    let mut i: usize = 10;
-    while i > 0 {
-        i -= 1;
+    for i in (0..10).rev() {
         out[at + i] = digit_or_blank(left);
-        left = left / 10;
+        left /= 10;
     }
-}
-
-// Whether two texts are the same.
-pub fn same(a: &[u8], b: &[u8]) -> bool
-    ensures { result ≡ same_text a.now b.now }
-{
-    if a.len() != b.len() {
-        return false;
-    }
-    let mut i: usize = 0;
-    while i < a.len() {
-        if a[i] != b[i] {
-            return false;
-        }
-        i += 1;
-    }
-    true
 }
 
 // Whether a text is a field: it is held against the text of the number that it makes.
@@ -85,5 +61,5 @@ pub(crate) fn is_field(s: &[u8]) -> bool
     }
     let mut text = [0u8; 11];
     put_number(&mut text, 0, n as u32);
-    same(s, &text)
+    s == text.as_slice()
 }

@@ -5,11 +5,26 @@ ghost use Rattle.sheet.specs.Kinds.{kinds, fields, limit, widest, base, cell_cou
 ghost use Rattle.sheet.specs.Refusal.{verdict, sheet_of};
 ghost use Rattle.sheet.specs.Lines.{AreLines, rows_of, Readable, fields_at};
 ghost use Rattle.sheet.specs.Cells.{column_of, stored_columns, stored, Read};
-ghost use Rattle.sheet.specs.declared.check.Verdict.TheVariants.{Sound};
+ghost use Rattle.sheet.specs.declared.fill.ReadError.TheVariants.{Refused};
 
-use crate::check::{Reading, Verdict, check_text};
+use crate::check::{BadLine, check_text};
 use crate::field::value_of;
 use crate::kinds;
+
+// Why a sheet is not read: its text is refused, or the lent cells are too few.
+#[derive(Clone, Copy, Debug, PartialEq, Eq)]
+pub enum ReadError {
+    Refused(BadLine),
+    NoRoom,
+}
+
+impl From<BadLine> for ReadError {
+    ghost from_gives = { λ b e. e ≡ Refused b };
+
+    fn from(b: BadLine) -> ReadError {
+        ReadError::Refused(b)
+    }
+}
 
 // Where the cells of a kind start: behind those of the kinds before it.
 fn base_of(k: usize) -> usize
@@ -17,10 +32,8 @@ fn base_of(k: usize) -> usize
     ensures { result ≡ base k }
 {
     let mut at: usize = 0;
-    let mut j: usize = 0;
-    while j < k {
+    for j in 0..k {
         at += kinds::fields_of(j) * kinds::limit_of(j);
-        j += 1;
     }
     at
 }
@@ -38,20 +51,17 @@ pub fn column_of(k: usize, c: usize) -> usize
     base_of(k) + c * kinds::limit_of(k)
 }
 
-// Stores one field of each of `count` lines, the first field at `from` and `step` bytes apart, to the cells from `place` on.
-fn fill_column(text: &[u8], cells: &mut [u32], from: usize, step: usize, place: usize, count: usize)
-    requires readable { Readable text.now from step count }
-    requires step_le_widest { (step ≤ widest) × (place + count ≤ length cells.old) }
-    ensures { cells.new ≡ sets cells.old place (fields_at text.now from step count) }
+// Stores one field of each of some lines to the cells of a column, the first field at `from` and `step` bytes apart.
+fn fill_column(text: &[u8], column: &mut [u32], from: usize, step: usize)
+    requires readable { Readable text.now from step (length column.old) }
+    requires step_le_widest { step ≤ widest }
+    ensures { column.new ≡ fields_at text.now from step (length column.old) }
 {
     let mut p = from;
-    let mut i: usize = 0;
-    while i < count {
+    for cell in column.iter_mut() {
         let e = p + 11;
-        let n = value_of(&text[p..e]);
-        cells[place + i] = n as u32;
+        *cell = value_of(&text[p..e]) as u32;
         p += step;
-        i += 1;
     }
 }
 
@@ -65,49 +75,36 @@ fn fill_kind(text: &[u8], cells: &mut [u32], k: usize, at: usize, count: usize)
     let w = kinds::width_of(k);
     let most = kinds::limit_of(k);
     let base = base_of(k);
-    let mut c: usize = 0;
-    while c < n {
-        fill_column(text, cells, at + 1 + 11 * c, w, base + c * most, count);
-        c += 1;
+    for c in 0..n {
+        let from = base + c * most;
+        let to = from + count;
+        fill_column(text, &mut cells[from..to], at + 1 + 11 * c, w);
     }
 }
 
 // Stores every kind of a sound text.
 fn fill_all(text: &[u8], cells: &mut [u32], counts: [usize; kinds::KINDS])
-    requires { (verdict text.now ≡ Sound) ×
+    requires { (verdict text.now ≡ Ok tt) ×
         (cell_count ≤ length cells.old) ×
         ((k : ℕ) → k < kinds → get_or counts k 0 ≡ length (sheet_of text.now k)) }
     ensures { cells.new ≡ stored (sheet_of text.now) cells.old }
 {
     let mut at: usize = 0;
-    let mut k: usize = 0;
-    while k < kinds::KINDS {
-        let count = counts[k];
-        fill_kind(text, cells, k, at, count);
-        at += count * kinds::width_of(k);
-        k += 1;
+    for (k, count) in counts.iter().enumerate() {
+        fill_kind(text, cells, k, at, *count);
+        at += *count * kinds::width_of(k);
     }
 }
 
-// Reads a sheet into the lent cells. The whole text is checked first: a refusal, or too few cells, leaves them as they were.
-pub fn read_sheet(text: &[u8], cells: &mut [u32]) -> Reading
-    ensures { Read text.now cells.old cells.new result.verdict result.counts }
+// Reads a sheet into the lent cells, and answers how many lines of each kind it has. The whole text is checked first: a refusal, or too few
+// cells, leaves them as they were.
+pub fn read_sheet(text: &[u8], cells: &mut [u32]) -> Result<[usize; kinds::KINDS], ReadError>
+    ensures { Read text.now cells.old cells.new result }
 {
     if cells.len() < kinds::cells_needed() {
-        return Reading {
-            verdict: Verdict::NoRoom,
-            counts: [0usize; kinds::KINDS],
-        };
+        return Err(ReadError::NoRoom);
     }
-    let r = check_text(text);
-    let v = r.verdict;
-    match v {
-        Verdict::Sound => {
-            let counts = r.counts;
-            fill_all(text, cells, counts);
-            r
-        }
-        Verdict::Refused(_, _) => r,
-        Verdict::NoRoom => r,
-    }
+    let counts = check_text(text)?;
+    fill_all(text, cells, counts);
+    Ok(counts)
 }

@@ -1,6 +1,7 @@
 // The kinds of lines: one table, in the order of a sheet. A kind is its place there. What adding one takes is in docs/DECISIONS.md.
-ghost use Rattle.std.specs.Prelude.{◌≡◌};
-ghost use Rattle.sheet.specs.Kinds.{kind_at, letter, fields, limit, width, once, needed, kind_of, cell_count};
+ghost use Rattle.std.specs.Prelude.{◌≡◌, ◌==◌};
+ghost use Rattle.std.specs.List.{position};
+ghost use Rattle.sheet.specs.Kinds.{kind_at, letter, fields, limit, width, once, needed, kind_of, as_kind, cell_count};
 
 pub const P: usize = 0;
 
@@ -26,7 +27,7 @@ pub const FEW: usize = 128;
 pub const MANY: usize = 256;
 
 // Whether a sheet has exactly one line of a kind, at most one, or any number up to the kind's limit.
-#[derive(Clone, Copy)]
+#[derive(Clone, Copy, Debug, PartialEq, Eq)]
 pub enum Asked {
     ExactlyOne,
     AtMostOne,
@@ -34,7 +35,7 @@ pub enum Asked {
 }
 
 // A kind: its letter, how many fields a line has, how many lines a sheet may have, and what is asked of their number.
-#[derive(Clone, Copy)]
+#[derive(Clone, Copy, Debug, PartialEq, Eq)]
 pub struct Kind {
     pub letter: u8,
     pub fields: usize,
@@ -125,7 +126,7 @@ fn kind_at(k: usize) -> Kind
     TABLE[k]
 }
 
-// The letter of a kind.
+// The letter of a kind. This and its like read one field each of the table's row: one function that is told which would be no plainer.
 pub(crate) fn letter_of(k: usize) -> u8
     ensures { result ≡ letter k }
 {
@@ -157,10 +158,8 @@ pub(crate) fn limit_of(k: usize) -> usize
 pub(crate) fn is_once(k: usize) -> bool
     ensures { result ≡ once k }
 {
-    let asked = kind_at(k).asked;
-    match asked {
-        Asked::ExactlyOne => true,
-        Asked::AtMostOne => true,
+    match kind_at(k).asked {
+        Asked::ExactlyOne | Asked::AtMostOne => true,
         Asked::Any => false,
     }
 }
@@ -169,24 +168,22 @@ pub(crate) fn is_once(k: usize) -> bool
 pub(crate) fn is_needed(k: usize) -> bool
     ensures { result ≡ needed k }
 {
-    let asked = kind_at(k).asked;
-    match asked {
+    match kind_at(k).asked {
         Asked::ExactlyOne => true,
-        Asked::AtMostOne => false,
-        Asked::Any => false,
+        Asked::AtMostOne | Asked::Any => false,
     }
 }
 
-// The kind that a letter names, or KINDS.
-pub(crate) fn kind_of(c: u8) -> usize
-    ensures { result ≡ kind_of c }
+// Where a letter first stands among some kinds.
+fn place_of(kinds: &[Kind], c: u8) -> Option<usize>
+    ensures { result ≡ position (λ x. x.letter == c) kinds.now }
 {
-    let mut k: usize = 0;
-    while k < KINDS {
-        if letter_of(k) == c {
-            return k;
-        }
-        k += 1;
-    }
-    KINDS
+    kinds.iter().position(|kind| kind.letter == c)
+}
+
+// The kind that a letter names.
+pub(crate) fn kind_of(c: u8) -> Option<usize>
+    ensures { result ≡ as_kind (kind_of c) }
+{
+    place_of(&TABLE, c)
 }

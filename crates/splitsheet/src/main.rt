@@ -6,41 +6,81 @@
 // (proofs/Rooms.antt there). What is read and written is not proved; the work is done by `answer_sheet`, on slices.
 #![tactic(auto)]
 
-ghost use Rattle.std.specs.Prelude.{◌≤◌, ◌≡◌, length, take};
-
 use answers::answer::answer_sheet;
 use answers::room::{ANSWER_BYTES, TABLE_BYTES, sheet_rooms};
-use sheet::{Written, same};
+use sheet::NoRoom;
+use std::alloc::{AllocError, Global};
 use std::env::{Env, FillError};
 use std::io::{Error, ErrorKind, Read};
 use std::str::from_utf8;
 use std::{fs, io};
 
-// What the arguments ask for: whether the tables are printed, and which argument names the sheet, 0 for standard input. Refused: it was
-// said why not.
-#[derive(Clone, Copy)]
-enum Asked {
-    Sheet(bool, usize),
-    Refused,
+// No more of a text is read.
+const TEXT_BYTES: u64 = 65536;
+
+// No longer argument names a file.
+const NAME_BYTES: usize = 4096;
+
+// What the arguments ask for: whether the tables are printed, and which file holds the sheet; without one standard input does.
+#[derive(Drop)]
+struct Asked {
+    tables: bool,
+    path: Option<Vec<u8>>,
 }
 
-// How many bytes were read, and why reading failed, if it did.
-#[derive(Clone, Copy)]
-struct Got {
-    bytes: usize,
-    failed: Option<Error>,
+// Why nothing is answered, or not all of it is printed. Names are bytes: an argument may be no UTF-8.
+#[derive(Drop)]
+enum Failure {
+    UnknownOption(Vec<u8>),
+    NameTooLong,
+    TooManyArguments,
+    OutOfMemory,
+    File(Vec<u8>, Error),
+    StandardInput(Error),
+    StandardOutput(Error),
 }
 
-// One line on standard error: what is wrong, and with what.
-fn complain(rt: &HostRuntime, what: &[u8], with: &[u8]) {
+impl From<AllocError> for Failure {
+    fn from(_error: AllocError) -> Failure {
+        Failure::OutOfMemory
+    }
+}
+
+impl Failure {
+    // Says on standard error what failed, and why.
+    fn tell(&self, rt: &HostRuntime) {
+        match self {
+            Failure::UnknownOption(word) => complain(rt, b"unknown or second option", word),
+            Failure::NameTooLong => complain(rt, b"SHEET", b"File name too long"),
+            Failure::TooManyArguments => {
+                complain(rt, b"too many arguments", b"splitsheet [--tables] [SHEET]")
+            }
+            Failure::OutOfMemory => complain(rt, b"arguments", b"out of memory"),
+            Failure::File(path, e) => complain_of(rt, path, *e),
+            Failure::StandardInput(e) => complain_of(rt, b"standard input", *e),
+            Failure::StandardOutput(e) => complain_of(rt, b"standard output", *e),
+        }
+    }
+}
+
+// One line on standard error; nothing is left to do where it fails.
+fn complain(rt: &HostRuntime, what: &[u8], why: &[u8]) {
     let err = rt.stderr();
     let _ = err.write_all(b"splitsheet: ");
     let _ = err.write_all(what);
-    let _ = err.write_all(with);
+    let _ = err.write_all(b": ");
+    let _ = err.write_all(why);
     let _ = err.write_all(b"\n");
 }
 
-// What std says of an error, without the number behind it.
+// The same, with what std says of an error, without the number behind it.
+fn complain_of(rt: &HostRuntime, what: &[u8], e: Error) {
+    match format!(in rt.alloc(); "{e}") {
+        Ok(said) => complain(rt, what, without_number(&said).as_bytes()),
+        Err(_) => complain(rt, what, b""),
+    }
+}
+
 fn without_number(said: &str) -> &str {
     match said.split_once(" (os error ") {
         Some((words, _)) => words,
@@ -48,193 +88,84 @@ fn without_number(said: &str) -> &str {
     }
 }
 
-// The same, with what the system says.
-fn complain_errno(rt: &HostRuntime, what: &[u8], e: Error) {
-    let err = rt.stderr();
-    let _ = err.write_all(b"splitsheet: ");
-    let _ = err.write_all(what);
-    let _ = err.write_all(b": ");
-    if let Ok(said) = format!(in rt.alloc(); "{e}") {
-        let _ = err.write_all(without_number(said.as_str()).as_bytes());
+// The argument at a place; none behind the last.
+//
+// Not std's `args`: there one argument that is no UTF-8 fails them all.
+fn argument(rt: &HostRuntime, at: usize) -> Result<Option<Vec<u8>>, Failure> {
+    let mut word = vec![in rt.alloc(); 0u8; NAME_BYTES]?;
+    match rt.arg(at, &mut word) {
+        Ok(n) => {
+            word.truncate(n);
+            Ok(Some(word))
+        }
+        Err(FillError::NotPresent) => Ok(None),
+        Err(FillError::TooLong) => Err(Failure::NameTooLong),
     }
-    let _ = err.write_all(b"\n");
 }
 
-// Whether the first argument asks for the tables.
-fn tables_asked(rt: &impl Env) -> bool {
-    let mut word = [0u8; 9];
-    match rt.arg(1, &mut word) {
-        Ok(n) => same(&word[..n], b"--tables"),
-        Err(_) => false,
-    }
+// Whether there is an argument at a place, however long.
+fn is_argument(rt: &impl Env, at: usize) -> bool {
+    !matches!(rt.arg(at, &mut []), Err(FillError::NotPresent))
 }
 
 // Whether a word is an option: `-` alone is standard input.
 fn is_option(word: &[u8]) -> bool {
-    if word.len() < 2 {
-        return false;
-    }
-    word[0] == b'-'
+    word.len() > 1 && word.starts_with(b"-")
 }
 
-// Whether there is an argument at a place.
-fn is_argument(rt: &impl Env, at: usize) -> bool {
-    match rt.arg(at, &mut []) {
-        Err(FillError::NotPresent) => false,
-        _ => true,
-    }
-}
-
-// What a word at a place of the arguments names.
-fn sheet_named(rt: &HostRuntime, tables: bool, at: usize, path: &[u8]) -> Asked {
-    if is_option(path) {
-        complain(rt, b"unknown or second option: ", path);
-        return Asked::Refused;
-    }
-    if same(path, b"-") {
-        return Asked::Sheet(tables, 0);
-    }
-    Asked::Sheet(tables, at)
-}
-
-// The same of the word there.
-fn sheet_asked(rt: &HostRuntime, tables: bool, at: usize) -> Asked {
-    let mut path = [0u8; 4096];
-    match rt.arg(at, &mut path) {
-        Ok(n) => sheet_named(rt, tables, at, &path[..n]),
-        Err(_) => {
-            complain(rt, b"SHEET: ", b"File name too long");
-            Asked::Refused
-        }
-    }
-}
-
-fn read_arguments(rt: &HostRuntime) -> Asked {
-    let tables = tables_asked(rt);
-    let at: usize = if tables { 2 } else { 1 };
-    if !is_argument(rt, at) {
-        return Asked::Sheet(tables, 0);
-    }
-    let a = sheet_asked(rt, tables, at);
-    let Asked::Sheet(_, _) = a else {
-        return a;
+fn read_arguments(rt: &HostRuntime) -> Result<Asked, Failure> {
+    let tables = match argument(rt, 1)? {
+        Some(word) => word.as_slice() == b"--tables".as_slice(),
+        None => false,
     };
+    let at = if tables { 2 } else { 1 };
+    let Some(word) = argument(rt, at)? else {
+        return Ok(Asked { tables, path: None });
+    };
+    if is_option(&word) {
+        return Err(Failure::UnknownOption(word));
+    }
     if is_argument(rt, at + 1) {
-        complain(
-            rt,
-            b"too many arguments: ",
-            b"splitsheet [--tables] [SHEET]",
-        );
-        return Asked::Refused;
+        return Err(Failure::TooManyArguments);
     }
-    a
-}
-
-// One read.
-fn read_some(from: &mut impl Read, buf: &mut [u8]) -> Got
-    ensures { (result.bytes ≤ length buf.new) × (result.bytes ≡ length (take result.bytes buf.new)) }
-{
-    match from.read(buf) {
-        Ok(bytes) => Got {
-            bytes,
-            failed: None,
-        },
-        Err(e) => Got {
-            bytes: 0,
-            failed: Some(e),
-        },
-    }
-}
-
-// Reads until the buffer is full or the input ends.
-fn read_text(from: &mut impl Read, buf: &mut [u8]) -> Got
-    ensures { (result.bytes ≤ length buf.new) × (result.bytes ≡ length (take result.bytes buf.new)) }
-{
-    let mut done: usize = 0;
-    while done < buf.len() {
-        let got = read_some(from, &mut buf[done..]);
-        if got.failed.is_some() {
-            return Got {
-                bytes: done,
-                failed: got.failed,
-            };
-        }
-        if got.bytes == 0 {
-            break;
-        }
-        done += got.bytes;
-    }
-    Got {
-        bytes: done,
-        failed: None,
-    }
-}
-
-// Reads the text of the file at a path, or says why it cannot.
-fn read_path(rt: &HostRuntime, path: &[u8], buf: &mut [u8]) -> Got
-    ensures { (result.bytes ≤ length buf.new) × (result.bytes ≡ length (take result.bytes buf.new)) }
-{
-    let opened = match from_utf8(path) {
-        Ok(name) => fs::open(rt, name),
-        Err(_) => Err(Error::from(ErrorKind::InvalidFilename)),
+    let path = if word.as_slice() == b"-".as_slice() {
+        None
+    } else {
+        Some(word)
     };
-    match opened {
-        Ok(mut file) => {
-            let got = read_text(&mut file, buf);
-            if let Some(e) = got.failed {
-                complain_errno(rt, path, e);
-            }
-            got
-        }
-        Err(e) => {
-            complain_errno(rt, path, e);
-            Got {
-                bytes: 0,
-                failed: Some(e),
-            }
-        }
+    Ok(Asked { tables, path })
+}
+
+fn read_text(alloc: Global, from: impl Read + Drop) -> io::Result<Vec<u8>> {
+    let mut text = Vec::new(alloc);
+    from.take(TEXT_BYTES).read_to_end(&mut text)?;
+    Ok(text)
+}
+
+fn read_file(rt: &HostRuntime, path: &[u8]) -> io::Result<Vec<u8>> {
+    match from_utf8(path) {
+        Ok(name) => read_text(rt.alloc(), fs::open(rt, name)?),
+        Err(_) => Err(Error::from(ErrorKind::InvalidFilename)),
     }
 }
 
-// The same of the file that an argument names; one that is too long names none.
-fn read_named(rt: &HostRuntime, at: usize, buf: &mut [u8]) -> Got
-    ensures { (result.bytes ≤ length buf.new) × (result.bytes ≡ length (take result.bytes buf.new)) }
-{
-    let mut path = [0u8; 4096];
-    match rt.arg(at, &mut path) {
-        Ok(n) => read_path(rt, &path[..n], buf),
-        Err(_) => read_path(rt, b"", buf),
-    }
+// Reads the text that is asked for.
+fn read_asked(rt: &HostRuntime, path: Option<Vec<u8>>) -> Result<Vec<u8>, Failure> {
+    let Some(path) = path else {
+        return read_text(rt.alloc(), rt.stdin()).map_err(Failure::StandardInput);
+    };
+    read_file(rt, &path).map_err(|e| Failure::File(path, e))
 }
 
-// Reads the text that is asked for, or says why it cannot.
-fn read_asked(rt: &HostRuntime, at: usize, buf: &mut [u8]) -> Got
-    ensures { (result.bytes ≤ length buf.new) × (result.bytes ≡ length (take result.bytes buf.new)) }
-{
-    if at != 0 {
-        return read_named(rt, at, buf);
-    }
-    let got = read_text(&mut rt.stdin(), buf);
-    if let Some(e) = got.failed {
-        complain_errno(rt, b"standard input", e);
-    }
-    got
-}
-
-// Prints the first n bytes. What a text has not, and what was not written, is an error.
-fn print_front(rt: &impl Print, text: &[u8], n: usize) -> io::Result<()> {
-    if n <= text.len() {
-        return rt.write_all(&text[..n]);
-    }
-    Err(Error::from(ErrorKind::WriteZero))
-}
-
-// The same of what a call has written there.
-fn print_written(rt: &impl Print, text: &[u8], w: Written) -> io::Result<()> {
-    let Written::Bytes(n) = w else {
+// Prints what a call has written to the front of a text. What a text has not, and what was not written, is an error.
+fn print_written(rt: &impl Print, text: &[u8], w: Result<usize, NoRoom>) -> io::Result<()> {
+    let Ok(n) = w else {
         return Err(Error::from(ErrorKind::WriteZero));
     };
-    print_front(rt, text, n)
+    match text.get(..n) {
+        Some(front) => rt.write_all(front),
+        None => Err(Error::from(ErrorKind::WriteZero)),
+    }
 }
 
 // Prints the answer to a text, and where they are asked for its tables.
@@ -251,18 +182,14 @@ fn print_answer(rt: &impl Print, text: &[u8], tables: bool) -> io::Result<()> {
     print_written(rt, &lines, rows)
 }
 
+fn run(rt: &HostRuntime) -> Result<(), Failure> {
+    let Asked { tables, path } = read_arguments(rt)?;
+    let text = read_asked(rt, path)?;
+    print_answer(rt, &text, tables).map_err(Failure::StandardOutput)
+}
+
 fn main(rt: HostRuntime) {
-    let a = read_arguments(&rt);
-    let Asked::Sheet(tables, at) = a else {
-        return;
-    };
-    let mut text = [0u8; 65536];
-    let got = read_asked(&rt, at, &mut text);
-    if got.failed.is_some() {
-        return;
-    }
-    let n = got.bytes;
-    if let Err(e) = print_answer(&rt, &text[..n], tables) {
-        complain_errno(&rt, b"standard output", e);
+    if let Err(failure) = run(&rt) {
+        failure.tell(&rt);
     }
 }

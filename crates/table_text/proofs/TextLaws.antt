@@ -2,26 +2,29 @@
 use Prim.Native.Nat.{ℕ, zero, suc, ◌+◌, ◌*◌, ◌-◌, ◌≤◌, ◌<◌}
 use mathlib.Core.Path.{◌≡◌, refl, sym, ap, ◌∙◌}
 use mathlib.Core.Bool.{Bool, true, false, not}
-use mathlib.Core.List.{List, [], ◌++◌, append_assoc, append-nil}
+use mathlib.Core.List.{List, [], ◌∷◌, ◌++◌, map, append_assoc, append-nil, map-append}
 use native.Mathlib.Nat.{mul-suc, mul-zero}
 use native.Mathlib.Omega.{arith}
-use lib.ListN.{length, take, drop, length-append, length-drop, drop_of_length-le}
+use lib.ListN.{length, get_or, set, take, drop, length-map, length-append, length-drop, drop_of_length-le}
 use lib.Dec.{ltb, leb}
 use borrow.Author.Tests.{le-ltb, le-leb, lt-leb, leb-true, leb-false, not-true, not-false}
 use borrow.Rule.Slice.PartMut.{mid_of, put_mid}
 use lib.Ieee.{Float}
 use lib.Seq.{sets, sets-eq, take_all, drop-drop}
+use Rattle.std.proofs.Math.Seq.{take-suc, take-suc-set}
+use native.Mathlib.Numerals.{add-one}
 use Rattle.columns.specs.Below.{joined}
 use Rattle.columns.proofs.Joining.{joined_next, joined_none, from_on_all}
-use Rattle.sheet.specs.Answer.{Wrote}
+use Rattle.std.specs.Prelude.{Result, Ok, Err, IsOk, is_ok}
+use Rattle.sheet.specs.Answer.{no_room, Wrote}
 use Rattle.sheet.specs.Kinds.{pick}
-use Rattle.sheet.specs.declared.write.Written.{Written}
-use Rattle.sheet.specs.declared.write.Written.TheVariants.{Bytes, NoRoom}
+use Rattle.sheet.specs.declared.write.NoRoom.{NoRoom}
 use Rattle.sheet.proofs.Lists.{sets_append}
 use Rattle.sheet.proofs.WriteLaws.{put_none, put_more, put_as, wrote_none, wrote_all, line_length}
 use Rattle.filling.specs.SourceTables.{WorkColumns}
 use Rattle.filling.specs.declared.lent.Rooms.{Rooms}
-use Rattle.table_text.specs.TablesText.{link_line, use_line, gap_line, gap_segment_line, columns_text, bytes_of_rows}
+use Rattle.table_text.specs.TablesText.{field_in, row_line, link_line, use_line, gap_line, gap_segment_line, columns_text, bytes_of_rows}
+use Rattle.table_text.specs.declared.write.Column.{Column}
 
 -- tests of room: two that say the same, and what each answer says
 pub leb_same : (a b c d : ℕ) → (a ≤ b → c ≤ d) → (b < a → d < c) → leb a b ≡ leb c d
@@ -60,6 +63,28 @@ module _ (row : ℕ → List ℕ) (w : ℕ) (wide : (j : ℕ) → length (row j)
   unfolding joined
   rows_length i zero = sym (mul-zero w)
   rows_length i (suc n) = length-append (row i) (joined row (suc i) n) ∙ omega (arith, wide i, rows_length (suc i) n, mul-suc w n)
+
+-- the line of a row, column by column
+module _ (columns : List Column) where
+  pub row_step : (i : ℕ) (row : List ℕ) (c v : ℕ) (d : Column) → c < length columns → c < length row → v ≡ field_in (get_or columns c d) i
+      → take c row ≡ map (λ (x : Column). field_in x i) (take c columns)
+      → take (c + 1) (set row c v) ≡ map (λ (x : Column). field_in x i) (take (c + 1) columns)
+  row_step i row c v d h g e q =
+      let f : Column → ℕ = λ (x : Column). field_in x i in
+      ap (λ (j : ℕ). take j (set row c v)) (add-one c)
+      ∙ take-suc-set row c v g
+      ∙ (λ t. q t ++ (e t ∷ []))
+      ∙ sym (map-append f (take c columns) (get_or columns c d ∷ []))
+      ∙ ap (map f) (sym (take-suc columns c d h))
+      ∙ ap (λ (j : ℕ). map f (take j columns)) (sym (add-one c))
+
+  pub row_end : (i : ℕ) (row : List ℕ) (c k : ℕ) → length columns ≤ c → k ≡ c → take c row ≡ map (λ (x : Column). field_in x i) (take c columns)
+      → take k row ≡ map (λ (x : Column). field_in x i) columns
+  row_end i row c k h e q =
+      ap (λ (j : ℕ). take j row) e ∙ q ∙ ap (map (λ (x : Column). field_in x i)) (take_all c columns h)
+
+  pub row_wide : (letter i : ℕ) → length (row_line letter columns i) ≡ 2 + 11 * length columns
+  row_wide letter i = omega (arith, line_length letter (map (λ (x : Column). field_in x i) columns), length-map columns (λ (x : Column). field_in x i))
 
 -- the lines' widths
 pub link_wide : (prevs nexts : List ℕ) (i : ℕ) → length (link_line prevs nexts i) ≡ 24
@@ -107,7 +132,7 @@ module _ (c : WorkColumns) (rows : Rooms) where
   text_bytes = simp length-append (omega (arith, links_bytes, uses_bytes, gaps_bytes, segments_bytes))
 
   -- too few bytes
-  pub text_short : (out : List ℕ) → length out < bytes_of_rows rows → Wrote (columns_text c rows) out out NoRoom
+  pub text_short : (out : List ℕ) → length out < bytes_of_rows rows → Wrote (columns_text c rows) out out (Err no_room)
   text_short out h = wrote_none (columns_text c rows) out (bytes_of_rows rows) text_bytes h
 
   -- four tables, written one behind the other
@@ -115,7 +140,7 @@ module _ (c : WorkColumns) (rows : Rooms) where
       → uses_at ≡ 24 * rows.links → gaps_at ≡ uses_at + 46 * rows.uses → segments_at ≡ gaps_at + 68 * rows.gaps
       → end ≡ segments_at + 46 * rows.gap_segments → bytes_of_rows rows ≤ length out
       → a ≡ sets out 0 links_part → b ≡ sets a uses_at uses_part → d ≡ sets b gaps_at gaps_part → e ≡ sets d segments_at segments_part
-      → Wrote (columns_text c rows) out e (Bytes end)
+      → Wrote (columns_text c rows) out e (Ok end)
   text_put out a b d e uses_at gaps_at segments_at end p q r s fits f g h k =
       let p₁ = put_more out out a 0 [] links_part 0 (24 * rows.links) 0 (put_none out 0) refl links_bytes f in
       let p₂ = put_more out a b 0 _ uses_part _ (46 * rows.uses) uses_at p₁ (omega arith) uses_bytes g in
@@ -125,22 +150,32 @@ module _ (c : WorkColumns) (rows : Rooms) where
       let size : length (columns_text c rows) ≡ end = text_bytes ∙ omega arith in
       wrote_all (columns_text c rows) out e end size (omega arith) (put_as out e 0 _ (columns_text c rows) _ p₄ whole)
 
--- what is written to the front of the part behind a place
-pub behind_put : (out part : List ℕ) (at : ℕ) (text : List ℕ) (w : Written) → at + length text ≤ length out
-    → Wrote text (mid_of at (length out - at) out) part w → put_mid at (length out - at) out part ≡ sets out at text
-behind_put out part at text w h wrote =
-    let k = length out - at in
-    let m = mid_of at k out in
-    let same : m ≡ drop at out = take_all k (drop at out) (omega (arith, length-drop at out)) in
-    let long : length text ≤ length m = omega (arith, ap length same, length-drop at out) in
-    let f : ltb (length m) (length text) ≡ false = le-ltb (length m) (length text) long in
-    let b : part ≡ text ++ drop (length text) m =
-    wrote.bytes ∙ ap (λ (x : Bool). pick x m (text ++ drop (length text) m)) f in
-    let r : part ≡ text ++ drop (at + length text) out =
-    b ∙ ap (λ (x : List ℕ). text ++ drop (length text) x) same ∙ ap (λ (x : List ℕ). text ++ x) (drop-drop (length text) at out) in
-    let past : length (drop at out) ≤ k = omega (arith, length-drop at out) in
-    let e : drop k (drop at out) ≡ [] = drop_of_length-le (drop at out) past in
-    ap (λ (x : List ℕ). take at out ++ (part ++ x)) e
-    ∙ ap (λ (x : List ℕ). take at out ++ x) (append-nil part ∙ r)
-    ∙ sym (append_assoc (take at out) text (drop (at + length text) out))
-    ∙ sym (sets-eq text out at h)
+-- what is written to the front of the part behind a place, which has room for it
+module _ (out part : List ℕ) (at : ℕ) (text : List ℕ) (w : Result ℕ NoRoom) (h : at + length text ≤ length out)
+    (wrote : Wrote text (mid_of at (length out - at) out) part w) where
+  abbrev k : ℕ
+  k = length out - at
+
+  abbrev m : List ℕ
+  m = mid_of at k out
+
+  same : m ≡ drop at out
+  same = take_all k (drop at out) (omega (arith, length-drop at out))
+
+  roomy : ltb (length m) (length text) ≡ false
+  roomy = le-ltb (length m) (length text) (omega (arith, ap length same, length-drop at out))
+
+  pub behind_ok : IsOk w
+  behind_ok = ap is_ok (wrote.answer ∙ ap (λ (x : Bool). pick x (Err no_room) (Ok (length text))) roomy)
+
+  pub behind_put : put_mid at k out part ≡ sets out at text
+  behind_put =
+      let b : part ≡ text ++ drop (length text) m = wrote.bytes ∙ ap (λ (x : Bool). pick x m (text ++ drop (length text) m)) roomy in
+      let r : part ≡ text ++ drop (at + length text) out =
+      b ∙ ap (λ (x : List ℕ). text ++ drop (length text) x) same ∙ ap (λ (x : List ℕ). text ++ x) (drop-drop (length text) at out) in
+      let past : length (drop at out) ≤ k = omega (arith, length-drop at out) in
+      let e : drop k (drop at out) ≡ [] = drop_of_length-le (drop at out) past in
+      ap (λ (x : List ℕ). take at out ++ (part ++ x)) e
+      ∙ ap (λ (x : List ℕ). take at out ++ x) (append-nil part ∙ r)
+      ∙ sym (append_assoc (take at out) text (drop (at + length text) out))
+      ∙ sym (sets-eq text out at h)

@@ -3,6 +3,8 @@ use Rattle.std.specs.Prelude.{ℕ, ◌+◌, ◌*◌, List, [], ◌∷◌, ◌++�
 use Rattle.std.specs.Float.{binary32}
 use Rattle.std.specs.Float.Ieee.{to_bits}
 use Rattle.columns.specs.Below.{joined}
+use Rattle.table_text.specs.declared.write.Column.{Column}
+use Rattle.table_text.specs.declared.write.Column.TheVariants.{Numbers, Weights}
 use Rattle.sheet.specs.Sheet.{line_text}
 use Rattle.numbers.specs.Weight.{zero_weight}
 use Rattle.use_rows.specs.declared.row.SplitUse.{SplitUse}
@@ -19,6 +21,15 @@ number_in column i = get_or column i 0
 -- the bits of a weight of a column; 0 past its end
 abbrev pub bits_in : List Float → ℕ → ℕ
 bits_in column i = to_bits binary32 (get_or column i zero_weight)
+
+-- for contracts of private functions: the field of row i of a column of either kind
+abbrev pub field_in : Column → ℕ → ℕ
+field_in (Numbers column) i = number_in column.now i
+field_in (Weights column) i = bits_in column.now i
+
+-- the line of row i of a table of such columns
+abbrev pub row_line : ℕ → List Column → ℕ → List ℕ
+row_line letter columns i = line_text letter (map (λ (c : Column). field_in c i) columns)
 
 -- l, block i's links: previous, next
 abbrev pub link_line : List ℕ → List ℕ → ℕ → List ℕ

@@ -5,11 +5,11 @@ ghost use Rattle.columns.specs.Below.{joined};
 ghost use Rattle.sheet.specs.Sheet.{line_text};
 ghost use Rattle.sheet.specs.Answer.{Wrote};
 ghost use Rattle.filling.specs.SourceTables.{work_columns};
-ghost use Rattle.table_text.specs.TablesText.{number_in, bits_in, link_line, use_line, gap_line, gap_segment_line, columns_text, bytes_of_rows};
+ghost use Rattle.table_text.specs.TablesText.{number_in, bits_in, field_in, row_line, columns_text, bytes_of_rows};
 
 use filling::lent::Rooms;
 use numbers::weights::bits_of;
-use sheet::{Written, write_line};
+use sheet::{NoRoom, write_line};
 
 // How many bytes a line of each table has: a letter, 11 for each field, a line feed.
 pub const LINK_LINE: usize = 2 + 11 * 2;
@@ -20,14 +20,14 @@ pub const GAP_LINE: usize = 2 + 11 * 6;
 
 pub const GAP_SEGMENT_LINE: usize = 2 + 11 * 4;
 
+// A table has so many columns at most.
+const MOST_FIELDS: usize = 6;
+
 // A number of a column; 0 past its end.
 fn number_at(column: &[u32], i: usize) -> u32
     ensures { result ≡ number_in column.now i }
 {
-    if i < column.len() {
-        return column[i];
-    }
-    0
+    column.get(i).copied().unwrap_or(0)
 }
 
 // The bits of a weight of a column; 0 past its end.
@@ -45,172 +45,48 @@ fn put_line(out: &mut [u8], at: usize, letter: u8, fields: &[u32])
     requires { at + (1 + 11 * length fields.now + 1) ≤ length out.old }
     ensures { out.new ≡ sets out.old at (line_text letter fields.now) }
 {
-    write_line(&mut out[at..], letter, fields);
+    write_line(&mut out[at..], letter, fields).unwrap();
 }
 
-// Writes the line of block i's links.
-fn put_link(out: &mut [u8], at: usize, prev: &[u32], next: &[u32], i: usize)
-    requires { at + 24 ≤ length out.old }
-    ensures { out.new ≡ sets out.old at (link_line prev.now next.now i) }
-{
-    let row = [number_at(prev, i), number_at(next, i)];
-    put_line(out, at, b'l', &row);
+// A column of a table: numbers, or weights, which are written as their bits.
+#[derive(Clone, Copy)]
+enum Column<'a> {
+    Numbers(&'a [u32]),
+    Weights(&'a [f32]),
 }
 
-// Writes the line of row i of the use table.
-fn put_use(
-    out: &mut [u8],
-    at: usize,
-    inst: &[u32],
-    weight: &[f32],
-    left: &[f32],
-    right: &[f32],
-    i: usize,
-)
-    requires { at + 46 ≤ length out.old }
-    ensures { out.new ≡
-        sets out.old at (use_line inst.now weight.now left.now right.now i) }
+// The field of row i of a column; 0 past its end.
+fn field_at(column: Column, i: usize) -> u32
+    ensures { result ≡ field_in column.entry i }
 {
-    let row = [
-        number_at(inst, i),
-        bits_at(weight, i),
-        bits_at(left, i),
-        bits_at(right, i),
-    ];
-    put_line(out, at, b'u', &row);
-}
-
-// Writes the line of gap i.
-fn put_gap(
-    out: &mut [u8],
-    at: usize,
-    from: &[u32],
-    to: &[u32],
-    weight: &[f32],
-    live: &[u32],
-    freq: &[f32],
-    block: &[u32],
-    i: usize,
-)
-    requires { at + 68 ≤ length out.old }
-    ensures { out.new ≡ sets out.old at
-        (gap_line from.now to.now weight.now live.now freq.now block.now i) }
-{
-    let row = [
-        number_at(from, i),
-        number_at(to, i),
-        bits_at(weight, i),
-        number_at(live, i),
-        bits_at(freq, i),
-        number_at(block, i),
-    ];
-    put_line(out, at, b'g', &row);
-}
-
-// Writes the line of gap segment i.
-fn put_gap_segment(
-    out: &mut [u8],
-    at: usize,
-    from: &[u32],
-    to: &[u32],
-    value: &[u32],
-    gap: &[u32],
-    i: usize,
-)
-    requires { at + 46 ≤ length out.old }
-    ensures { out.new ≡
-        sets out.old at (gap_segment_line from.now to.now value.now gap.now i) }
-{
-    let row = [
-        number_at(from, i),
-        number_at(to, i),
-        number_at(value, i),
-        number_at(gap, i),
-    ];
-    put_line(out, at, b'o', &row);
-}
-
-// Writes the first rows of the links from a place on; and so below.
-fn put_links(out: &mut [u8], at: usize, prev: &[u32], next: &[u32], rows: usize)
-    requires { at + 24 * rows ≤ length out.old }
-    ensures { out.new ≡ sets out.old at (joined (link_line prev.now next.now) 0 rows) }
-{
-    let mut i: usize = 0;
-    while i < rows {
-        put_link(out, at + LINK_LINE * i, prev, next, i);
-        i += 1;
+    match column {
+        Column::Numbers(numbers) => number_at(numbers, i),
+        Column::Weights(weights) => bits_at(weights, i),
     }
 }
 
-fn put_uses(
-    out: &mut [u8],
-    at: usize,
-    inst: &[u32],
-    weight: &[f32],
-    left: &[f32],
-    right: &[f32],
-    rows: usize,
-)
-    requires { at + 46 * rows ≤ length out.old }
-    ensures { out.new ≡ sets out.old at
-        (joined (use_line inst.now weight.now left.now right.now) 0 rows) }
+// Writes the line of row i of a table.
+fn put_row(out: &mut [u8], at: usize, letter: u8, columns: &[Column], i: usize)
+    requires few { length columns.now ≤ MOST_FIELDS }
+    requires room { at + (2 + 11 * length columns.now) ≤ length out.old }
+    ensures { out.new ≡ sets out.old at (row_line letter columns.now i) }
 {
-    let mut i: usize = 0;
-    while i < rows {
-        put_use(out, at + USE_LINE * i, inst, weight, left, right, i);
-        i += 1;
+    let mut row = [0u32; MOST_FIELDS];
+    for (c, column) in columns.iter().enumerate() {
+        row[c] = field_at(*column, i);
     }
+    put_line(out, at, letter, &row[..columns.len()]);
 }
 
-fn put_gaps(
-    out: &mut [u8],
-    at: usize,
-    from: &[u32],
-    to: &[u32],
-    weight: &[f32],
-    live: &[u32],
-    freq: &[f32],
-    block: &[u32],
-    rows: usize,
-)
-    requires { at + 68 * rows ≤ length out.old }
-    ensures { out.new ≡ sets out.old at
-        (joined (gap_line from.now to.now weight.now live.now freq.now block.now) 0 rows) }
+// Writes the lines of the first rows of a table from a place on.
+fn put_rows(out: &mut [u8], at: usize, letter: u8, columns: &[Column], rows: usize)
+    requires few { length columns.now ≤ MOST_FIELDS }
+    requires room { at + (2 + 11 * length columns.now) * rows ≤ length out.old }
+    ensures { out.new ≡ sets out.old at (joined (row_line letter columns.now) 0 rows) }
 {
-    let mut i: usize = 0;
-    while i < rows {
-        put_gap(
-            out,
-            at + GAP_LINE * i,
-            from,
-            to,
-            weight,
-            live,
-            freq,
-            block,
-            i,
-        );
-        i += 1;
-    }
-}
-
-fn put_gap_segments(
-    out: &mut [u8],
-    at: usize,
-    from: &[u32],
-    to: &[u32],
-    value: &[u32],
-    gap: &[u32],
-    rows: usize,
-)
-    requires { at + 46 * rows ≤ length out.old }
-    ensures { out.new ≡ sets out.old at
-        (joined (gap_segment_line from.now to.now value.now gap.now) 0 rows) }
-{
-    let mut i: usize = 0;
-    while i < rows {
-        put_gap_segment(out, at + GAP_SEGMENT_LINE * i, from, to, value, gap, i);
-        i += 1;
+    let width = 2 + 11 * columns.len();
+    for i in 0..rows {
+        put_row(out, at + width * i, letter, columns, i);
     }
 }
 
@@ -265,7 +141,7 @@ pub fn write_tables(
     segment_gap: &[u32],
     rows: Rooms,
     out: &mut [u8],
-) -> Written
+) -> Result<usize, NoRoom>
     ensures { let lent = work_columns
         prev.now next.now
         inst.now weight.now left.now right.now
@@ -274,25 +150,56 @@ pub fn write_tables(
         Wrote (columns_text lent rows) out.old out.new result }
 {
     if !tables_fit(rows, out.len()) {
-        return Written::NoRoom;
+        return Err(NoRoom);
     }
     let uses_at = LINK_LINE * rows.links;
     let gaps_at = uses_at + USE_LINE * rows.uses;
     let segments_at = gaps_at + GAP_LINE * rows.gaps;
     let end = segments_at + GAP_SEGMENT_LINE * rows.gap_segments;
-    put_links(out, 0, prev, next, rows.links);
-    put_uses(out, uses_at, inst, weight, left, right, rows.uses);
-    put_gaps(
-        out, gaps_at, gap_from, gap_to, gap_weight, live, freq, gap_block, rows.gaps,
+    put_rows(
+        out,
+        0,
+        b'l',
+        &[Column::Numbers(prev), Column::Numbers(next)],
+        rows.links,
     );
-    put_gap_segments(
+    put_rows(
+        out,
+        uses_at,
+        b'u',
+        &[
+            Column::Numbers(inst),
+            Column::Weights(weight),
+            Column::Weights(left),
+            Column::Weights(right),
+        ],
+        rows.uses,
+    );
+    put_rows(
+        out,
+        gaps_at,
+        b'g',
+        &[
+            Column::Numbers(gap_from),
+            Column::Numbers(gap_to),
+            Column::Weights(gap_weight),
+            Column::Numbers(live),
+            Column::Weights(freq),
+            Column::Numbers(gap_block),
+        ],
+        rows.gaps,
+    );
+    put_rows(
         out,
         segments_at,
-        segment_from,
-        segment_to,
-        segment_value,
-        segment_gap,
+        b'o',
+        &[
+            Column::Numbers(segment_from),
+            Column::Numbers(segment_to),
+            Column::Numbers(segment_value),
+            Column::Numbers(segment_gap),
+        ],
         rows.gap_segments,
     );
-    Written::Bytes(end)
+    Ok(end)
 }

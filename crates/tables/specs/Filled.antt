@@ -1,7 +1,6 @@
 -- What filling a job's tables leaves
-use Rattle.std.specs.Prelude.{◌≡◌}
-use Rattle.links.specs.declared.blocks.Checked.{Checked}
-use Rattle.links.specs.declared.blocks.Checked.TheVariants as Checked·is
+use Rattle.std.specs.Prelude.{Ok}
+use Rattle.std.specs.Prelude.{◌≡◌, Err}
 use Rattle.filling.specs.UseTables.{best_of}
 use Rattle.filling.specs.SourceTables.{WorkColumns, rooms_of, FilledBy}
 use Rattle.filling.specs.declared.lent.Rooms.{Rooms}
@@ -11,11 +10,12 @@ use Rattle.work.specs.FilledFrom.{filled_of_best}
 use Rattle.tables.specs.JobTables.{tables_of}
 use Rattle.work.specs.declared.fill.FilledTables.{FilledTables}
 use Rattle.work.specs.declared.fill.FilledTables.TheVariants as FilledTables·is
+use Rattle.links.specs.Blocks.{Checked}
 
 -- a refused job has no other answer
 abbrev pub filled_if : Checked → FilledTables → FilledTables
-filled_if Checked·is.Sound answer = answer
-filled_if (Checked·is.Refused r) answer = FilledTables·is.Refused r
+filled_if (Ok u) answer = answer
+filled_if (Err r) answer = FilledTables·is.Refused r
 
 -- what is answered for a job whose lent tables have so many rows
 abbrev pub filled_of : Job → Rooms → FilledTables

@@ -1,7 +1,6 @@
 -- The rows of a job's tables
-use Rattle.std.specs.Prelude.{ℕ, List, []}
-use Rattle.links.specs.declared.blocks.Checked.{Checked}
-use Rattle.links.specs.declared.blocks.Checked.TheVariants as Checked·is
+use Rattle.std.specs.Prelude.{Ok}
+use Rattle.std.specs.Prelude.{ℕ, List, [], Err}
 use Rattle.use_rows.specs.Uses.{use_table_of}
 use Rattle.use_rows.specs.declared.row.SplitUse.{SplitUse}
 use Rattle.overlaps.specs.GapSegments.{Overlap}
@@ -11,6 +10,7 @@ use Rattle.filling.specs.SourceTables.{gaps_from, lives_from, segments_from, Tab
 use Rattle.filling.specs.declared.lent.Rooms.{Rooms}
 use Rattle.refusals.specs.Job.{Job, source_of_job}
 use Rattle.rooms.specs.Rooms.{refusal_of}
+use Rattle.links.specs.Blocks.{Checked}
 
 -- a job's use table
 abbrev pub uses_of_job : Job → List SplitUse
@@ -35,8 +35,8 @@ no_tables = record { prevs = []; nexts = []; uses = []; gaps = []; lives = []; s
 
 -- one thing of an accepted job, another of a refused one
 abbrev pub if_accepted : {A : Type 0} → Checked → A → A → A
-if_accepted Checked·is.Sound accepted refused = accepted
-if_accepted (Checked·is.Refused r) accepted refused = refused
+if_accepted (Ok u) accepted refused = accepted
+if_accepted (Err r) accepted refused = refused
 
 -- a job's tables; a refused job has none
 abbrev pub tables_of : Job → Rooms → Tables

@@ -16,8 +16,8 @@ use Rattle.numbers.proofs.Units.{units_order, units_lt, zero_finite}
 use Rattle.columns.proofs.Firsts.{split, first_found}
 use Rattle.columns.specs.First.{first_below}
 use Rattle.use_rows.specs.Uses.{AllWeights, is_largest, best_use}
-use Rattle.use_rows.specs.declared.row.BestUse.TheVariants.{At, Nothing}
 use Rattle.columns.proofs.Tests.{cond_true, cond_false}
+use Rattle.std.specs.Prelude.{Some, None}
 
 -- rows that are weights are a list of weights
 pub weights_of : (ws : List Float) → AllWeights ws → Weights ws
@@ -110,17 +110,17 @@ module _ (ws : List Float) (given : AllWeights ws) (best : ℕ) (top : Float) (k
           (test_of best r.0 ∙ ap not (le-ltb (units_of (get_or ws best zero_weight)) (units_of top) (le_of_eq (ap units_of (sym r.1)))))
 
 -- the best use: none in a table of one row; else the first row of the largest weight, if that is above zero
-pub best_short : (ws : List Float) → length ws ≤ 1 → Nothing ≡ best_use ws
+pub best_short : (ws : List Float) → length ws ≤ 1 → None ≡ best_use ws
 unfolding best_use
 best_short ws h = sym (cond_true _ _ (le-leb (length ws) 1 h))
 
 module _ (ws : List Float) (given : AllWeights ws) (best : ℕ) (top : Float) (long : 1 < length ws) (known : Largest ws (length ws) best top) where
-  pub best_found : lt zero_weight top ≡ true → At best ≡ best_use ws
+  pub best_found : lt zero_weight top ≡ true → Some best ≡ best_use ws
   unfolding best_use
   best_found t =
-      ap At (largest_first ws given best top known t)
+      ap Some (largest_first ws given best top known t)
       ∙ sym (cond_false _ _ (lt-leb (length ws) 1 long) ∙ cond_true _ _ (ap (lt zero_weight) (sym (largest_is ws given best top known)) ∙ t))
 
-  pub best_none : lt zero_weight top ≡ false → Nothing ≡ best_use ws
+  pub best_none : lt zero_weight top ≡ false → None ≡ best_use ws
   unfolding best_use
   best_none t = sym (cond_false _ _ (lt-leb (length ws) 1 long) ∙ cond_false _ _ (ap (lt zero_weight) (sym (largest_is ws given best top known)) ∙ t))

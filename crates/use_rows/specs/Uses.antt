@@ -14,8 +14,9 @@ use Rattle.jobs.specs.declared.rows.Use.{Use}
 use Rattle.use_rows.specs.declared.row.Part.{Part}
 use Rattle.use_rows.specs.declared.row.Part.TheVariants as Part·is
 use Rattle.use_rows.specs.declared.row.SplitUse.{SplitUse}
-use Rattle.use_rows.specs.declared.row.BestUse.{BestUse}
-use Rattle.use_rows.specs.declared.row.BestUse.TheVariants.{At, Nothing}
+use Rattle.std.specs.Prelude.{Option}
+use Rattle.std.specs.Prelude.{Some}
+use Rattle.std.specs.Prelude.{None}
 
 -- the weight to which a use at p adds: the right one if 4(p+1) is its segment's start, the left one if 4p is its end, else the main one
 unfoldable pub part_of : Segment → ℕ → Part
@@ -133,10 +134,10 @@ abbrev pub is_largest : List Float → ℕ → Bool
 is_largest weights i = not (lt (get_or weights i zero_weight) (heaviest weights))
 
 -- the best use: the earliest of the largest main weight, if that is above zero; none in a table of one row
-unfoldable pub best_use : List Float → BestUse
+unfoldable pub best_use : List Float → Option ℕ
 best_use weights =
-    cond (leb (length weights) 1) Nothing
-    (cond (lt zero_weight (heaviest weights)) (At (first_below (is_largest weights) (length weights))) Nothing)
+    cond (leb (length weights) 1) None
+    (cond (lt zero_weight (heaviest weights)) (Some (first_below (is_largest weights) (length weights))) None)
 
 -- a best use among main weights: the largest, above zero, earliest on ties, in a table of more than one row
 pub record IsBest (ws : List Float) (best : ℕ) : Type 0 where

@@ -19,10 +19,9 @@ use Rattle.numbers.proofs.UseCosts.{Scales}
 use Rattle.numbers.proofs.Heaviest.{heaviest_weight, heaviest_among, heaviest_above}
 use Rattle.use_rows.specs.Uses.{Source, use_table_of, AllWeights, is_largest, best_use, IsBest}
 use Rattle.use_rows.specs.declared.row.SplitUse.{SplitUse}
-use Rattle.use_rows.specs.declared.row.BestUse.{BestUse}
-use Rattle.use_rows.specs.declared.row.BestUse.TheVariants.{At, Nothing}
 use Rattle.use_rows.proofs.Largest.{weights_of, at_among}
 use Rattle.uses.proofs.UseTable.{use_table_weights}
+use Rattle.std.specs.Prelude.{Option, Some, None}
 
 -- a weight of a list stands in one of its rows
 among_row : (ws : List Float) (w : Float) → Among w ws → (k : ℕ) × (k < length ws) × (get_or ws k zero_weight ≡ w)
@@ -98,12 +97,12 @@ module _ (ws : List Float) (given : AllWeights ws) where
           (subst (λ (b : Bool). T (not b)) (units_order (given best inside) heaviest_is) (subst T (sym ((first_in (is_largest ws) (length ws)).found inside)) tt))
 
   -- the best use: the largest main weight, above zero, earliest on ties
-  pub best_is : (best : ℕ) → best_use ws ≡ At best → IsBest ws best
+  pub best_is : (best : ℕ) → best_use ws ≡ Some best → IsBest ws best
   unfolding best_use
   best_is best e = by (leb (length ws) 1) (lt zero_weight (heaviest ws)) refl refl e
     where
       by : (a b : Bool) → leb (length ws) 1 ≡ a → lt zero_weight (heaviest ws) ≡ b
-          → cond a Nothing (cond b (At (first_below (is_largest ws) (length ws))) Nothing) ≡ At best → IsBest ws best
+          → cond a None (cond b (Some (first_below (is_largest ws) (length ws))) None) ≡ Some best → IsBest ws best
       by true b p q e = absurd (let z : ◌≡◌ {A = ℕ} 0 1 = cc in omega arith)
       by false false p q e = absurd (let z : ◌≡◌ {A = ℕ} 0 1 = cc in omega arith)
       by false true p q e =
@@ -111,12 +110,12 @@ module _ (ws : List Float) (given : AllWeights ws) where
           subst (IsBest ws) same (best_is_found (subst (λ (b : Bool). T (not b)) (sym p) tt) (subst T (sym q) tt))
 
   -- there is none exactly in a table of one row, or if no weight is above zero
-  pub no_best_exactly : (best_use ws ≡ Nothing) ↔ ((length ws ≤ 1) ⊎ ((k : ℕ) → k < length ws → units_of (get_or ws k zero_weight) ≡ 0))
+  pub no_best_exactly : (best_use ws ≡ None) ↔ ((length ws ≤ 1) ⊎ ((k : ℕ) → k < length ws → units_of (get_or ws k zero_weight) ≡ 0))
   unfolding best_use
   no_best_exactly = (none (leb (length ws) 1) (lt zero_weight (heaviest ws)) refl refl, λ h. ⊎_elim short light h)
     where
       none : (a b : Bool) → leb (length ws) 1 ≡ a → lt zero_weight (heaviest ws) ≡ b
-          → cond a Nothing (cond b (At (first_below (is_largest ws) (length ws))) Nothing) ≡ Nothing
+          → cond a None (cond b (Some (first_below (is_largest ws) (length ws))) None) ≡ None
           → (length ws ≤ 1) ⊎ ((k : ℕ) → k < length ws → units_of (get_or ws k zero_weight) ≡ 0)
       none true b p q e = inl (leb→le (length ws) 1 (subst T (sym p) tt))
       none false true p q e = absurd (let z : ◌≡◌ {A = ℕ} 0 1 = cc in omega arith)
@@ -128,19 +127,19 @@ module _ (ws : List Float) (given : AllWeights ws) where
           let n = zero_units in
           omega (arith, l, z, n))
 
-      short : length ws ≤ 1 → cond (leb (length ws) 1) Nothing (cond (lt zero_weight (heaviest ws)) (At (first_below (is_largest ws) (length ws))) Nothing)
-          ≡ Nothing
-      short h = cond_true Nothing (cond (lt zero_weight (heaviest ws)) (At (first_below (is_largest ws) (length ws))) Nothing) (le-leb (length ws) 1 h)
+      short : length ws ≤ 1 → cond (leb (length ws) 1) None (cond (lt zero_weight (heaviest ws)) (Some (first_below (is_largest ws) (length ws))) None)
+          ≡ None
+      short h = cond_true None (cond (lt zero_weight (heaviest ws)) (Some (first_below (is_largest ws) (length ws))) None) (le-leb (length ws) 1 h)
 
-      either : (a : Bool) → cond a Nothing Nothing ≡ Nothing
+      either : (a : Bool) → cond {A = Option ℕ} a None None ≡ None
       either true = refl
       either false = refl
 
       light : ((k : ℕ) → k < length ws → units_of (get_or ws k zero_weight) ≡ 0)
-          → cond (leb (length ws) 1) Nothing (cond (lt zero_weight (heaviest ws)) (At (first_below (is_largest ws) (length ws))) Nothing) ≡ Nothing
+          → cond (leb (length ws) 1) None (cond (lt zero_weight (heaviest ws)) (Some (first_below (is_largest ws) (length ws))) None) ≡ None
       light h =
-          ap (λ (x : BestUse). cond (leb (length ws) 1) Nothing x)
-          (cond_false (At (first_below (is_largest ws) (length ws))) Nothing
+          ap (λ (x : Option ℕ). cond (leb (length ws) 1) None x)
+          (cond_false (Some (first_below (is_largest ws) (length ws))) None
           (units_order (finite zero_finite) heaviest_is ∙ le-ltb (units_of zero_weight) (units_of (heaviest ws))
           (le_trans (le_of_eq (by (heaviest_among ws))) zero-le)))
           ∙ either (leb (length ws) 1)
@@ -150,7 +149,7 @@ module _ (ws : List Float) (given : AllWeights ws) where
           by (inr a) = let r = among_row ws (heaviest ws) a in ap units_of (sym r.2) ∙ h r.0 r.1
 
 -- a job's best use is a row of its use table
-pub best_inside : (source : Source) → Scales source.scales → (best : ℕ) → best_use (map (λ (u : SplitUse). u.weight) (use_table_of source)) ≡ At best
+pub best_inside : (source : Source) → Scales source.scales → (best : ℕ) → best_use (map (λ (u : SplitUse). u.weight) (use_table_of source)) ≡ Some best
     → best < length (use_table_of source)
 best_inside source scales best e =
     let i = (best_is (map (λ (u : SplitUse). u.weight) (use_table_of source)) (use_table_weights source scales) best e).inside in

@@ -8,7 +8,6 @@ use lib.ListN.{length, take, length-map}
 use Rattle.columns.specs.Table.{filled}
 use Rattle.columns.proofs.Tables.{table_length}
 use Rattle.columns.proofs.Fillings.{filled_cut, filled_long}
-use Rattle.use_rows.specs.declared.row.BestUse.TheVariants as BestUse·is
 use Rattle.overlaps.specs.GapSegments.{Overlap, SegmentColumns, segment_columns}
 use Rattle.gaps.specs.Gaps.{Gap, gap_weight}
 use Rattle.gaps.specs.GapColumns.{froms_of, min_freqs_of}
@@ -22,6 +21,7 @@ use Rattle.refusals.proofs.Accepted.{Accepted}
 use Rattle.tables.specs.JobTables.{uses_of_job, gaps_of_job, own_of_job, lives_of_job, segments_of_job}
 use Rattle.views.specs.View.{in_columns, seen_of_job}
 use Rattle.views.proofs.JobView.{job_in_table, job_walkable}
+use Rattle.std.specs.Prelude.{Some}
 
 -- a filled column has the rows that fill it
 rows_of : {A : Type 0} (k : ℕ) (is lent : List A) {now : List A} → now ≡ filled is lent → k ≡ length is → length is ≤ length lent → k ≤ length now
@@ -29,7 +29,7 @@ rows_of k is lent e c h = let a = ap length e in let d = filled_long is lent h i
 
 module _ (job : Job) (accepted : Accepted job) (best : ℕ) (h : best < length (uses_of_job job)) (lent now : WorkColumns)
     (roomy : Roomy (length job.uses) (length job.blocks) (length job.segments) (rooms_of lent))
-    (f : FilledBy (tables_of_best (source_of_job job) (BestUse·is.At best)) lent now)
+    (f : FilledBy (tables_of_best (source_of_job job) (Some best)) lent now)
     (n m own : ℕ) (n_is : n ≡ length (gaps_of_job job best)) (m-is : m ≡ length (segments_of_job job best)) (own_is : own ≡ own_of_job job best) where
   abbrev gaps : List Gap
   gaps = gaps_of_job job best

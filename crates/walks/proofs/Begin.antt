@@ -1,5 +1,5 @@
 -- Where a walk begins: the rows and the fixed uses of a unit stand together, and a search by halves in them finds the place
-use mathlib.Core.Path.{◌≡◌, refl, ap, ◌∙◌}
+use mathlib.Core.Path.{◌≡◌, refl, ap, subst, ◌∙◌}
 use mathlib.Core.Logic.{⊎_elim}
 use mathlib.Core.List.{List}
 use Prim.Native.Nat.{ℕ, ◌+◌, ◌≤◌, ◌<◌, zero-le}
@@ -13,6 +13,8 @@ use Rattle.columns.proofs.Firsts.{split, parted}
 use Rattle.columns.proofs.Tables.{table_length}
 use Rattle.jobs.specs.declared.rows.Reservation.{Reservation}
 use Rattle.jobs.specs.declared.rows.FixedUse.{FixedUse}
+use Rattle.jobs.specs.declared.rows.Reservations.TheInside as Reservations·is
+use Rattle.jobs.specs.declared.rows.FixedUses.TheInside as FixedUses·is
 use Rattle.jobs.specs.Rows.{reservations_of, no_reservation, fixed_uses_of, no_fixed_use}
 use Rattle.jobs.proofs.Walk.{own_row}
 use Rattle.links.specs.declared.lower.Side.TheVariants.{Previous, Next}
@@ -28,18 +30,21 @@ column : {A : Type 0} {d : A} {field : A → ℕ} {col : List ℕ} (row : ℕ �
     → Holds col (table row n) d field
 column {d = d} {field} row n h f = record { long = rw table_length h; at = λ i l. f i ∙ ap field (own_row row n i d (row i) refl l) }
 
-module _ (unit start end kind index fixed : List ℕ) where
-  pub holds_unit : Holds unit (reservations_of unit start end kind index fixed) no_reservation (λ (r : Reservation). r.unit)
-  holds_unit = column _ _ (omega arith) (λ i. refl)
+-- those of the tables that are lent
+module _ (t : Reservations·is.Inside) {rows : List Reservation}
+    (are : reservations_of t.unit.now t.start.now t.end.now t.kind.now t.index.now t.fixed.now ≡ rows) where
+  pub holds_unit : Holds t.unit.now rows no_reservation (λ (r : Reservation). r.unit)
+  holds_unit = subst (λ rows. Holds t.unit.now rows no_reservation (λ (r : Reservation). r.unit)) are (column _ _ (omega arith) (λ i. refl))
 
-  pub holds_start : Holds start (reservations_of unit start end kind index fixed) no_reservation (λ (r : Reservation). r.start)
-  holds_start = column _ _ (omega arith) (λ i. refl)
+  pub holds_start : Holds t.start.now rows no_reservation (λ (r : Reservation). r.start)
+  holds_start = subst (λ rows. Holds t.start.now rows no_reservation (λ (r : Reservation). r.start)) are (column _ _ (omega arith) (λ i. refl))
 
-  pub holds_end : Holds end (reservations_of unit start end kind index fixed) no_reservation (λ (r : Reservation). r.end)
-  holds_end = column _ _ (omega arith) (λ i. refl)
+  pub holds_end : Holds t.end.now rows no_reservation (λ (r : Reservation). r.end)
+  holds_end = subst (λ rows. Holds t.end.now rows no_reservation (λ (r : Reservation). r.end)) are (column _ _ (omega arith) (λ i. refl))
 
-pub holds_use : (unit point value : List ℕ) → Holds unit (fixed_uses_of unit point value) no_fixed_use (λ (f : FixedUse). f.unit)
-holds_use unit point value = column _ _ (omega arith) (λ i. refl)
+pub holds_use : (t : FixedUses·is.Inside) {rows : List FixedUse} → fixed_uses_of t.unit.now t.point.now t.value.now ≡ rows
+    → Holds t.unit.now rows no_fixed_use (λ (f : FixedUse). f.unit)
+holds_use t are = subst (λ rows. Holds t.unit.now rows no_fixed_use (λ (f : FixedUse). f.unit)) are (column _ _ (omega arith) (λ i. refl))
 
 -- what a search for x in a column answers
 abbrev pub Found : List ℕ → ℕ → ℕ → ℕ → ℕ → Type 0

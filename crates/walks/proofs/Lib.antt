@@ -1,6 +1,5 @@
 -- What the walkers share. For the layer above: Checked (lines 10 and 11 give what walkers rely on), GapWalk (where new walks stand),
 -- Sets (the definitions as sets), Cases
-pub mod Taken
 pub mod Ways
 pub mod Uses
 pub mod Sets

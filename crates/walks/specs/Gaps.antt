@@ -1,5 +1,5 @@
 -- The gap segments of a gap, and where a walker stands among them
-use Rattle.std.specs.Prelude.{◌≡◌, ℕ, ◌+◌, ◌≤◌, ◌<◌, Bool, false, ◌||◌, List, [], eqb, Float, length, get_or}
+use Rattle.std.specs.Prelude.{◌≡◌, ℕ, ◌+◌, ◌≤◌, ◌<◌, Bool, false, ◌||◌, List, eqb, Float, length, get_or, take}
 use Rattle.overlaps.specs.GapSegments.{SegmentColumns, segment_columns}
 use Rattle.columns.specs.Below.{picked}
 use Rattle.numbers.specs.Weight.{Weight, heavier, heaviest}
@@ -9,8 +9,6 @@ use Rattle.walks.specs.declared.meeting.Register.{Register}
 use Rattle.walks.specs.declared.meeting.Met.{Met}
 use Rattle.walks.specs.declared.walk.Walk.{Walk}
 use Rattle.walks.specs.declared.walk.Took.{Took}
-use Rattle.walks.specs.declared.left.TookLeft.{TookLeft}
-use Rattle.walks.specs.declared.right.TookRight.{TookRight}
 use Rattle.walks.specs.declared.both.Walkers.{Walkers}
 use Rattle.walks.specs.declared.both.TookGap.{TookGap}
 use Rattle.links.specs.declared.lower.Side.{Side}
@@ -23,10 +21,6 @@ use Rattle.walks.specs.Standing.{Ready, Known, StandsInUnits, PlacesInside}
 abbrev pub gap_segment_row : List ℕ → List ℕ → List ℕ → ℕ → GapSegment
 gap_segment_row from to value i = record { from = record { 0 = get_or from i 0 }; to = record { 0 = get_or to i 0 }; value = record { 0 = get_or value i 0 } }
 
--- four lent columns of gap segments, as many rows as the first has
-abbrev pub segments_in : List (List ℕ) → SegmentColumns
-segments_in cs = segment_columns (get_or cs 0 []) (get_or cs 1 []) (get_or cs 2 []) (get_or cs 3 []) (length (get_or cs 0 []))
-
 -- row i of the columns
 abbrev pub segment_in : SegmentColumns → ℕ → GapSegment
 segment_in g i = gap_segment_row g.from g.to g.value i
@@ -38,6 +32,16 @@ of_gap g gap i = eqb (get_or g.gap i 0) gap
 -- the gap segments of a gap
 abbrev pub segments_of_gap : SegmentColumns → ℕ → List GapSegment
 segments_of_gap g gap = picked (of_gap g gap) (segment_in g) g.used
+
+-- the first n rows of the columns, and columns that have them
+abbrev pub first_segments : ℕ → SegmentColumns → SegmentColumns
+first_segments n g = segment_columns (take n g.from) (take n g.to) (take n g.value) (take n g.gap) (length (take n g.from))
+
+pub record HasSegments (n : ℕ) (g : SegmentColumns) : Type 0 where
+  pub from : n ≤ length g.from
+  pub to : n ≤ length g.to
+  pub value : n ≤ length g.value
+  pub gap : n ≤ length g.gap
 
 -- columns that have the rows used; the place behind the last row is a 64-bit number
 pub record HasRows (g : SegmentColumns) : Type 0 where
@@ -102,22 +106,15 @@ pub record Takes (side : Side) (p : Register) (t : Reserved) (g : SegmentColumns
   pub fits : Fits p t g r.walk
   pub exact : Walkable t g → Weight w → At side p t.rows g (first_end side gap (gap + 1)) walk → Exact side p t g gap w r
 
--- a walker's answer is its walk's
-abbrev pub took_left : TookLeft → Took
-took_left r = record { met = r.met; walk = r.walker.walk }
-
-abbrev pub took_right : TookRight → Took
-took_right r = record { met = r.met; walk = r.walker.walk }
-
 -- the walk of a side
 abbrev pub walk_on : Side → Walkers → Walk
-walk_on side ws = on_side side ws.left.walk ws.right.walk
+walk_on side ws = on_side side ws.left ws.right
 
--- both walkers fit
+-- both walks fit
 pub record FitsBoth (p : Register) (t : Reserved) (g : SegmentColumns) (ws : Walkers) : Type 0 where
   pub on : (side : Side) → Fits p t g (walk_on side ws)
 
--- the walker of a side takes a gap, and the other stays where it is
+-- the walk of a side takes a gap, and the other stays where it is
 pub record TakesBoth (side : Side) (p : Register) (t : Reserved) (g : SegmentColumns) (gap : ℕ) (w : Float) (ws : Walkers) (r : TookGap) : Type 0 where
   pub takes : Takes side p t g gap w (walk_on side ws) (record { met = r.met; walk = walk_on side r.walkers })
   pub stays : walk_on (other_side side) r.walkers ≡ walk_on (other_side side) ws

@@ -2,7 +2,7 @@
 use Rattle.std.specs.Prelude.{ℕ, ◌+◌, Bool, true, not, ◌&&◌, ◌||◌, cond, List, [], ◌∷◌, ◌++◌, leb, ltb, eqb, Float, length, get_or}
 use Rattle.columns.specs.Table.{any_of}
 use Rattle.numbers.specs.Weight.{weight_limit, value_of, heavier, heaviest}
-use Rattle.jobs.specs.Rows.{reservations_of, fixed_uses_of, no_fixed_use}
+use Rattle.jobs.specs.Rows.{no_fixed_use}
 use Rattle.columns.specs.Below.{count_below, any_below}
 use Rattle.jobs.specs.Lines.{no_fixed}
 use Rattle.jobs.specs.declared.rows.Reservation.{Reservation}
@@ -16,17 +16,6 @@ pub record Reserved : Type 0 where
   pub rows : List Reservation
   pub fixed_uses : List FixedUse
   pub weights : List ℕ
-
--- the same, from the lent columns
-abbrev pub reserved_of : List ℕ → List ℕ → List ℕ → List ℕ → List ℕ → List ℕ → List ℕ → List ℕ → List ℕ → List ℕ → Reserved
-reserved_of units starts ends kinds indices fixed use_units points values weights =
-    record { rows = reservations_of units starts ends kinds indices fixed; fixed_uses = fixed_uses_of use_units points values; weights = weights }
-
--- the same of ten lent columns: units, starts, ends, kinds, indices, fixed rows; units, points and values of fixed uses; spill weights
-abbrev pub reserved_in : List (List ℕ) → Reserved
-reserved_in cs =
-    reserved_of (get_or cs 0 []) (get_or cs 1 []) (get_or cs 2 []) (get_or cs 3 []) (get_or cs 4 []) (get_or cs 5 [])
-    (get_or cs 6 []) (get_or cs 7 []) (get_or cs 8 []) (get_or cs 9 [])
 
 -- a reservation meets a gap segment: they overlap
 unfoldable pub meets : GapSegment → Reservation → Bool

@@ -1,18 +1,17 @@
 // What a gap segment meets: one fixed use, one reservation, and what was met so far.
 ghost use Rattle.std.specs.Prelude.{◌≡◌, length, get_or};
-ghost use Rattle.jobs.specs.Rows.{fixed_uses_of};
 ghost use Rattle.jobs.specs.Checked.{plain_row, plain_fixed_use};
 ghost use Rattle.columns.specs.Below.{any_below};
 ghost use Rattle.numbers.specs.Weight.{weight_limit, value_of};
 ghost use Rattle.walks.specs.Meeting.{meets, clashes, use_counts, counts_as_fixed, looked};
 ghost use Rattle.walks.specs.Standing.{OrderedUses, reaches_past};
 
+use crate::reserved::Reserved;
 use crate::units::first_use;
-use jobs::checked::{Held, HeldUse, held_use_at};
-use jobs::rows::fixed_use_count;
+use jobs::checked::{Held, HeldUse};
+use jobs::rows::FixedUses;
 use links::lower::Side;
-use numbers::pick::either;
-use numbers::weights::{heavier, weight_of};
+use numbers::weights::{Limit, heavier};
 use numbers::{Point, Unit, Value};
 
 // A gap segment: points from one to before another, and a value.
@@ -38,13 +37,11 @@ pub struct Met {
 }
 
 // A reservation meets a gap segment.
+#[tactic(auto, unfolding(crate::specs::Meeting::meets))]
 fn meets(s: GapSegment, r: Held) -> bool
     ensures { result ≡ meets s (plain_row r) }
 {
-    if r.start.0 >= s.to.0 {
-        return false;
-    }
-    s.from.0 < r.end.0
+    r.start.0 < s.to.0 && s.from.0 < r.end.0
 }
 
 // It reaches past the segment's end, on the way to a side.
@@ -58,29 +55,22 @@ pub(crate) fn reaches_past(side: Side, s: GapSegment, r: Held) -> bool
 }
 
 // A fixed use overlaps a gap segment and has another value. The sum is made in 64 bits: a point may be any 32-bit number here.
+#[tactic(auto, unfolding(crate::specs::Meeting::clashes))]
 fn clashes(s: GapSegment, f: HeldUse) -> bool
     ensures { result ≡ clashes s (plain_fixed_use f) }
 {
-    if f.point.0 >= s.to.0 {
-        return false;
-    }
-    if (s.from.0 as u64) >= (f.point.0 as u64) + 2 {
-        return false;
-    }
-    f.value.0 != s.value.0
+    f.point.0 < s.to.0 && (s.from.0 as u64) < (f.point.0 as u64) + 2 && f.value.0 != s.value.0
 }
 
 // A fixed use of the reservation's unit, from its fixed row on, clashes with the segment. Where the unit's fixed uses begin is
 // searched for here, so that no walker has to keep it. They are in order: once one lies past the segment, the rest does.
-fn use_clashes(f_unit: &[u32], f_point: &[u32], f_value: &[u32], r: Held, s: GapSegment) -> bool
-    ensures { let fixed_uses = fixed_uses_of f_unit.now f_point.now f_value.now in
-        OrderedUses fixed_uses → result ≡ any_below (use_counts fixed_uses s (plain_row r)) (length fixed_uses) }
+fn use_clashes(fixed_uses: &FixedUses, r: Held, s: GapSegment) -> bool
+    ensures { OrderedUses fixed_uses.now → result ≡ any_below (use_counts fixed_uses.now s (plain_row r)) (length fixed_uses.now) }
 {
-    let n = fixed_use_count(f_unit, f_point, f_value);
-    let from = first_use(f_unit, f_point, f_value, r.unit);
-    let mut i = from + r.fixed as usize;
-    while i < n {
-        let f = held_use_at(f_unit, f_point, f_value, i);
+    let from = first_use(fixed_uses, r.unit);
+    let first = from + r.fixed as usize;
+    for i in first..fixed_uses.len() {
+        let f = fixed_uses.held_at(i);
         if f.unit.0 != r.unit.0 {
             return false;
         }
@@ -90,29 +80,21 @@ fn use_clashes(f_unit: &[u32], f_point: &[u32], f_value: &[u32], r: Held, s: Gap
         if clashes(s, f) {
             return true;
         }
-        i += 1;
     }
     false
 }
 
 // Whether a reservation that meets the segment counts as fixed.
-fn counts_as_fixed(f_unit: &[u32], f_point: &[u32], f_value: &[u32], r: Held, s: GapSegment) -> bool
-    ensures { let fixed_uses = fixed_uses_of f_unit.now f_point.now f_value.now in
-        OrderedUses fixed_uses → result ≡ counts_as_fixed fixed_uses s (plain_row r) }
+#[tactic(auto, unfolding(crate::specs::Meeting::counts_as_fixed))]
+fn counts_as_fixed(fixed_uses: &FixedUses, r: Held, s: GapSegment) -> bool
+    ensures { OrderedUses fixed_uses.now → result ≡ counts_as_fixed fixed_uses.now s (plain_row r) }
 {
-    if r.kind == 0 {
-        if r.fixed == 4294967295 {
-            return false;
-        }
-        return use_clashes(f_unit, f_point, f_value, r, s);
+    match r.kind {
+        0 => r.fixed != 4294967295 && use_clashes(fixed_uses, r, s),
+        1 => true,
+        2 => r.index != s.value.0,
+        _ => false,
     }
-    if r.kind == 1 {
-        return true;
-    }
-    if r.kind != 2 {
-        return false;
-    }
-    r.index != s.value.0
 }
 
 // The spill weight at an index, zero if there is none.
@@ -121,34 +103,25 @@ fn spill_weight(weight: &[u32], index: u32) -> f32
 {
     let i = index as usize;
     if i < weight.len() {
-        return weight_of(weight[i]);
+        return Limit::Weight.value_of(weight[i]);
     }
-    weight_of(0)
+    Limit::Weight.value_of(0)
 }
 
 // What was met, and with it one reservation of the register.
-pub(crate) fn look(
-    f_unit: &[u32],
-    f_point: &[u32],
-    f_value: &[u32],
-    weight: &[u32],
-    r: Held,
-    s: GapSegment,
-    met: Met,
-) -> Met
-    ensures { let fixed_uses = fixed_uses_of f_unit.now f_point.now f_value.now in
-        OrderedUses fixed_uses → result ≡ looked fixed_uses weight.now s (plain_row r) met }
+#[tactic(auto, unfolding(crate::specs::Meeting::looked, crate::specs::Meeting::spill_weight))]
+pub(crate) fn look(reserved: &Reserved, r: Held, s: GapSegment, met: Met) -> Met
+    ensures { OrderedUses reserved.now.fixed_uses → result ≡ looked reserved.now.fixed_uses reserved.now.weights s (plain_row r) met }
 {
     if !meets(s, r) {
         return met;
     }
-    let counts = counts_as_fixed(f_unit, f_point, f_value, r, s);
-    let fixed = either(met.fixed, counts);
-    if r.kind == 0 {
-        let w = spill_weight(weight, r.index);
-        let heaviest = heavier(met.heaviest, w);
-        return Met { fixed, heaviest };
-    }
-    let heaviest = met.heaviest;
+    let counts = counts_as_fixed(reserved.fixed_uses, r, s);
+    let fixed = met.fixed | counts;
+    let heaviest = if r.kind == 0 {
+        heavier(met.heaviest, spill_weight(reserved.weight, r.index))
+    } else {
+        met.heaviest
+    };
     Met { fixed, heaviest }
 }

@@ -31,11 +31,7 @@ pub(crate) fn ahead_is(side: Side, column: &[u32], n: usize, i: usize, x: u32) -
     requires { (n ≤ length column.now) × (i ≤ n) }
     ensures { result ≡ ahead_is side column.now n i x }
 {
-    if !any_ahead(side, i, n) {
-        return false;
-    }
-    let row = row_ahead(side, i);
-    column[row] == x
+    any_ahead(side, i, n) && column[row_ahead(side, i)] == x
 }
 
 // The place behind the first row ahead.

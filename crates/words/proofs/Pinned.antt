@@ -5,22 +5,21 @@ use Prim.Native.Nat.{ℕ}
 use lib.Ieee.{Float, binary32, of_bits, to_bits, div, round, lt, of_int}
 use Rattle.numbers.specs.Weight.{value_of}
 use Rattle.numbers.specs.Normal.{normalised}
-use Rattle.numbers.specs.declared.MaybeInst.TheVariants as MaybeInst·is
 use Rattle.columns.specs.Table.{table}
-use Rattle.links.specs.declared.split.SplitPoint.TheVariants as SplitPoint·is
 use Rattle.growth.specs.declared.proposal.SplitProposal.{SplitProposal}
 use Rattle.outcome.specs.declared.grow.Answer.TheVariants as Answer·is
 use Rattle.filling.specs.SourceTables.{work_columns}
 use Rattle.refusals.specs.Job.{job_columns, job_of}
 use Rattle.words.specs.Words.{proposed_words, split_point_words, normalised_bits}
+use Rattle.std.specs.Prelude.{Some, None, Ok, Err}
 
 -- ---- the words of `gelduvra_propose_split`
 -- a proposal whose six fields are 1 to 6, weights by their bits
 abbrev numbers_as_fields : SplitProposal
 numbers_as_fields =
     record {
-      left = MaybeInst·is.At (record { 0 = 1 });
-      right = MaybeInst·is.At (record { 0 = 2 });
+      left = Some (record { 0 = 1 });
+      right = Some (record { 0 = 2 });
       use_weight = of_bits binary32 3;
       live_insts = 4;
       interference_weight = of_bits binary32 5;
@@ -31,8 +30,8 @@ numbers_as_fields =
 abbrev without_ends : SplitProposal
 without_ends =
     record {
-      left = MaybeInst·is.Absent;
-      right = MaybeInst·is.Absent;
+      left = None;
+      right = None;
       use_weight = of_bits binary32 3;
       live_insts = 4;
       interference_weight = of_bits binary32 5;
@@ -57,7 +56,7 @@ words_are = refl
 
 -- ---- the words of `gelduvra_find_optimal_split_point`
 pub point_words_are :
-    split_point_words (SplitPoint·is.At (record { 0 = 5 })) ∷ split_point_words (SplitPoint·is.Refused (record { number = 13; place = 6 })) ∷ []
+    split_point_words (Ok (record { 0 = 5 })) ∷ split_point_words (Err (record { number = 13; place = 6 })) ∷ []
     ≡ (0 ∷ 5 ∷ 0 ∷ []) ∷ (1 ∷ 13 ∷ 6 ∷ []) ∷ []
 point_words_are = refl
 

@@ -1,13 +1,9 @@
 -- How an answer is laid out in words
-use Rattle.std.specs.Prelude.{◌≡◌, ℕ, List, [], ◌∷◌, ◌++◌, length}
+use Rattle.std.specs.Prelude.{◌≡◌, ℕ, List, [], ◌∷◌, ◌++◌, length, Option, Some, None, Ok, Err}
 use Rattle.std.specs.Float.{binary32}
 use Rattle.std.specs.Float.Ieee.{to_bits}
 use Rattle.numbers.specs.Weight.{weight_limit, value_of}
 use Rattle.numbers.specs.Normal.{normalised}
-use Rattle.numbers.specs.declared.MaybeInst.{MaybeInst}
-use Rattle.numbers.specs.declared.MaybeInst.TheVariants as MaybeInst·is
-use Rattle.links.specs.declared.split.SplitPoint.{SplitPoint}
-use Rattle.links.specs.declared.split.SplitPoint.TheVariants as SplitPoint·is
 use Rattle.refusals.specs.Job.{Job}
 use Rattle.filling.specs.declared.lent.Rooms.{Rooms}
 use Rattle.proposer.specs.Answer.{answer_of}
@@ -16,11 +12,13 @@ use Rattle.tables.specs.JobTables.{tables_of}
 use Rattle.outcome.specs.declared.grow.Answer.{Answer}
 use Rattle.outcome.specs.declared.grow.Proposed.{Proposed}
 use Rattle.outcome.specs.Outcome.{Numbered, refused, none, proposal, numbered}
+use Rattle.numbers.specs.declared.Inst.{Inst}
+use Rattle.links.specs.Split.{SplitPoint}
 
 -- an end of a proposal; an absent one is 4294967295
-abbrev pub end_word : MaybeInst → ℕ
-end_word (MaybeInst·is.At i) = i.0
-end_word MaybeInst·is.Absent = 4294967295
+abbrev pub end_word : Option Inst → ℕ
+end_word (Some i) = i.0
+end_word None = 4294967295
 
 -- an answer's numbers: 0 and a proposal's six values, none by its kind, or 3 with a refusal's number and place; words without a meaning are 0
 abbrev pub numbered_words : Numbered → List ℕ
@@ -53,8 +51,8 @@ pub record IsExported (job : Job) (lent now : WorkColumns) (words : List ℕ) : 
 
 -- a split point: 0 and the instruction, or 1 with a refusal's number and place
 abbrev pub split_point_words : SplitPoint → List ℕ
-split_point_words (SplitPoint·is.At i) = 0 ∷ i.0 ∷ 0 ∷ []
-split_point_words (SplitPoint·is.Refused r) = 1 ∷ r.number ∷ r.place ∷ []
+split_point_words (Ok i) = 0 ∷ i.0 ∷ 0 ∷ []
+split_point_words (Err r) = 1 ∷ r.number ∷ r.place ∷ []
 
 -- the bits of a normalised weight, from those of the use weight; bits above infinity's are no weight's, and count as zero
 abbrev pub normalised_bits : ℕ → ℕ → ℕ → ℕ

@@ -6,20 +6,20 @@ ghost use Rattle.outcome.specs.declared.grow.Answer.TheVariants.{Found};
 ghost use Rattle.words.specs.Words.{end_word, answer_words, proposed_words, split_point_words, normalised_bits};
 
 use growth::proposal::SplitProposal;
-use links::split::SplitPoint;
-use numbers::MaybeInst;
+use links::blocks::Refusal;
+use numbers::Inst;
 use numbers::normal::normalize_spill_weight;
-use numbers::weights::{bits_of, weight_of};
+use numbers::weights::{Limit, bits_of};
 use outcome::grow::{Answer, Proposed};
 
 // What stands for an absent end.
 const ABSENT: u64 = 4294967295;
 
 // An end of a proposal.
-fn end_word(e: MaybeInst) -> u64
+fn end_word(e: Option<Inst>) -> u64
     ensures { result ≡ end_word e }
 {
-    let MaybeInst::At(i) = e else {
+    let Some(i) = e else {
         return ABSENT;
     };
     i.0 as u64
@@ -82,12 +82,12 @@ pub fn proposed_words(proposed: Proposed) -> [u64; 10]
 }
 
 // A split point or a refusal.
-pub fn split_point_words(point: SplitPoint) -> [u64; 3]
+pub fn split_point_words(point: Result<Inst, Refusal>) -> [u64; 3]
     ensures { result ≡ split_point_words point }
 {
     match point {
-        SplitPoint::At(i) => [0, i.0 as u64, 0],
-        SplitPoint::Refused(r) => [1, r.number as u64, r.place as u64],
+        Ok(i) => [0, i.0 as u64, 0],
+        Err(r) => [1, r.number as u64, r.place as u64],
     }
 }
 
@@ -95,5 +95,5 @@ pub fn split_point_words(point: SplitPoint) -> [u64; 3]
 pub fn normalised_bits(use_weight: u32, live_insts: u32, k: u32) -> u32
     ensures { result ≡ normalised_bits use_weight live_insts k }
 {
-    bits_of(normalize_spill_weight(weight_of(use_weight), live_insts, k))
+    bits_of(normalize_spill_weight(Limit::Weight.value_of(use_weight), live_insts, k))
 }

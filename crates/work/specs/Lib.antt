@@ -1,2 +1,3 @@
 -- What filling the work tables leaves
 pub mod FilledFrom
+pub mod Lent

@@ -7,8 +7,8 @@ use lib.Ieee.{binary32, of_bits}
 use Rattle.sheet.specs.Answer.{answer_text, Wrote}
 use Rattle.sheet.specs.declared.write.Answer as Shown
 use Rattle.filling.specs.SourceTables.{work_columns}
-use Rattle.refusals.specs.Job.{JobColumns, job_of}
-use Rattle.refusals.proofs.Columns.{columns_taken}
+use Rattle.refusals.specs.Job.{Job}
+use Rattle.figures.specs.Figures.{shown_of}
 use Rattle.table_text.specs.TablesText.{columns_text}
 use Rattle.table_text.proofs.FilledText.{longer}
 use Rattle.answers.specs.SheetRooms.{sheet_rooms}
@@ -298,11 +298,12 @@ returns c =
     let proposed = c.propose_split-proposed.ensures in
     let rooms = lent_rooms args.asked e in
     let more = behind_of q.result in
-    let blocks = c.count.ensures ∙ ap (λ (x : JobColumns). length (job_of args.parameters x).blocks) (columns_taken args.columns) in
+    let blocks = c.count.ensures ∙ ap (λ (j : Job). length j.blocks) c.job.view_is in
+    let shown = c.shown_of.ensures ∙ ap (λ (j : Job). shown_of j.k c.propose_split-proposed.result.answer) c.job.view_is in
     record {
       answer = subst
           (λ (x : Shown.Answer). Wrote (answer_text x) args.out.now c.write_answer.new.out c.write_answer.result)
-          (c.shown_of.ensures ∙ answer_said args.asked proposed rooms) c.write_answer.ensures;
+          (shown ∙ answer_said args.asked proposed rooms) c.write_answer.ensures;
       tables = subst
           (λ (x : List ℕ). Wrote x args.tables.now c.write_tables.new.out c.write_tables.result)
           (ap (columns_text (longer cols more)) c.rows_used-rows.ensures

@@ -17,13 +17,3 @@ parameter-requires-4 c = (c.requires, is_column _ _ refl refl)
 
 pub parameter-requires-5 : goal.parameter-requires-5
 parameter-requires-5 c = (c.requires, is_column _ _ refl refl)
-
-pub returns : goal.returns
-returns c =
-    λ i. record {
-      k = c.parameter.ensures i;
-      cheaper_than_move = c.parameter-2.ensures i;
-      cheaper_than_load = c.parameter-3.ensures i;
-      indirect = c.parameter-4.ensures i;
-      units = c.parameter-5.ensures i;
-    }

@@ -20,8 +20,5 @@ above ends n p r f =
       found = λ m. ap (λ (x : ℕ). leb x (get_or ends r 0)) (sym (add-one p)) ∙ f.found m;
     })
 
-pub first_at_least-at-requires : goal.first_at_least-at-requires
-first_at_least-at-requires c = let s = c.requires.searchable in (s.order, s.inside)
-
 pub returns : goal.returns
 returns c = above c.args.end.now c.args.n c.args.inst.0 _ (c.first_at_least-at.ensures.2 c.requires.searchable.rising)

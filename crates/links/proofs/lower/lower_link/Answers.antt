@@ -2,9 +2,8 @@
 use mathlib.Core.Path.{◌≡◌, refl, sym, ap, ◌∙◌, subst}
 use mathlib.Core.List.{List}
 use Prim.Native.Nat.{ℕ, ◌+◌, ◌-◌, ◌≤◌, ◌<◌}
-use native.Mathlib.Nat.{le_trans, lt_of_lt_of_le, not-le_of_lt, not-suc-le-zero}
+use native.Mathlib.Nat.{le_trans, not-le_of_lt, not-suc-le-zero}
 use native.Mathlib.Omega.{arith}
-use borrow.Author.Rules.{scaled_Fits}
 use borrow.Author.Tests.{lt-ltb, le-ltb}
 use lib.Dec.{ltb, lit≤}
 use lib.ListN.{length, get_or}
@@ -87,20 +86,8 @@ module _ (side : Side) (f links : List ℕ) (b : ℕ) (pre : LinkedBeyond side f
 some : (n : ℕ) → (n ≡ 0 → ⊥) → 0 < n
 some n h = omega arith
 
-pub offset_bounds-freq-b : goal.offset_bounds-freq-b
-offset_bounds-freq-b c = scaled_Fits _ _ 4 c.requires.inside c.well_formed.0.1
-
-pub bounds-freq-b : goal.bounds-freq-b
-bounds-freq-b c = c.requires.inside
-
-pub beside-requires : goal.beside-requires
-beside-requires c = c.requires.inside
-
 pub returns-then-beside-eq0 : goal.returns-then-beside-eq0
 returns-then-beside-eq0 c = none_beside c.args.side c.args.freq.now c.args.links.now c.args.b c.requires (sym c.beside.ensures ∙ c.if-beside-eq0.true)
-
-pub beyond-j-requires : goal.beyond-j-requires
-beyond-j-requires c = (c.requires.inside, subst (λ (x : ℕ). 0 < x) c.beside.ensures (some _ c.if-beside-eq0.false))
 
 pub loop-j-init : goal.loop-j-init
 loop-j-init c =
@@ -109,15 +96,6 @@ loop-j-init c =
     (subst (λ (x : Side). Walk x c.args.freq.now c.args.b (beyond c.args.side c.args.b 0))
     (sym (side_from_lem c.args.side (length c.args.freq.now) c.args.b z))
     (walk_starts c.args.side c.args.freq.now c.args.b c.requires.inside z))
-
-pub offset_bounds-freq-j : goal.offset_bounds-freq-j
-offset_bounds-freq-j c = scaled_Fits _ (length c.args.freq.now) 4 c.loop-j-test.true c.well_formed.0.1
-
-pub bounds-freq-j : goal.bounds-freq-j
-bounds-freq-j c = c.loop-j-test.true
-
-pub overflow_cast-result : goal.overflow_cast-result
-overflow_cast-result c = let f = c.requires.given.few in omega (arith, c.loop-j-test.true)
 
 pub returns-then-freq-j : goal.returns-then-freq-j
 returns-then-freq-j c =
@@ -128,17 +106,6 @@ returns-then-freq-j c =
     let walk : Walk c.args.side c.args.freq.now c.args.b c.loop-j.j = subst (λ (s : Side). Walk s c.args.freq.now c.args.b c.loop-j.j) turned c.loop-j.invariant in
     walk_finds c.args.side c.args.freq.now c.args.links.now c.args.b c.requires c.loop-j.j walk
     c.loop-j-test.true c.if-freq-j.true
-
-pub offset_bounds-links-j : goal.offset_bounds-links-j
-offset_bounds-links-j c =
-    scaled_Fits _ (length c.args.links.now) 4
-    (lt_of_lt_of_le c.loop-j-test.true c.requires.given.long) c.well_formed.1.0.1
-
-pub bounds-links-j : goal.bounds-links-j
-bounds-links-j c = lt_of_lt_of_le c.loop-j-test.true c.requires.given.long
-
-pub overflow_cast-j : goal.overflow_cast-j
-overflow_cast-j c = omega (arith, c.shared_slice_known-in-loop-j-2-1.given c.loop-j.j)
 
 pub loop-j-smaller : goal.loop-j-smaller
 loop-j-smaller c =

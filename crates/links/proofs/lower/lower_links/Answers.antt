@@ -5,7 +5,6 @@ use mathlib.Core.List.{List}
 use Prim.Native.Nat.{ℕ, ◌+◌, ◌≤◌, ◌<◌, zero-le}
 use native.Mathlib.Nat.{le_trans, le_of_eq, lt_of_lt_of_le, not-le_of_lt}
 use native.Mathlib.Omega.{arith}
-use borrow.Author.Rules.{scaled_Fits}
 use lib.ListN.{length, get_or, set, length-set}
 use lib.Seq.{get_or-set_same, get_or-set_other}
 use Rattle.links.specs.Links.{lower_link, LiesBeyond, nth, Frequencies, LinkedBeyond}
@@ -48,47 +47,21 @@ module _ (side : Side) (f lent links : List ℕ) (t : ℕ) (given : Frequencies 
 pub loop-t-init : goal.loop-t-init
 loop-t-init c = record { counted = zero-le; long = refl; done = λ k kn p. absurd (done_none _ _ k kn p); rest = λ k _. refl }
 
-pub nth-b-requires : goal.nth-b-requires
-nth-b-requires c = c.loop-t-test.true
-
-pub lower_link-link-requires : goal.lower_link-link-requires
-lower_link-link-requires c =
+pub lower_link-requires : goal.lower_link-requires
+lower_link-requires c =
     subst (LinkedBeyond c.args.side c.args.freq.now c.loop-t.links) (sym c.nth-b.ensures)
     (ready c.args.side c.args.freq.now c.args.links.now c.loop-t.links c.loop-t.t c.requires
     c.loop-t.invariant c.loop-t-test.true)
-
-pub offset_bounds-links-b : goal.offset_bounds-links-b
-offset_bounds-links-b c =
-    let in_links : c.nth-b.result < length c.loop-t.links = subst (λ (x : ℕ). x < length c.loop-t.links) (sym c.nth-b.ensures)
-    (room c.args.side c.args.freq.now c.args.links.now c.loop-t.links c.loop-t.t c.requires
-    c.loop-t.invariant c.loop-t-test.true) in
-    scaled_Fits _ (length c.args.links.now) 4 (lt_of_lt_of_le in_links (le_of_eq c.loop-t.invariant.long)) c.well_formed.1.0.1
-
-pub bounds-links-b : goal.bounds-links-b
-bounds-links-b c =
-    let in_links : c.nth-b.result < length c.loop-t.links = subst (λ (x : ℕ). x < length c.loop-t.links) (sym c.nth-b.ensures)
-    (room c.args.side c.args.freq.now c.args.links.now c.loop-t.links c.loop-t.t c.requires
-    c.loop-t.invariant c.loop-t-test.true) in
-    in_links
-
-pub overflow_add-t : goal.overflow_add-t
-overflow_add-t c = omega (arith, c.loop-t-test.true)
-
-pub loop-t-smaller : goal.loop-t-smaller
-loop-t-smaller c = omega (arith, c.loop-t-test.true)
 
 pub loop-t-preserved : goal.loop-t-preserved
 loop-t-preserved c =
     let b = c.nth-b in
     subst
     (λ (x : ℕ). Linked c.args.side c.args.freq.now c.args.links.now
-    (set c.loop-t.links x c.lower_link-link.result) (c.loop-t.t + 1)) (sym b.ensures)
+    (set c.loop-t.links x c.lower_link.result) (c.loop-t.t + 1)) (sym b.ensures)
     (linked_next c.args.side c.args.freq.now c.args.links.now c.loop-t.links c.loop-t.t
     c.requires c.loop-t.invariant c.loop-t-test.true
-    c.lower_link-link.result (c.lower_link-link.ensures ∙ ap (lower_link c.args.side c.args.freq.now) b.ensures))
-
-pub shape_of-links : goal.shape_of-links
-shape_of-links c = c.loop-t.invariant.long
+    c.lower_link.result (c.lower_link.ensures ∙ ap (lower_link c.args.side c.args.freq.now) b.ensures))
 
 pub returns : goal.returns
 returns c =

@@ -1,7 +1,7 @@
 -- `lower_links` fills the column: after t blocks those that are done have their links, and rows past the blocks are as they were
 use mathlib.Core.Path.{◌≡◌}
 use mathlib.Core.List.{List}
-use Prim.Native.Nat.{ℕ, ◌-◌, ◌≤◌, ◌<◌}
+use Prim.Native.Nat.{ℕ, ◌≤◌, ◌<◌}
 use lib.ListN.{length, get_or}
 use Rattle.links.specs.Links.{lower_link}
 use Rattle.links.specs.declared.lower.Side.{Side}
@@ -16,6 +16,3 @@ pub record Linked (side : Side) (f lent links : List ℕ) (t : ℕ) : Type 0 whe
 
 abbrev pub invariant-loop-t : goal.invariant-loop-t
 invariant-loop-t l = Linked l.side l.freq l.initial.links l.links l.t
-
-abbrev pub decreases-loop-t : goal.decreases-loop-t
-decreases-loop-t l = l.n - l.t

@@ -3,9 +3,8 @@ use mathlib.Core.Path.{◌≡◌, sym, ap, ◌∙◌, subst, subst₂}
 use mathlib.Core.Bool.{true, false}
 use mathlib.Core.List.{List}
 use Prim.Native.Nat.{ℕ, ◌+◌, ◌≤◌, ◌<◌}
-use native.Mathlib.Nat.{le_trans, lt_of_lt_of_le, not-le_of_lt}
+use native.Mathlib.Nat.{le_trans, not-le_of_lt}
 use native.Mathlib.Omega.{arith}
-use borrow.Author.Rules.{scaled_Fits}
 use borrow.Author.Tests.{lt-ltb, le-ltb}
 use lib.Dec.{ltb, lit≤}
 use lib.ListN.{length, get_or}
@@ -13,7 +12,6 @@ use Rattle.numbers.specs.declared.Inst.{Inst}
 use Rattle.links.specs.Links.{beside, beyond, absent, is_lower}
 use Rattle.links.specs.Split.{reaches, Swept, last_reached}
 use Rattle.links.specs.declared.lower.Side.{Side}
-use Rattle.links.specs.declared.lower.Side.TheVariants.{Previous, Next}
 use Rattle.links.proofs.Linking.{beyond_inside, lower_bits}
 use Rattle.links.proofs.Following.{Sweep, sweep_starts, sweep_lower, sweep_passes, sweep_ends, stopped}
 use Rattle.links.proofs.split.sweep.Goals as goal
@@ -53,82 +51,20 @@ module _ (side : Side) (f edges : List ℕ) (limit start b : ℕ) (pre : Swept f
   ends_swept : beside side (length f) b ≤ t → p ≡ last_reached side f edges limit start b
   ends_swept h = sweep_ends side f edges limit start b few pre.inside t p l s (λ d m n. absurd (not-le_of_lt n (le_trans h m)))
 
-pub beside-count-requires : goal.beside-count-requires
-beside-count-requires c = c.requires.inside
-
-pub offset_bounds-freq-at : goal.offset_bounds-freq-at
-offset_bounds-freq-at c = scaled_Fits _ (length c.args.freq.now) 4 c.requires.inside c.well_formed.0.1
-
-pub bounds-freq-at : goal.bounds-freq-at
-bounds-freq-at c = c.requires.inside
-
 pub loop-t-init : goal.loop-t-init
 loop-t-init c =
     sweep_starts c.args.side c.args.freq.now c.args.edges.now c.args.limit.0 c.args.start.0 c.args.b.0
     c.requires.inside
 
-pub beyond-i-requires : goal.beyond-i-requires
-beyond-i-requires c =
-    let beside_b : c.loop-t.t < beside c.args.side (length c.args.freq.now) c.args.b.0 = subst (λ (x : ℕ). c.loop-t.t < x) c.beside-count.ensures c.loop-t-test.true in
-    (c.requires.inside, beside_b)
-
-pub offset_bounds-edges-i : goal.offset_bounds-edges-i
-offset_bounds-edges-i c =
-    let beside_b : c.loop-t.t < beside c.args.side (length c.args.freq.now) c.args.b.0 = subst (λ (x : ℕ). c.loop-t.t < x) c.beside-count.ensures c.loop-t-test.true in
-    let in_freq : c.beyond-i.result < length c.args.freq.now = subst (λ (x : ℕ). x < length c.args.freq.now) (sym c.beyond-i.ensures)
-    (beyond_inside c.args.side (length c.args.freq.now) c.args.b.0 c.loop-t.t c.requires.inside
-    beside_b) in
-    let in_edges : c.beyond-i.result < length c.args.edges.now = lt_of_lt_of_le in_freq c.requires.given.long in
-    scaled_Fits _ (length c.args.edges.now) 4 in_edges c.well_formed.1.0.1
-
-pub bounds-edges-i : goal.bounds-edges-i
-bounds-edges-i c =
-    let beside_b : c.loop-t.t < beside c.args.side (length c.args.freq.now) c.args.b.0 = subst (λ (x : ℕ). c.loop-t.t < x) c.beside-count.ensures c.loop-t-test.true in
-    let in_freq : c.beyond-i.result < length c.args.freq.now = subst (λ (x : ℕ). x < length c.args.freq.now) (sym c.beyond-i.ensures)
-    (beyond_inside c.args.side (length c.args.freq.now) c.args.b.0 c.loop-t.t c.requires.inside
-    beside_b) in
-    let in_edges : c.beyond-i.result < length c.args.edges.now = lt_of_lt_of_le in_freq c.requires.given.long in
-    in_edges
-
 pub returns-then-not-reaches : goal.returns-then-not-reaches
 returns-then-not-reaches c =
-    let beside_b : c.loop-t.t < beside c.args.side (length c.args.freq.now) c.args.b.0 = subst (λ (x : ℕ). c.loop-t.t < x) c.beside-count.ensures c.loop-t-test.true in
     let i = c.beyond-i in
     ends_stopped c.args.side c.args.freq.now c.args.edges.now c.args.limit.0 c.args.start.0 c.args.b.0
     c.requires c.loop-t.t c.loop-t.split.0 c.loop-t.least c.loop-t.invariant
-    i.result i.ensures beside_b (sym c.reaches.ensures ∙ c.if-not-reaches.true)
-
-pub offset_bounds-freq-i : goal.offset_bounds-freq-i
-offset_bounds-freq-i c =
-    let beside_b : c.loop-t.t < beside c.args.side (length c.args.freq.now) c.args.b.0 = subst (λ (x : ℕ). c.loop-t.t < x) c.beside-count.ensures c.loop-t-test.true in
-    let in_freq : c.beyond-i.result < length c.args.freq.now = subst (λ (x : ℕ). x < length c.args.freq.now) (sym c.beyond-i.ensures)
-    (beyond_inside c.args.side (length c.args.freq.now) c.args.b.0 c.loop-t.t c.requires.inside
-    beside_b) in
-    scaled_Fits _ (length c.args.freq.now) 4 in_freq c.well_formed.0.1
-
-pub bounds-freq-i : goal.bounds-freq-i
-bounds-freq-i c =
-    let beside_b : c.loop-t.t < beside c.args.side (length c.args.freq.now) c.args.b.0 = subst (λ (x : ℕ). c.loop-t.t < x) c.beside-count.ensures c.loop-t-test.true in
-    let in_freq : c.beyond-i.result < length c.args.freq.now = subst (λ (x : ℕ). x < length c.args.freq.now) (sym c.beyond-i.ensures)
-    (beyond_inside c.args.side (length c.args.freq.now) c.args.b.0 c.loop-t.t c.requires.inside
-    beside_b) in
-    in_freq
-
-pub overflow_add-t : goal.overflow_add-t
-overflow_add-t c =
-    let beside_b : c.loop-t.t < beside c.args.side (length c.args.freq.now) c.args.b.0 = subst (λ (x : ℕ). c.loop-t.t < x) c.beside-count.ensures c.loop-t-test.true in
-    omega (arith, beside_b, short c.args.side (length c.args.freq.now) c.args.b.0 c.requires.inside, c.requires.given.few)
-  where
-    short : (side : Side) (n b : ℕ) → b < n → beside side n b ≤ n
-    short Previous n b h = omega arith
-    short Next n b h = omega arith
-
-pub loop-t-smaller : goal.loop-t-smaller
-loop-t-smaller c = omega (arith, c.loop-t-test.true)
+    i.result i.ensures (omega arith) (sym c.reaches.ensures ∙ c.if-not-reaches.true)
 
 pub loop-t-preserved : goal.loop-t-preserved
 loop-t-preserved c =
-    let beside_b : c.loop-t.t < beside c.args.side (length c.args.freq.now) c.args.b.0 = subst (λ (x : ℕ). c.loop-t.t < x) c.beside-count.ensures c.loop-t-test.true in
     let i = c.beyond-i in
     elim c.if-f-least.branch [
       | then-f-least w ↦ subst₂
@@ -136,17 +72,17 @@ loop-t-preserved c =
           c.args.b.0 (c.loop-t.t + 1) p.0 q) (sym w.split-is) (sym w.least-is)
           (turn_lower c.args.side c.args.freq.now c.args.edges.now c.args.limit.0 c.args.start.0 c.args.b.0
           c.requires c.loop-t.t c.loop-t.split.0 c.loop-t.least c.loop-t.invariant
-          i.result i.ensures beside_b w.if-f-least.true (sym c.reaches.ensures ∙ c.if-not-reaches.false))
+          i.result i.ensures (omega arith) w.if-f-least.true (sym c.reaches.ensures ∙ c.if-not-reaches.false))
       | else-f-least w ↦ subst₂
           (λ (p : Inst) (q : ℕ). Sweep c.args.side c.args.freq.now c.args.edges.now c.args.limit.0 c.args.start.0
           c.args.b.0 (c.loop-t.t + 1) p.0 q) (sym w.split-is) (sym w.least-is)
           (turn_passes c.args.side c.args.freq.now c.args.edges.now c.args.limit.0 c.args.start.0 c.args.b.0
           c.requires c.loop-t.t c.loop-t.split.0 c.loop-t.least c.loop-t.invariant
-          i.result i.ensures beside_b w.if-f-least.false)
+          i.result i.ensures (omega arith) w.if-f-least.false)
     ]
 
 pub returns : goal.returns
 returns c =
     ends_swept c.args.side c.args.freq.now c.args.edges.now c.args.limit.0 c.args.start.0 c.args.b.0
     c.requires c.loop-t.t c.loop-t.split.0 c.loop-t.least c.loop-t.invariant
-    (subst (λ (x : ℕ). x ≤ c.loop-t.t) c.beside-count.ensures c.loop-t-test.false)
+    (omega arith)

@@ -6,5 +6,5 @@ use Rattle.numbers.proofs.costs.spill_cost.Goals as goal
 
 pub returns : goal.returns
 returns c =
-    c.cost_of.ensures ∙ ap (value_of cost_limit) c.spill_cost_bits.ensures
+    c.value_of.ensures ∙ ap (value_of cost_limit) c.spill_cost_bits.ensures
     ∙ bits_cost c.args.kind c.args.cost

@@ -1,62 +1,60 @@
 -- `live_insts` goes through the segments with where the one before ended and the sum so far, which lies before that
 use mathlib.Core.Path.{◌≡◌, refl, sym, ap, ap₂, ◌∙◌}
-use Prim.Native.Nat.{ℕ, ◌+◌, ◌-◌, ◌≤◌, zero-le, max}
-use native.Mathlib.Nat.{le_antisymm, le_trans, le_of_eq}
+use Prim.Native.Nat.{ℕ, ◌+◌, ◌-◌, ◌≤◌, ◌<◌, max}
+use mathlib.Core.List.{List}
 use native.Mathlib.Omega.{arith}
-use lib.ListN.{get_or}
-use Rattle.numbers.specs.Point.{inst_of}
+use lib.ListN.{length, get_or, get_or-map, length-map}
+use Rattle.numbers.specs.Point.{inst_of, round_up}
 use Rattle.links.specs.Blocks.{end_limit}
 use Rattle.columns.specs.Below.{sum_below}
-use Rattle.overlaps.specs.Live.{live_from, live_to, live_of}
-use Rattle.overlaps.proofs.LiveLaws.{sum_next, last_next, live_order, live_inside, live_before}
+use Rattle.jobs.specs.declared.rows.Segment.{Segment}
+use Rattle.jobs.specs.declared.checked.LiveSegment.{LiveSegment}
+use Rattle.jobs.specs.Rows.{no_segment}
+use Rattle.jobs.specs.Checked.{live_segment}
+use Rattle.overlaps.specs.Live.{live_of, SoundSegments, starts_in, ends_in}
+use Rattle.overlaps.proofs.LiveLaws.{last_of, sum_next, last_next, live_inside, live_before}
 use Rattle.overlaps.proofs.live.live_insts.Goals as goal
+
+-- a turn, at segment i
+module _ (segments : List Segment) (given : SoundSegments segments) (i last sum first to : ℕ) (s : LiveSegment) (inside : i < length segments)
+    (before : last ≡ last_of (ends_in segments) i) (summed : sum ≡ sum_below (live_of (starts_in segments) (ends_in segments)) i)
+    (read : s ≡ live_segment (get_or segments i no_segment)) (from : first ≡ max last (inst_of s.start.0)) (to_is : to ≡ round_up s.end.0) where
+  start : s.start.0 ≡ get_or (starts_in segments) i 0
+  start = ap (λ (s : LiveSegment). s.start.0) read ∙ sym (get_or-map (λ (s : Segment). s.start) segments i no_segment)
+
+  end : s.end.0 ≡ get_or (ends_in segments) i 0
+  end = ap (λ (s : LiveSegment). s.end.0) read ∙ sym (get_or-map (λ (s : Segment). s.end) segments i no_segment)
+
+  turned : (to ≡ last_of (ends_in segments) (i + 1)) × (sum + (to - first) ≡ sum_below (live_of (starts_in segments) (ends_in segments)) (i + 1))
+  turned = (
+    to_is ∙ ap round_up end ∙ last_next (ends_in segments) i,
+    ap₂ (λ (a b : ℕ). a + b) summed
+        (ap₂ (λ (z a : ℕ). z - a) (to_is ∙ ap round_up end) (from ∙ ap₂ (λ (l x : ℕ). max l (inst_of x)) before start))
+        ∙ sym (sum_next (live_of (starts_in segments) (ends_in segments)) i),
+  )
+
+  limited : sum + (to - first) ≤ end_limit
+  limited =
+      let n = length-map segments (λ (s : Segment). s.start) in
+      let m = live_inside (starts_in segments) (ends_in segments) given i (omega (arith, n, inside)) in
+      let b = live_before (starts_in segments) (ends_in segments) given (i + 1) (omega (arith, n, inside)) in
+      let l = last_next (ends_in segments) i in
+      let s = turned.1 in
+      omega (arith, m, b, l, s)
 
 pub loop-i-init : goal.loop-i-init
 unfolding sum_below
-loop-i-init c = (zero-le, refl, refl)
-
-pub bounds-end-i : goal.bounds-end-i
-bounds-end-i c = let e = c.requires.long in omega (arith, c.loop-i-test.true, e)
-
-pub overflow_sub-sum : goal.overflow_sub-sum
-overflow_sub-sum c =
-    let from_is : c.live_from-a.result.0 ≡ live_from c.args.start.now c.args.end.now c.loop-i.i = c.live_from-a.ensures
-    ∙ ap (λ (last : ℕ). max last (inst_of (get_or c.args.start.now c.loop-i.i 0))) c.loop-i.invariant.1 in
-    let to_is : c.live_to-e.result.0 ≡ live_to c.args.end.now c.loop-i.i = c.live_to-e.ensures in
-    let ordered : c.live_from-a.result.0 ≤ c.live_to-e.result.0 = let p = live_order c.args.start.now c.args.end.now c.requires c.loop-i.i c.loop-i-test.true in
-    let a = from_is in
-    let e = to_is in
-    omega (arith, p, a, e) in
-    ordered
+loop-i-init c = (refl, refl)
 
 pub overflow_add-sum : goal.overflow_add-sum
 overflow_add-sum c =
-    let from_is : c.live_from-a.result.0 ≡ live_from c.args.start.now c.args.end.now c.loop-i.i = c.live_from-a.ensures
-    ∙ ap (λ (last : ℕ). max last (inst_of (get_or c.args.start.now c.loop-i.i 0))) c.loop-i.invariant.1 in
-    let to_is : c.live_to-e.result.0 ≡ live_to c.args.end.now c.loop-i.i = c.live_to-e.ensures in
-    let summed : c.loop-i.sum + (c.live_to-e.result.0 - c.live_from-a.result.0) ≡ sum_below (live_of c.args.start.now c.args.end.now) (c.loop-i.i + 1) = ap₂ (λ (a b : ℕ). a + b) c.loop-i.invariant.2 (ap₂ (λ (e a : ℕ). e - a) to_is from_is)
-    ∙ sym (sum_next (live_of c.args.start.now c.args.end.now) c.loop-i.i) in
-    let limited : c.loop-i.sum + (c.live_to-e.result.0 - c.live_from-a.result.0) ≤ end_limit = let s = c.args.start.now in
-    let e = c.args.end.now in
-    let h = c.loop-i-test.true in
-    let p = live_before s e c.requires (c.loop-i.i + 1) (omega (arith, h)) in
-    let q = last_next e c.loop-i.i in
-    let m = live_inside s e c.requires c.loop-i.i h in
-    le_trans (le_of_eq summed) (le_trans p (le_trans (le_of_eq (sym q)) m)) in
-    let m = limited in omega (arith, m)
+    let l = c.loop-i in
+    let m = limited c.args.segments.now c.requires l.i l.last.0 l.sum _ _ _ (omega arith) l.invariant.0 l.invariant.1
+    c.live_at-s.ensures c.live_from-first.ensures c.live_to-last.ensures in
+    omega arith
 
 pub loop-i-preserved : goal.loop-i-preserved
 loop-i-preserved c =
-    let to_is : c.live_to-e.result.0 ≡ live_to c.args.end.now c.loop-i.i = c.live_to-e.ensures in
-    let from_is : c.live_from-a.result.0 ≡ live_from c.args.start.now c.args.end.now c.loop-i.i = c.live_from-a.ensures
-    ∙ ap (λ (last : ℕ). max last (inst_of (get_or c.args.start.now c.loop-i.i 0))) c.loop-i.invariant.1 in
-    let summed : c.loop-i.sum + (c.live_to-e.result.0 - c.live_from-a.result.0) ≡ sum_below (live_of c.args.start.now c.args.end.now) (c.loop-i.i + 1) = ap₂ (λ (a b : ℕ). a + b) c.loop-i.invariant.2 (ap₂ (λ (e a : ℕ). e - a) to_is from_is)
-    ∙ sym (sum_next (live_of c.args.start.now c.args.end.now) c.loop-i.i) in
-    (omega (arith, c.loop-i-test.true), to_is ∙ last_next c.args.end.now c.loop-i.i, summed)
-
-pub returns : goal.returns
-returns c =
     let l = c.loop-i in
-    l.invariant.2
-    ∙ ap (sum_below (live_of c.args.start.now c.args.end.now))
-    (le_antisymm l.invariant.0 c.loop-i-test.false)
+    turned c.args.segments.now c.requires l.i l.last.0 l.sum _ _ _ (omega arith) l.invariant.0 l.invariant.1
+    c.live_at-s.ensures c.live_from-first.ensures c.live_to-last.ensures

@@ -1,82 +1,66 @@
 -- `find_split_region` makes the walkers at the own gap's left edge, and takes what growth answers
-use mathlib.Core.Path.{◌≡◌, refl, sym, ap, subst, ◌∙◌}
-use mathlib.Core.List.{map}
-use Prim.Native.Nat.{ℕ, zero-le}
-use native.Mathlib.Nat.{le_refl, le_trans, le_of_eq}
+use mathlib.Core.Path.{◌≡◌, refl, ap, subst}
+use mathlib.Core.List.{List}
+use Prim.Native.Nat.{ℕ, ◌≤◌}
+use native.Mathlib.Nat.{le_trans, le_of_eq}
+use lib.Dec.{leb}
+use lib.ListN.{length, get_or}
+use Rattle.columns.specs.First.{FirstIn, Rising}
+use Rattle.jobs.specs.declared.rows.Reservation.{Reservation}
 use Rattle.links.specs.declared.lower.Side.{Side}
 use Rattle.links.specs.declared.lower.Side.TheVariants.{Previous, Next}
 use Rattle.overlaps.specs.GapSegments.{SegmentColumns}
 use Rattle.walks.specs.declared.walk.Walk.{Walk}
+use Rattle.walks.specs.declared.both.Walkers.{Walkers}
+use Rattle.walks.specs.declared.meeting.Register.{Register}
 use Rattle.walks.specs.Meeting.{Reserved}
 use Rattle.walks.specs.Standing.{StandsInUnits, PlacesInside}
-use Rattle.walks.specs.Gaps.{segments_in, Fits, At, walk_on}
-use Rattle.walks.proofs.Taken.{reserved_taken, reserved_taken_lem, segments_taken, segments_taken_lem}
+use Rattle.walks.specs.Gaps.{Fits, At, walk_on}
 use Rattle.walks.proofs.GapWalk.{gaps_rise}
-use Rattle.growth.specs.declared.proposal.SplitProposal.{SplitProposal}
-use Rattle.growth.specs.declared.proposal.Region.TheVariants.{Found}
-use Rattle.region.specs.Find.{Walking, Begun}
-use Rattle.region.proofs.Growing.{starts}
+use Rattle.region.specs.Find.{Walking, Begun, point_at}
+use Rattle.region.proofs.Growing.{both_sides, starts}
 use Rattle.region.proofs.find.find_split_region.Goals as goal
 
-pub first_at_least-next-requires : goal.first_at_least-next-requires
-first_at_least-next-requires c =
-    let table : Reserved = reserved_taken c.args.reserved in
-    let columns : SegmentColumns = segments_taken c.args.segments in
-    let walking : Walking c.args.register table columns = subst (λ (g : SegmentColumns). Walking c.args.register table g) (sym (segments_taken_lem c.args.segments))
-    (subst (λ (t : Reserved). Walking c.args.register t (segments_in (map (λ x. x.now) c.args.segments))) (sym (reserved_taken_lem c.args.reserved)) c.requires.walking) in
-    (zero-le, walking.long.gap_long)
+-- among n rows of gap segments, that of the own gap's first and its point
+record Start (g : SegmentColumns) (n own next point : ℕ) : Type 0 where
+  inside : next ≤ n
+  found : Rising g.gap 0 n → FirstIn (λ (k : ℕ). leb own (get_or g.gap k 0)) 0 n next
+  at : point ≡ point_at g.from next
 
-pub new-walkers-requires : goal.new-walkers-requires
-new-walkers-requires c =
-    let table : Reserved = reserved_taken c.args.reserved in
-    let columns : SegmentColumns = segments_taken c.args.segments in
-    let walking : Walking c.args.register table columns = subst (λ (g : SegmentColumns). Walking c.args.register table g) (sym (segments_taken_lem c.args.segments))
-    (subst (λ (t : Reserved). Walking c.args.register t (segments_in (map (λ x. x.now) c.args.segments))) (sym (reserved_taken_lem c.args.reserved)) c.requires.walking) in
-    let w = walking in record { ordered_rows = w.walkable.ready.rows; known = w.known }
+-- walkers that were made there
+abbrev Made : Register → List Reservation → ℕ → ℕ → Walkers → Type 0
+Made p rows next point ws =
+    (ws.left.next ≡ next)
+    × (ws.right.next ≡ next)
+    × (PlacesInside p (length rows) ws.left × StandsInUnits Previous p rows point ws.left)
+    × (PlacesInside p (length rows) ws.right × StandsInUnits Next p rows point ws.right)
 
-pub grow-g-requires : goal.grow-g-requires
-grow-g-requires c =
-    let table : Reserved = reserved_taken c.args.reserved in
-    let columns : SegmentColumns = segments_taken c.args.segments in
-    let walking : Walking c.args.register table columns = subst (λ (g : SegmentColumns). Walking c.args.register table g) (sym (segments_taken_lem c.args.segments))
-    (subst (λ (t : Reserved). Walking c.args.register t (segments_in (map (λ x. x.now) c.args.segments))) (sym (reserved_taken_lem c.args.reserved)) c.requires.walking) in
-    let begun : Begun c.args.register table columns c.args.initial c.new-walkers.result = let a = c.args in
-    let w = walking in
-    let g = columns in
-    let e = c.new-walkers.ensures in
-    let next = c.first_at_least-next.result in
-    let fits : (x : Walk) → x.next ≡ next → PlacesInside a.register _ x → Fits a.register table g x =
-    λ x n i. record { known = w.known; long = w.long; next = le_trans (le_of_eq n) c.first_at_least-next.ensures.1; places = i } in
-    let at : (side : Side) (x : Walk) → x.next ≡ next → StandsInUnits side a.register table.rows c.point_at-point.result.0 x → _ =
-    λ side x n s. starts a.register table g w.walkable.ordered refl a.initial next
-    (c.first_at_least-next.ensures.2 (gaps_rise g w.walkable.ordered)) w.small side x n
-    (subst (λ (p : ℕ). StandsInUnits side a.register table.rows p x) c.point_at-point.ensures s) in
+begun : (p : Register) (t : Reserved) (g : SegmentColumns) (own next point : ℕ) (ws : Walkers) → Walking p t g → g.used ≡ length g.from
+    → Start g g.used own next point → Made p t.rows next point ws → Begun p t g own ws
+begun p t g own next point ws w long s e =
+    let fits : (x : Walk) → x.next ≡ next → PlacesInside p (length t.rows) x → Fits p t g x =
+    λ x n i. record { known = w.known; long = w.long; next = le_trans (le_of_eq n) s.inside; places = i } in
+    let at : (side : Side) (x : Walk) → x.next ≡ next → StandsInUnits side p t.rows point x → At side p t.rows g own x =
+    λ side x n u. starts p t g w.walkable.ordered long own next (s.found (gaps_rise g w.walkable.ordered)) w.small side x n
+    (subst (λ (p' : ℕ). StandsInUnits side p t.rows p' x) s.at u) in
     record {
       walkable = w.walkable;
-      fits = record {
-        on = λ (side : Side). elim side as (λ (s : Side). Fits a.register table g (walk_on s c.new-walkers.result)) [
-          | Previous ↦ fits c.new-walkers.result.left.walk e.0 e.2.0
-          | Next ↦ fits c.new-walkers.result.right.walk
-              e.1 e.3.0
-        ];
-      };
-      at =
-          λ (side : Side). elim side as (λ (s : Side). At s a.register table.rows g a.initial (walk_on s c.new-walkers.result)) [
-            | Previous ↦ at Previous c.new-walkers.result.left.walk e.0 e.2.1
-            | Next ↦ at Next c.new-walkers.result.right.walk e.1 e.3.1
-          ];
-    } in
-    let a = c.args in record {
-      ready = c.requires.ready;
-      begun = subst (λ (t : Reserved). Begun a.register t (segments_in (map (λ x. x.now) a.segments)) a.initial c.new-walkers.result) (reserved_taken_lem a.reserved)
-          (subst (λ (g : SegmentColumns). Begun a.register table g a.initial c.new-walkers.result) (segments_taken_lem a.segments) begun);
+      fits = record { on = both_sides (λ (s : Side). Fits p t g (walk_on s ws)) Previous (fits ws.left e.0 e.2.0) (fits ws.right e.1 e.3.0) };
+      at = both_sides (λ (s : Side). At s p t.rows g own (walk_on s ws)) Previous (at Previous ws.left e.0 e.2.1) (at Next ws.right e.1 e.3.1);
     }
 
-pub proposal_of-requires : goal.proposal_of-requires
-proposal_of-requires c = record { inside_gaps = c.grow-g.ensures.inside c.if-g.true; from_long = le_refl _; freq_long = le_of_eq (sym c.requires.ready.freqs_long) }
-
-pub returns-then-g : goal.returns-then-g
-returns-then-g c = ap (λ (x : SplitProposal). Found x) c.proposal_of.ensures ∙ c.grow-g.ensures.found c.if-g.true
-
-pub returns : goal.returns
-returns c = c.grow-g.ensures.nothing c.if-g.false
+-- the tables, as they are lent
+pub grow-g-requires-clause-begun : goal.grow-g-requires-clause-begun
+grow-g-requires-clause-begun c =
+    let a = c.args in
+    let g : SegmentColumns = a.segments.now in
+    let next = c.first_at_least-next.result in
+    let point = c.point_at-point.result.0 in
+    let found = c.first_at_least-next.ensures in
+    begun a.register a.reserved.now g a.initial next point c.new-walkers.result c.requires.walking
+    (subst (λ (g : SegmentColumns). g.used ≡ length g.from) c.segments.view_is refl)
+    (subst (λ (n : ℕ). Start g n a.initial next point) c.len.ensures
+    (subst (λ (g : SegmentColumns). Start g c.len.result a.initial next point) c.segments.view_is
+    (record { inside = found.1; found = found.2; at = c.point_at-point.ensures })))
+    (subst (λ (rows : List Reservation). Made a.register rows next point c.new-walkers.result) (ap (λ (t : Reserved). t.rows) c.reserved.view_is)
+    c.new-walkers.ensures)

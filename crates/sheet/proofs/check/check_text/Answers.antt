@@ -5,17 +5,16 @@ use Prim.Native.Nat.{ℕ, ◌<◌}
 use mathlib.Core.Path.{◌≡◌, sym, ◌∙◌}
 use mathlib.Core.List.{List}
 use lib.ListN.{length}
-use Rattle.sheet.specs.declared.check.Next.{Next}
-use Rattle.sheet.specs.declared.check.Next.TheVariants.{Line}
-use Rattle.sheet.specs.Next.{next_at}
+use Rattle.std.specs.Prelude.{Option, Some}
+use Rattle.sheet.specs.declared.check.Line.{Line}
+use Rattle.sheet.specs.Next.{line_to, next_at}
 use Rattle.sheet.specs.Kinds.{kinds}
-use Rattle.sheet.proofs.KindLaws.{limit_small}
 use Rattle.sheet.proofs.CheckLaws.{Upto, upto_none, upto_few, upto_end, Good, next_good, next_bad, next_many, next_pass, good_kind, good_moved}
 use Rattle.sheet.proofs.CheckLaws.{refused_checked, upto_missing}
 use Rattle.sheet.proofs.check.check_text.Goals as goal
 
 -- the line that was found, its kind, and where it ends
-module _ (text counts : List ℕ) (lines latest at : ℕ) (u : Upto text counts lines latest at) (h : at < length text) (next : Next) (k e : ℕ) (is : next ≡ Line k e)
+module _ (text counts : List ℕ) (lines latest at : ℕ) (u : Upto text counts lines latest at) (h : at < length text) (next : Option Line) (k e : ℕ) (is : next ≡ Some (line_to k e))
     (said : next ≡ next_at text at lines latest) where
   good_there : Good text lines latest at k e
   good_there = next_good text counts lines latest at u h k e (sym is ∙ said)
@@ -29,11 +28,6 @@ module _ (text counts : List ℕ) (lines latest at : ℕ) (u : Upto text counts 
 pub loop-at-init : goal.loop-at-init
 loop-at-init c = upto_none c.args.text.now
 
-pub overflow_cast-lines : goal.overflow_cast-lines
-overflow_cast-lines c =
-    let l = c.loop-at in
-    omega (arith, upto_few _ _ _ _ _ l.invariant)
-
 pub overflow_add-result : goal.overflow_add-result
 overflow_add-result c =
     let l = c.loop-at in
@@ -46,11 +40,11 @@ returns-in_default c =
     (next_bad _ _ _ _ _ l.invariant c.loop-at-test.true
     (sym c.in_default.is ∙ c.next_line.ensures))
 
-pub offset_bounds-counts-k : goal.offset_bounds-counts-k
-offset_bounds-counts-k c = omega (arith, kind_there _ _ _ _ _ c.loop-at.invariant c.loop-at-test.true _ _ _ c.in-Line.is c.next_line.ensures)
+pub offset_bounds-counts-kind : goal.offset_bounds-counts-kind
+offset_bounds-counts-kind c = omega (arith, kind_there _ _ _ _ _ c.loop-at.invariant c.loop-at-test.true _ _ _ c.in-Some.is c.next_line.ensures)
 
-pub bounds-counts-k : goal.bounds-counts-k
-bounds-counts-k c = kind_there _ _ _ _ _ c.loop-at.invariant c.loop-at-test.true _ _ _ c.in-Line.is c.next_line.ensures
+pub bounds-counts-kind : goal.bounds-counts-kind
+bounds-counts-kind c = kind_there _ _ _ _ _ c.loop-at.invariant c.loop-at-test.true _ _ _ c.in-Some.is c.next_line.ensures
 
 pub overflow_add-result-then-rows-limit_of : goal.overflow_add-result-then-rows-limit_of
 overflow_add-result-then-rows-limit_of c =
@@ -61,17 +55,14 @@ pub returns-then-rows-limit_of : goal.returns-then-rows-limit_of
 returns-then-rows-limit_of c =
     let l = c.loop-at in
     refused_checked _ 15 _
-    (next_many _ _ _ _ _ l.invariant c.loop-at-test.true _ _ (good_there _ _ _ _ _ c.loop-at.invariant c.loop-at-test.true _ _ _ c.in-Line.is c.next_line.ensures)
+    (next_many _ _ _ _ _ l.invariant c.loop-at-test.true _ _ (good_there _ _ _ _ _ c.loop-at.invariant c.loop-at-test.true _ _ _ c.in-Some.is c.next_line.ensures)
     (omega (arith, c.limit_of.ensures, c.if-rows-limit_of.true)))
 
-pub overflow_add-counts : goal.overflow_add-counts
-overflow_add-counts c = omega (arith, c.limit_of.ensures, c.if-rows-limit_of.false, limit_small _ (kind_there _ _ _ _ _ c.loop-at.invariant c.loop-at-test.true _ _ _ c.in-Line.is c.next_line.ensures))
+pub offset_bounds-counts-kind-in-loop-at : goal.offset_bounds-counts-kind-in-loop-at
+offset_bounds-counts-kind-in-loop-at c = omega (arith, kind_there _ _ _ _ _ c.loop-at.invariant c.loop-at-test.true _ _ _ c.in-Some.is c.next_line.ensures)
 
-pub offset_bounds-counts-k-in-loop-at : goal.offset_bounds-counts-k-in-loop-at
-offset_bounds-counts-k-in-loop-at c = omega (arith, kind_there _ _ _ _ _ c.loop-at.invariant c.loop-at-test.true _ _ _ c.in-Line.is c.next_line.ensures)
-
-pub bounds-counts-k-in-loop-at : goal.bounds-counts-k-in-loop-at
-bounds-counts-k-in-loop-at c = kind_there _ _ _ _ _ c.loop-at.invariant c.loop-at-test.true _ _ _ c.in-Line.is c.next_line.ensures
+pub bounds-counts-kind-in-loop-at : goal.bounds-counts-kind-in-loop-at
+bounds-counts-kind-in-loop-at c = kind_there _ _ _ _ _ c.loop-at.invariant c.loop-at-test.true _ _ _ c.in-Some.is c.next_line.ensures
 
 pub overflow_add-lines : goal.overflow_add-lines
 overflow_add-lines c =
@@ -79,16 +70,13 @@ overflow_add-lines c =
     omega (arith, upto_few _ _ _ _ _ l.invariant)
 
 pub loop-at-smaller : goal.loop-at-smaller
-loop-at-smaller c = omega (arith, moved_there _ _ _ _ _ c.loop-at.invariant c.loop-at-test.true _ _ _ c.in-Line.is c.next_line.ensures)
+loop-at-smaller c = omega (arith, moved_there _ _ _ _ _ c.loop-at.invariant c.loop-at-test.true _ _ _ c.in-Some.is c.next_line.ensures)
 
 pub loop-at-preserved : goal.loop-at-preserved
 loop-at-preserved c =
     let l = c.loop-at in
-    next_pass _ _ _ _ _ l.invariant c.loop-at-test.true _ _ (good_there _ _ _ _ _ c.loop-at.invariant c.loop-at-test.true _ _ _ c.in-Line.is c.next_line.ensures)
+    next_pass _ _ _ _ _ l.invariant c.loop-at-test.true _ _ (good_there _ _ _ _ _ c.loop-at.invariant c.loop-at-test.true _ _ _ c.in-Some.is c.next_line.ensures)
     (omega (arith, c.limit_of.ensures, c.if-rows-limit_of.false))
-
-pub overflow_cast-lines-2 : goal.overflow_cast-lines-2
-overflow_cast-lines-2 c = omega (arith, upto_few _ _ _ _ _ c.loop-at.invariant)
 
 pub overflow_add-result-then-not-is_complete : goal.overflow_add-result-then-not-is_complete
 overflow_add-result-then-not-is_complete c = omega (arith, upto_few _ _ _ _ _ c.loop-at.invariant)

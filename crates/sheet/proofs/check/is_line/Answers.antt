@@ -42,9 +42,6 @@ returns-then-s-w-ne10 c =
     let w = c.width_of-w in
     sym (line_not_feed a.k a.s.now (λ e. c.if-s-w-ne10.true (ap (λ (n : ℕ). get_or a.s.now (n - 1) 0) w.ensures ∙ e)))
 
-pub slice_bounds-are_fields-count : goal.slice_bounds-are_fields-count
-slice_bounds-are_fields-count c = omega (arith, c.if-s-w.false, c.width_of-w.ensures, width_two c.args.k)
-
 pub are_fields-requires : goal.are_fields-requires
 unfolding width
 are_fields-requires c =

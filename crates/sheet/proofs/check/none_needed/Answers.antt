@@ -1,11 +1,8 @@
 -- `check::none_needed` meets its contract. The invariant: none is needed exactly if none of the kinds left is.
 -- Assumes nothing.
-use mathlib.Core.Path.{refl, sym, ◌∙◌}
+use mathlib.Core.Path.{sym, ◌∙◌}
 use Rattle.sheet.proofs.CheckLaws.{none_stop, none_step, none_end}
 use Rattle.sheet.proofs.check.none_needed.Goals as goal
-
-pub loop-k-init : goal.loop-k-init
-loop-k-init c = refl
 
 pub returns-then-is_needed : goal.returns-then-is_needed
 returns-then-is_needed c =

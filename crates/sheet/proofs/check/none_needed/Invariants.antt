@@ -7,6 +7,3 @@ use Rattle.sheet.proofs.check.none_needed.Given as goal
 
 abbrev pub invariant-loop-k : goal.invariant-loop-k
 invariant-loop-k l = none_needed l.k (l.b - l.k) ≡ none_needed l.a (l.b - l.a)
-
-abbrev pub decreases-loop-k : goal.decreases-loop-k
-decreases-loop-k l = l.b - l.k

@@ -5,7 +5,8 @@ use Prim.Native.Nat.{◌≤◌}
 use mathlib.Core.Path.{ap, ◌∙◌}
 use lib.ListN.{length}
 use borrow.Author.Tests.{eq-eqb, ne_eqb, le-leb, lt-leb}
-use Rattle.sheet.specs.Field.{field, value, same_text, is_field}
+use Rattle.std.specs.Str.{bytes_eq}
+use Rattle.sheet.specs.Field.{field, value, is_field}
 use Rattle.sheet.proofs.Lists.{sets_whole}
 use Rattle.sheet.proofs.FieldLaws.{field_length}
 use Rattle.sheet.proofs.field.is_field.Goals as goal
@@ -26,6 +27,6 @@ returns c =
     let s = c.args.s.now in
     let v : value s ≤ 4294967295 = omega arith in
     rw (eq-eqb (length s) 11 (omega arith), le-leb (value s) 4294967295 v)
-    (c.same.ensures
-    ∙ ap (same_text s)
-    (c.put_number.ensures ∙ sets_whole _ _ (field_length _) ∙ ap field c.value_of-n.ensures))
+    (c.eq.ensures
+    ∙ ap (bytes_eq s)
+    (c.as_slice.ensures ∙ c.put_number.ensures ∙ sets_whole _ _ (field_length _) ∙ ap field c.value_of-n.ensures))

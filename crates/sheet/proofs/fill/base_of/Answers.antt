@@ -2,7 +2,7 @@
 -- Assumes nothing.
 use native.Mathlib.Omega.{arith}
 use Prim.Native.Nat.{ℕ, suc, ◌+◌, ◌*◌, ◌≤◌}
-use mathlib.Core.Path.{◌≡◌, ap, ◌∙◌}
+use mathlib.Core.Path.{◌≡◌, refl, ap, ◌∙◌}
 use Rattle.sheet.specs.Kinds.{fields, limit, base, cell_count}
 use Rattle.sheet.proofs.KindLaws.{base_next, base_fits, cells_small}
 use Rattle.sheet.proofs.fill.base_of.Goals as goal
@@ -19,22 +19,16 @@ cells_here c =
 
 pub loop-j-init : goal.loop-j-init
 unfolding base
-loop-j-init c = (omega arith, omega arith)
+loop-j-init c = refl
 
 pub overflow_mul-at : goal.overflow_mul-at
-overflow_mul-at c = omega (arith, (cells_here c).0, (cells_here c).1, cells_small)
+overflow_mul-at c = omega (arith, cells_here c, cells_small)
 
 pub overflow_add-at : goal.overflow_add-at
-overflow_add-at c = omega (arith, (cells_here c).0, (cells_here c).1, cells_small, c.loop-j.invariant.1)
+overflow_add-at c = omega (arith, cells_here c, cells_small, c.loop-j.invariant)
 
 pub loop-j-preserved : goal.loop-j-preserved
 loop-j-preserved c =
     let l = c.loop-j in
     let y : l.j + 1 ≡ suc l.j = omega arith in
-    (omega arith, omega (arith, l.invariant.1, (cells_here c).0, base_next l.j, ap base y))
-
-pub returns : goal.returns
-returns c =
-    let l = c.loop-j in
-    let e : l.j ≡ c.args.k = omega (arith, l.invariant.0, c.loop-j-test.false) in
-    l.invariant.1 ∙ ap base e
+    omega (arith, l.invariant, (cells_here c).0, base_next l.j, ap base y)

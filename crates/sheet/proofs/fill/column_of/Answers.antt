@@ -42,9 +42,6 @@ returns-then-c-fields_of c =
     let e = c.cells_needed-then-c-fields_of.ensures in
     (e ∙ no_column a.k a.c (omega (arith, c.fields_of.ensures, c.if-c-fields_of.true)), omega (arith, e))
 
-pub base_of-requires : goal.base_of-requires
-base_of-requires c = omega (arith, c.if-k-ge-KINDS.false)
-
 pub overflow_mul-result : goal.overflow_mul-result
 overflow_mul-result c = omega (arith, inside c, cells_small)
 

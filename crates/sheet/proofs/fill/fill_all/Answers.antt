@@ -41,8 +41,5 @@ loop-k-preserved c =
     left_less _ c.requires.0 c.args.counts c.requires.2 _ _ _ l.k t l.invariant f.new.cells c.width_of.result
     c.width_of.ensures f.auto.cells f.ensures
 
-pub shape_of-cells : goal.shape_of-cells
-shape_of-cells c = c.loop-k.invariant.same
-
 pub returns : goal.returns
 returns c = let l = c.loop-k in left_none _ _ _ _ l.k c.loop-k-test.false l.invariant

@@ -1,12 +1,7 @@
 -- `fill::fill_all` meets its contract. The invariant: the kinds left, stored into the cells as they are, give the whole sheet.
 -- Assumes nothing.
-use Prim.Native.Nat.{◌-◌}
-use Rattle.sheet.specs.Kinds.{kinds}
 use Rattle.sheet.proofs.FillLaws.{Left}
 use Rattle.sheet.proofs.fill.fill_all.Given as goal
 
 abbrev pub invariant-loop-k : goal.invariant-loop-k
 invariant-loop-k l = Left l.text l.initial.cells l.cells l.at l.k
-
-abbrev pub decreases-loop-k : goal.decreases-loop-k
-decreases-loop-k l = kinds - l.k

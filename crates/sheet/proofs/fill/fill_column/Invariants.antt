@@ -1,17 +1,14 @@
--- `fill::fill_column` meets its contract. The invariant: the fields left, stored behind those stored, give what all give.
+-- `fill::fill_column` meets its contract. The invariant: the cells stored, and the fields left behind them, give what all give.
 -- Assumes nothing.
-use Prim.Native.Nat.{◌+◌, ◌-◌, ◌≤◌}
+use Prim.Native.Nat.{◌-◌}
 use mathlib.Core.Path.{◌≡◌}
-use lib.ListN.{length}
-use lib.Seq.{sets}
+use mathlib.Core.List.{◌++◌}
+use lib.ListN.{length, take}
 use Rattle.sheet.specs.Lines.{Readable, fields_at}
 use Rattle.sheet.proofs.fill.fill_column.Given as goal
 
-abbrev pub invariant-loop-i : goal.invariant-loop-i
-invariant-loop-i l = (l.i ≤ l.count)
-    × (length l.cells ≡ length l.initial.cells)
-    × Readable l.text l.p l.step (l.count - l.i)
-    × (sets l.cells (l.place + l.i) (fields_at l.text l.p l.step (l.count - l.i)) ≡ sets l.initial.cells l.place (fields_at l.text l.from l.step l.count))
-
-abbrev pub decreases-loop-i : goal.decreases-loop-i
-decreases-loop-i l = l.count - l.i
+abbrev pub invariant-loop-cell : goal.invariant-loop-cell
+invariant-loop-cell l =
+    let n = length l.initial.column in
+    let i = l.cell-index in
+    Readable l.text l.p l.step (n - i) × (take i l.column ++ fields_at l.text l.p l.step (n - i) ≡ fields_at l.text l.from l.step n)

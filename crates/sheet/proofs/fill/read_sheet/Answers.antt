@@ -1,8 +1,10 @@
--- `fill::read_sheet` meets its contract, verdict by verdict.
+-- `fill::read_sheet` meets its contract, answer by answer.
 -- Assumes nothing.
 use native.Mathlib.Omega.{arith}
-use mathlib.Core.Path.{sym, ◌∙◌}
-use Rattle.sheet.proofs.ReadLaws.{read_short, read_stored, read_kept, refused_not_sound, no_room_not_sound}
+use Prim.Native.Nat.{◌≤◌}
+use lib.ListN.{length}
+use Rattle.sheet.specs.Kinds.{cell_count}
+use Rattle.sheet.proofs.ReadLaws.{read_short, read_stored, read_refused}
 use Rattle.sheet.proofs.fill.read_sheet.Goals as goal
 
 pub returns-then-cells-cells_needed : goal.returns-then-cells-cells_needed
@@ -10,26 +12,12 @@ returns-then-cells-cells_needed c =
     let a = c.args in
     read_short a.text.now a.cells.now (omega (arith, c.cells_needed.ensures, c.if-cells-cells_needed.true))
 
-pub fill_all-requires : goal.fill_all-requires
-fill_all-requires c =
-    let r = c.check_text-r in
-    let e = c.in-Sound.is in
-    (sym r.ensures.answer ∙ e, omega (arith, c.if-cells-cells_needed.false, c.cells_needed.ensures), r.ensures.counted.sound e)
+pub returns-in_err-counts : goal.returns-in_err-counts
+returns-in_err-counts c =
+    let room : cell_count ≤ length c.args.cells.now = omega (arith, c.if-cells-cells_needed.false, c.cells_needed.ensures) in
+    read_refused c.args.text.now c.args.cells.now room _ _ c.from_residual.ensures.1 c.in_err-counts.ensures
 
-pub returns-in-Sound : goal.returns-in-Sound
-returns-in-Sound c =
-    let r = c.check_text-r in
-    read_stored _ _ _ _ r.ensures (omega (arith, c.if-cells-cells_needed.false, c.cells_needed.ensures)) _
-    c.in-Sound.is c.fill_all.ensures
-
-pub returns-in-Refused : goal.returns-in-Refused
-returns-in-Refused c =
-    let r = c.check_text-r in
-    read_kept _ _ _ _ r.ensures (omega (arith, c.if-cells-cells_needed.false, c.cells_needed.ensures))
-    (refused_not_sound _ _ _ c.in-Refused.is)
-
-pub returns-in-NoRoom : goal.returns-in-NoRoom
-returns-in-NoRoom c =
-    let r = c.check_text-r in
-    read_kept _ _ _ _ r.ensures (omega (arith, c.if-cells-cells_needed.false, c.cells_needed.ensures))
-    (no_room_not_sound _ c.in-NoRoom.is)
+pub returns : goal.returns
+returns c =
+    let room : cell_count ≤ length c.args.cells.now = omega (arith, c.if-cells-cells_needed.false, c.cells_needed.ensures) in
+    read_stored c.args.text.now c.args.cells.now room _ _ c.in_ok-counts.ensures c.fill_all.ensures

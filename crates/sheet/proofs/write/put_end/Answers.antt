@@ -6,19 +6,19 @@ use mathlib.Core.List.{List}
 use lib.ListN.{set}
 use lib.Seq.{sets}
 use Rattle.sheet.specs.Answer.{end_text}
-use Rattle.sheet.specs.declared.write.End.{End}
+use Rattle.std.specs.Prelude.{Option}
 use Rattle.sheet.proofs.WriteLaws.{end_absent}
 use Rattle.sheet.proofs.write.put_end.Goals as goal
 
-pub returns-in-At : goal.returns-in-At
+pub returns-in-Some : goal.returns-in-Some
 unfolding end_text
-returns-in-At c =
+returns-in-Some c =
     let a = c.args in
-    c.put_number.ensures ∙ ap (λ (e : End). sets a.out.now a.at (end_text e)) (sym c.in-At.is)
+    c.put_number.ensures ∙ ap (λ (e : Option ℕ). sets a.out.now a.at (end_text e)) (sym c.in-Some.is)
 
-pub returns-in-Absent : goal.returns-in-Absent
-returns-in-Absent c =
+pub returns-in-None : goal.returns-in-None
+returns-in-None c =
     let a = c.args in
-    ap (λ (o : List ℕ). set o (a.at + 10) 45) c.put_number-in-Absent.ensures
+    ap (λ (o : List ℕ). set o (a.at + 10) 45) c.put_number-in-None.ensures
     ∙ end_absent a.out.now a.at
-    ∙ ap (λ (e : End). sets a.out.now a.at (end_text e)) (sym c.in-Absent.is)
+    ∙ ap (λ (e : Option ℕ). sets a.out.now a.at (end_text e)) (sym c.in-None.is)

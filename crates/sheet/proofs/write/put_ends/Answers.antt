@@ -1,21 +1,11 @@
 -- `write::put_ends` meets its contract: its pieces, one behind the other.
 -- Assumes nothing.
-use native.Mathlib.Omega.{arith}
-use mathlib.Core.Path.{refl, ◌∙◌}
+use mathlib.Core.Path.{refl}
 use mathlib.Core.List.{[], ◌∷◌}
-use lib.ListN.{set, length-set}
+use lib.ListN.{set}
 use Rattle.sheet.specs.Answer.{end_text}
 use Rattle.sheet.proofs.WriteLaws.{put_none, put_more, put_as, ends_text_lem, end_length}
 use Rattle.sheet.proofs.write.put_ends.Goals as goal
-
-pub put_end-requires : goal.put_end-requires
-put_end-requires c = omega (arith, length-set c.args.out.now 0 81)
-
-pub put_end-requires-2 : goal.put_end-requires-2
-put_end-requires-2 c = omega (arith, length-set c.args.out.now 0 81, c.put_end.auto.out, c.requires)
-
-pub shape_of-out : goal.shape_of-out
-shape_of-out c = c.put_end-2.auto.out ∙ c.put_end.auto.out ∙ length-set c.args.out.now 0 81
 
 pub returns : goal.returns
 returns c =

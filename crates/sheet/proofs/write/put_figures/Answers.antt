@@ -19,5 +19,5 @@ returns c =
     23 45 23 p₁ refl (weights_length f.use_weight f.live_insts f.interference_weight f.split_cost)
     c.put_weights.ensures in
     let p₃ = put_more o _ _ 0 _ (line_text 72 (f.thousandths ∷ [])) 68 13 68 p₂ refl (line_length_one 72 f.thousandths)
-    c.put_one.ensures in
+    c.put_line.ensures in
     put_as o _ 0 _ _ 81 p₃ refl

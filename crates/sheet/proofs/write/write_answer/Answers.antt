@@ -1,9 +1,12 @@
 -- `write::write_answer` meets its contract, answer by answer.
 -- Assumes nothing.
-use mathlib.Core.Path.{sym, ap, ◌∙◌}
+use Prim.Native.Nat.{ℕ}
+use mathlib.Core.Path.{sym, ap, ◌∙◌, subst}
+use mathlib.Core.List.{List}
 use lib.ListN.{length}
 use lib.Seq.{sets}
-use Rattle.sheet.proofs.WriteLaws.{wrote_none, wrote_all, proposal_text, none_text, refusal_text, figures_length, line_length_one, line_length_two}
+use Rattle.sheet.specs.Answer.{Wrote}
+use Rattle.sheet.proofs.WriteLaws.{wrote_none, wrote_all, proposal_text, none_text, refusal_text, figures_length}
 use Rattle.sheet.proofs.write.write_answer.Goals as goal
 
 pub returns-then-out-lt81 : goal.returns-then-out-lt81
@@ -12,18 +15,6 @@ returns-then-out-lt81 c =
     let t = proposal_text a.a _ c.in-Proposal.is in
     wrote_none _ a.out.now 81 (ap length t ∙ figures_length _) c.if-out-lt81.true
 
-pub returns-then-out-lt13 : goal.returns-then-out-lt13
-returns-then-out-lt13 c =
-    let a = c.args in
-    let t = none_text a.a _ c.in-NoneOf.is in
-    wrote_none _ a.out.now 13 (ap length t ∙ line_length_one 78 _) c.if-out-lt13.true
-
-pub returns-then-out-lt24 : goal.returns-then-out-lt24
-returns-then-out-lt24 c =
-    let a = c.args in
-    let t = refusal_text a.a _ _ c.in-Refused.is in
-    wrote_none _ a.out.now 24 (ap length t ∙ line_length_two 82 _ _) c.if-out-lt24.true
-
 pub returns-else-out-lt81 : goal.returns-else-out-lt81
 returns-else-out-lt81 c =
     let a = c.args in
@@ -31,16 +22,12 @@ returns-else-out-lt81 c =
     wrote_all _ a.out.now _ 81 (ap length t ∙ figures_length _) c.if-out-lt81.false
     (c.put_figures.ensures ∙ ap (sets a.out.now 0) (sym t))
 
-pub returns-else-out-lt13 : goal.returns-else-out-lt13
-returns-else-out-lt13 c =
-    let a = c.args in
-    let t = none_text a.a _ c.in-NoneOf.is in
-    wrote_all _ a.out.now _ 13 (ap length t ∙ line_length_one 78 _) c.if-out-lt13.false
-    (c.put_one.ensures ∙ ap (sets a.out.now 0) (sym t))
+pub returns-in-NoneOf : goal.returns-in-NoneOf
+returns-in-NoneOf c =
+    let w = c.write_line in
+    subst (λ (x : List ℕ). Wrote x c.args.out.now w.new.out w.result) (sym (none_text c.args.a _ c.in-NoneOf.is)) w.ensures
 
-pub returns-else-out-lt24 : goal.returns-else-out-lt24
-returns-else-out-lt24 c =
-    let a = c.args in
-    let t = refusal_text a.a _ _ c.in-Refused.is in
-    wrote_all _ a.out.now _ 24 (ap length t ∙ line_length_two 82 _ _) c.if-out-lt24.false
-    (c.put_refusal.ensures ∙ ap (sets a.out.now 0) (sym t))
+pub returns-in-Refused : goal.returns-in-Refused
+returns-in-Refused c =
+    let w = c.write_line-in-Refused in
+    subst (λ (x : List ℕ). Wrote x c.args.out.now w.new.out w.result) (sym (refusal_text c.args.a _ _ c.in-Refused.is)) w.ensures

@@ -8,4 +8,4 @@ pub returns : goal.returns
 returns c =
     let args = c.args in
     c.bits_of.ensures ∙ ap (to_bits binary32) (c.normalize_spill_weight.ensures
-    ∙ ap (λ (w : Float). normalised w args.live_insts args.k) c.weight_of.ensures)
+    ∙ ap (λ (w : Float). normalised w args.live_insts args.k) c.value_of.ensures)

@@ -3,8 +3,8 @@ use mathlib.Core.Path.{ap, sym}
 use Rattle.words.specs.Words.{split_point_words}
 use Rattle.words.proofs.words.split_point_words.Goals as goal
 
-pub returns-in-At : goal.returns-in-At
-returns-in-At c = ap split_point_words (sym c.in-At.is)
+pub returns-in-Ok : goal.returns-in-Ok
+returns-in-Ok c = ap split_point_words (sym c.in-Ok.is)
 
-pub returns-in-Refused : goal.returns-in-Refused
-returns-in-Refused c = ap split_point_words (sym c.in-Refused.is)
+pub returns-in-Err : goal.returns-in-Err
+returns-in-Err c = ap split_point_words (sym c.in-Err.is)

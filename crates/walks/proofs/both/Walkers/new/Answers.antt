@@ -9,7 +9,6 @@ use Rattle.walks.specs.declared.meeting.Register.{Register}
 use Rattle.walks.specs.declared.walk.Walk.{Walk}
 use Rattle.links.specs.declared.lower.Side.{Side}
 use Rattle.walks.specs.Standing.{StandsInUnits, PlacesInside}
-use Rattle.walks.proofs.AllUnits.{walked_more}
 use Rattle.walks.proofs.both.Walkers.new.Invariants.{Stands}
 use Rattle.walks.proofs.both.Walkers.new.Goals as goal
 
@@ -18,13 +17,6 @@ stands_in_all : {side : Side} {p : Register} {rows : List Reservation} {point : 
     → PlacesInside p (length rows) w × StandsInUnits side p rows point w
 stands_in_all w v h k =
     (record { eight = k.eight; inside = λ u l. (k.walked u (omega arith)).0 }, record { in_unit = λ u l. (k.walked u (omega arith)).1 })
-
-pub loop-v-preserved : goal.loop-v-preserved
-loop-v-preserved c =
-    let few = c.requires.known.few in
-    let v = c.loop-v-test.true in
-    let p = c.places_in-p in
-    (walked_more p.result.left v few p.ensures.0 c.loop-v.invariant.0, walked_more p.result.right v few p.ensures.1 c.loop-v.invariant.1)
 
 pub returns : goal.returns
 returns c =

@@ -1,9 +1,8 @@
 -- `new` finds the places in each unit: the walkers of the units before v stand
 use mathlib.Core.List.{List}
-use Prim.Native.Nat.{ℕ, ◌+◌, ◌-◌, ◌≤◌}
+use Prim.Native.Nat.{ℕ, ◌+◌, ◌≤◌}
 use lib.ListN.{length}
 use Rattle.jobs.specs.declared.rows.Reservation.{Reservation}
-use Rattle.jobs.specs.Rows.{reservations_of}
 use Rattle.walks.specs.declared.meeting.Register.{Register}
 use Rattle.links.specs.declared.lower.Side.{Side}
 use Rattle.links.specs.declared.lower.Side.TheVariants.{Previous, Next}
@@ -17,8 +16,4 @@ Stands side p rows point at v =
     Walked p.units (λ w x. Unit {0}) (λ w x. (x ≤ length rows) × StandsIn side rows (p.first.0 + w) point x) at v
 
 abbrev pub invariant-loop-v : goal.invariant-loop-v
-invariant-loop-v l = let rows = reservations_of l.unit l.start l.end l.kind l.index l.fixed in
-    Stands Previous l.register rows l.point.0 l.lefts l.v × Stands Next l.register rows l.point.0 l.rights l.v
-
-abbrev pub decreases-loop-v : goal.decreases-loop-v
-decreases-loop-v l = l.register.units - l.v
+invariant-loop-v l = Stands Previous l.register l.reservations l.point.0 l.lefts l.v × Stands Next l.register l.reservations l.point.0 l.rights l.v
