@@ -16,7 +16,7 @@ use Rattle.use_rows.specs.Uses.{Source, use_table_of}
 use Rattle.uses.specs.CheckedUses.{CheckedUses}
 use Rattle.uses.proofs.CheckedJob.{job_bounded}
 use Rattle.overlaps.specs.Live.{live_insts, live_in_gap, Segments, Gaps}
-use Rattle.overlaps.specs.GapSegments.{SegmentRoom}
+use Rattle.overlaps.specs.GapSegments.{Valued, SegmentRoom}
 use Rattle.overlaps.proofs.LiveLaws.{last_next, last_of, live_before, live_inside}
 use Rattle.overlaps.proofs.LiveTotal.{sum_same}
 use Rattle.overlaps.proofs.GapCount.{gap_segments_few}
@@ -58,6 +58,9 @@ module _ (source : Source) (checked : CheckedUses source) (sound : SoundBlocks s
             let m = last_limited source.blocks sound in
             omega (arith, b, e, l, m);
       }
+
+  pub source_valued : Valued (starts_of source) (stops_of source) (values_of source)
+  source_valued = record { bounds = source_segments; long = length-map source.segments (λ (s : Segment). s.value) ∙ sym starts_long }
 
   -- their live instructions alone lie inside the blocks
   live_few : live_insts (starts_of source) (stops_of source) ≤ end_limit

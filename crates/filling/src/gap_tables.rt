@@ -1,24 +1,23 @@
 // The gap table of a use table, and its gap segments.
 ghost use Rattle.std.specs.Prelude.{◌≡◌, length, take};
 ghost use Rattle.links.specs.Blocks.{blocks_of};
-ghost use Rattle.use_rows.specs.Lent.{columns_in as uses_held};
-ghost use Rattle.overlaps.specs.Live.{SoundSegments, starts_in, ends_in};
-ghost use Rattle.overlaps.specs.GapSegments.{values_in, SegmentRoom, Filled};
+ghost use Rattle.overlaps.specs.GapSegments.{Valued, SegmentRoom, Filled};
 ghost use Rattle.overlaps.specs.Lent.{columns_in as segments_in, lenders as segment_lenders};
 ghost use Rattle.gaps.specs.Gaps.{gaps_of, initial_gap, uses_in, Cuttable};
 ghost use Rattle.gaps.specs.GapColumns.{gap_segments_of, Rows, GapsHeld};
 ghost use Rattle.gaps.specs.Lent.{columns_in, lenders};
-ghost use Rattle.filling.specs.GapTables.{CutInside, first_uses};
+ghost use Rattle.filling.specs.GapTables.{CutInside, first_uses, first_segments};
 
 use gaps::gaps::{GapCounts, build_gaps};
 use gaps::table::GapTable;
-use jobs::rows::Segments;
 use overlaps::passing::GapSegmentTable;
-use use_rows::row::{UseRows, UseTable};
+use overlaps::valued::ValuedSegments;
+use use_rows::row::UseRows;
 
-// Fills both from work tables of which only the first rows count: so many rows of the use table, a link for each block.
+// Fills both from work tables and segments of which only the first rows count: so many rows of the use table, a link for each block, so
+// many segments.
 pub fn fill_gap_tables(
-    table: &UseTable,
+    uses: &UseRows,
     rows: usize,
     best: usize,
     freq: &[u32],
@@ -26,32 +25,42 @@ pub fn fill_gap_tables(
     end: &[u32],
     prev_lower_freq: &[u32],
     next_lower_freq: &[u32],
-    segments: &Segments,
+    segments: &ValuedSegments,
+    count: usize,
     gaps: &mut GapTable,
     gap_segments: &mut GapSegmentTable,
 ) -> GapCounts
-    requires inside { CutInside rows (uses_held table.now) (length freq.now) prev_lower_freq.now next_lower_freq.now }
-    requires cuttable { Cuttable freq.now first.now end.now (take (length freq.now) prev_lower_freq.now)
-        (take (length freq.now) next_lower_freq.now) (first_uses rows (uses_held table.now)) best
-        × SoundSegments segments.now }
-    requires room { let found = gaps_of (blocks_of freq.now first.now end.now) (uses_in (first_uses rows (uses_held table.now))) best in
-        let overlaps = gap_segments_of found (starts_in segments.now) (ends_in segments.now) (values_in segments.now) in
+    requires inside { CutInside rows uses.now (length freq.now) prev_lower_freq.now next_lower_freq.now
+        count segments.now.starts segments.now.ends segments.now.values }
+    requires cuttable { let cut = first_segments count segments.now in
+        Cuttable freq.now first.now end.now (take (length freq.now) prev_lower_freq.now)
+        (take (length freq.now) next_lower_freq.now) (first_uses rows uses.now) best
+        × Valued cut.starts cut.ends cut.values }
+    requires room { let found = gaps_of (blocks_of freq.now first.now end.now) (uses_in (first_uses rows uses.now)) best in
+        let cut = first_segments count segments.now in
+        let overlaps = gap_segments_of found cut.starts cut.ends cut.values in
         Rows (length found) (columns_in gaps.old) × SegmentRoom (length overlaps) (segments_in gap_segments.old 0) }
     ensures same { (lenders gaps.new ≡ lenders gaps.old) × (segment_lenders gap_segments.new ≡ segment_lenders gap_segments.old) }
     ensures value { let blocks = blocks_of freq.now first.now end.now in
-        let uses = uses_in (first_uses rows (uses_held table.now)) in
-        let found = gaps_of blocks uses best in
-        let overlaps = gap_segments_of found (starts_in segments.now) (ends_in segments.now) (values_in segments.now) in
-        GapsHeld found (starts_in segments.now) (ends_in segments.now) (columns_in gaps.old) (columns_in gaps.new) result.gaps
-        × Filled overlaps (segments_in gap_segments.old 0) (segments_in gap_segments.new result.segments)
-        × (result.initial ≡ initial_gap blocks uses best) }
+        let used = uses_in (first_uses rows uses.now) in
+        let found = gaps_of blocks used best in
+        let cut = first_segments count segments.now in
+        GapsHeld found cut.starts cut.ends (columns_in gaps.old) (columns_in gaps.new) result.gaps
+        × Filled (gap_segments_of found cut.starts cut.ends cut.values)
+        (segments_in gap_segments.old 0) (segments_in gap_segments.new result.segments)
+        × (result.initial ≡ initial_gap blocks used best) }
 {
     let blocks = freq.len();
     let uses = UseRows {
-        inst: &table.inst[..rows],
-        weight: &table.weight[..rows],
-        left_weight: &table.left_weight[..rows],
-        right_weight: &table.right_weight[..rows],
+        inst: &uses.inst[..rows],
+        weight: &uses.weight[..rows],
+        left_weight: &uses.left_weight[..rows],
+        right_weight: &uses.right_weight[..rows],
+    };
+    let segments = ValuedSegments {
+        start: &segments.start[..count],
+        end: &segments.end[..count],
+        value: &segments.value[..count],
     };
     build_gaps(
         &uses,
@@ -61,7 +70,7 @@ pub fn fill_gap_tables(
         end,
         &prev_lower_freq[..blocks],
         &next_lower_freq[..blocks],
-        segments,
+        &segments,
         gaps,
         gap_segments,
     )

@@ -1,5 +1,5 @@
 -- The gaps between many uses as they are stored: those left, stored into the columns as they are, give what all of them give
-use mathlib.Core.Path.{◌≡◌, sym, ap, ◌∙◌, subst}
+use mathlib.Core.Path.{◌≡◌, refl, sym, ap, ◌∙◌, subst}
 use mathlib.Core.List.{List}
 use Prim.Native.Nat.{ℕ, ◌+◌, ◌≤◌, ◌<◌}
 use native.Mathlib.Omega.{arith}
@@ -16,6 +16,7 @@ use Rattle.gaps.specs.Gaps.{Gap}
 use Rattle.gaps.specs.Cutting.{space_of, Ordered}
 use Rattle.gaps.specs.Cutting.{CutColumns, stored_gaps, CutRows}
 use Rattle.gaps.proofs.StoredGaps.{stored_append, rows_stored, rows_fewer}
+use Rattle.gaps.proofs.Spaces.{Same, same_itself, same_then, same_stored}
 
 -- lists of gaps, from the first-th to before the last-th
 module _ (lists : ℕ → List Gap) (first last n₀ : ℕ) (lent : CutColumns) where
@@ -26,7 +27,11 @@ module _ (lists : ℕ → List Gap) (first last n₀ : ℕ) (lent : CutColumns) 
     pub from : first ≤ i
     pub used : n + length (from_on lists last i) ≡ n₀ + length all
     pub rows : CutRows (n₀ + length all) cols
+    pub same : Same lent cols
     pub gives : stored_gaps n (from_on lists last i) cols ≡ stored_gaps n₀ all lent
+
+  pub siding_starts : CutRows (n₀ + length all) lent → Siding lent first n₀
+  siding_starts r = record { from = omega arith; used = refl; rows = r; same = same_itself lent; gives = refl }
 
   module _ (cols : CutColumns) (i n : ℕ) (k : Siding cols i n) where
     next_length : i < last → length (from_on lists last i) ≡ length (lists i) + length (from_on lists last (i + 1))
@@ -47,6 +52,7 @@ module _ (lists : ℕ → List Gap) (first last n₀ : ℕ) (lent : CutColumns) 
           from = omega (arith, k.from);
           used = omega (arith, l, u, q);
           rows = subst (CutRows (n₀ + length all)) (sym e.1) (rows_stored (n₀ + length all) n (lists i) cols k.rows);
+          same = same_then lent cols cols' k.same (subst (Same cols) (sym e.1) (same_stored n (lists i) cols));
           gives = ap (λ (x : ℕ). stored_gaps x (from_on lists last (i + 1)) cols') q ∙ ap (stored_gaps (n + length (lists i)) (from_on lists last (i + 1))) e.1
               ∙ sym (stored_append n (lists i) (from_on lists last (i + 1)) cols)
               ∙ ap (λ (gs : List Gap). stored_gaps n gs cols) (sym (joined_next lists i last h)) ∙ k.gives;

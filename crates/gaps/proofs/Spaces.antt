@@ -10,7 +10,7 @@ use Rattle.numbers.specs.Weight.{zero_weight}
 use Rattle.links.specs.Links.{beside, on_side}
 use Rattle.links.specs.declared.lower.Side.{Side}
 use Rattle.links.specs.declared.lower.Side.TheVariants.{Previous, Next}
-use Rattle.gaps.specs.Gaps.{Gap, spanned, in_order, cut_gaps}
+use Rattle.gaps.specs.Gaps.{Gap, gap_weight, spanned, in_order, cut_gaps}
 use Rattle.numbers.specs.Sum.{plus}
 use Rattle.gaps.specs.Cutting.{CutColumns, with_row, with_gap, stored_gaps, CutRows}
 use Rattle.gaps.specs.Cutting.{Leads, followed, cuts_in, freq_in, space_gaps, Alike}
@@ -86,6 +86,16 @@ pub record Same (lent cols : CutColumns) : Type 0 where
 pub same_itself : (cols : CutColumns) → Same cols cols
 same_itself cols = record { from = refl; to = refl; weight = refl; freq = refl; block = refl }
 
+pub same_then : (lent cols after : CutColumns) → Same lent cols → Same cols after → Same lent after
+same_then lent cols after s t =
+    record {
+      from = t.from ∙ s.from;
+      to = t.to ∙ s.to;
+      weight = t.weight ∙ s.weight;
+      freq = t.freq ∙ s.freq;
+      block = t.block ∙ s.block;
+    }
+
 pub same_with : (lent cols : CutColumns) (at from to : ℕ) (weight freq : Float) (block : ℕ) → Same lent cols
     → Same lent (with_row cols at from to weight freq block)
 same_with lent cols at from to weight freq block s =
@@ -95,6 +105,13 @@ same_with lent cols at from to weight freq block s =
     let d = s.freq in
     let e = s.block in
     record { from = simp length-set a; to = simp length-set b; weight = simp length-set c; freq = simp length-set d; block = simp length-set e }
+
+pub same_stored : (at : ℕ) (gs : List Gap) (cols : CutColumns) → Same cols (stored_gaps at gs cols)
+unfolding stored_in
+same_stored at [] cols = same_itself cols
+same_stored at (g ∷ gs) cols =
+    same_then cols (with_gap cols at g) (stored_gaps (suc at) gs (with_gap cols at g))
+    (same_with cols cols at g.from g.to (gap_weight g) g.freq g.block (same_itself cols)) (same_stored (suc at) gs (with_gap cols at g))
 
 -- ---- the storing of a space's gaps, before its next cut
 module _ (side : Side) (freqs edges links : List ℕ) (s : Space) (n : ℕ) (lent : CutColumns) where

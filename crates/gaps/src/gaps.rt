@@ -1,8 +1,7 @@
 // The gap table of a use table, every column of it, and its gap segments.
 ghost use Rattle.std.specs.Prelude.{◌≡◌, length};
 ghost use Rattle.links.specs.Blocks.{blocks_of};
-ghost use Rattle.overlaps.specs.Live.{SoundSegments, starts_in, ends_in};
-ghost use Rattle.overlaps.specs.GapSegments.{values_in, SegmentRoom, Filled};
+ghost use Rattle.overlaps.specs.GapSegments.{Valued, SegmentRoom, Filled};
 ghost use Rattle.overlaps.specs.Lent.{columns_in as segments_in, lenders as segment_lenders};
 ghost use Rattle.gaps.specs.Gaps.{gaps_of, initial_gap, uses_in, Cuttable};
 ghost use Rattle.gaps.specs.GapColumns.{gap_segments_of, Rows, GapsHeld};
@@ -11,8 +10,8 @@ ghost use Rattle.gaps.specs.Lent.{columns_in, lenders};
 use crate::cutting::cut_gaps;
 use crate::segments::fill_segments;
 use crate::table::GapTable;
-use jobs::rows::Segments;
 use overlaps::passing::GapSegmentTable;
+use overlaps::valued::ValuedSegments;
 use use_rows::row::UseRows;
 
 // How many gaps there are, which is the best use's own, and how many gap segments there are.
@@ -32,20 +31,20 @@ pub fn build_gaps(
     end: &[u32],
     prev_lower_freq: &[u32],
     next_lower_freq: &[u32],
-    segments: &Segments,
+    segments: &ValuedSegments,
     gaps: &mut GapTable,
     gap_segments: &mut GapSegmentTable,
 ) -> GapCounts
     requires cuttable { Cuttable freq.now first.now end.now prev_lower_freq.now next_lower_freq.now uses.now best
-        × SoundSegments segments.now }
+        × Valued segments.now.starts segments.now.ends segments.now.values }
     requires room { let found = gaps_of (blocks_of freq.now first.now end.now) (uses_in uses.now) best in
-        let overlaps = gap_segments_of found (starts_in segments.now) (ends_in segments.now) (values_in segments.now) in
+        let overlaps = gap_segments_of found segments.now.starts segments.now.ends segments.now.values in
         Rows (length found) (columns_in gaps.old) × SegmentRoom (length overlaps) (segments_in gap_segments.old 0) }
     ensures same { (lenders gaps.new ≡ lenders gaps.old) × (segment_lenders gap_segments.new ≡ segment_lenders gap_segments.old) }
     ensures value { let blocks = blocks_of freq.now first.now end.now in
         let found = gaps_of blocks (uses_in uses.now) best in
-        let overlaps = gap_segments_of found (starts_in segments.now) (ends_in segments.now) (values_in segments.now) in
-        GapsHeld found (starts_in segments.now) (ends_in segments.now) (columns_in gaps.old) (columns_in gaps.new) result.gaps
+        let overlaps = gap_segments_of found segments.now.starts segments.now.ends segments.now.values in
+        GapsHeld found segments.now.starts segments.now.ends (columns_in gaps.old) (columns_in gaps.new) result.gaps
         × Filled overlaps (segments_in gap_segments.old 0) (segments_in gap_segments.new result.segments)
         × (result.initial ≡ initial_gap blocks (uses_in uses.now) best) }
 {

@@ -1,28 +1,28 @@
 // The segments taken through the gaps one after the other: each gap's live instructions, and all gap segments, in order.
 ghost use Rattle.std.specs.Prelude.{◌≡◌, ◌≤◌, length};
 ghost use Rattle.columns.specs.Table.{filled};
-ghost use Rattle.overlaps.specs.Live.{Gaps, live_column, starts_in, ends_in, SoundSegments};
-ghost use Rattle.overlaps.specs.GapSegments.{gap_segments, values_in, SegmentRoom, Filled};
+ghost use Rattle.overlaps.specs.Live.{Gaps, live_column};
+ghost use Rattle.overlaps.specs.GapSegments.{gap_segments, Valued, SegmentRoom, Filled};
 ghost use Rattle.overlaps.specs.Lent.{columns_in, lenders};
 
-use jobs::rows::Segments;
 use numbers::Inst;
 use overlaps::passing::{GapSegmentTable, pass_gaps, put_rest, segment_at};
+use overlaps::valued::ValuedSegments;
 
 // Counts the live instructions of each gap, and stores all gap segments. Answers how many gap segments there are.
 pub(crate) fn fill_segments(
-    segments: &Segments,
+    segments: &ValuedSegments,
     from: &[u32],
     to: &[u32],
     live: &mut [u32],
     table: &mut GapSegmentTable,
 ) -> usize
-    requires sound { SoundSegments segments.now × Gaps from.now to.now × (length from.now ≤ length live.old) }
-    requires room { let found = gap_segments from.now to.now (starts_in segments.now) (ends_in segments.now) (values_in segments.now) in
+    requires valued { Valued segments.now.starts segments.now.ends segments.now.values × Gaps from.now to.now × (length from.now ≤ length live.old) }
+    requires room { let found = gap_segments from.now to.now segments.now.starts segments.now.ends segments.now.values in
         SegmentRoom (length found) (columns_in table.old 0) }
     ensures same { lenders table.new ≡ lenders table.old }
-    ensures value { let counted = live_column (starts_in segments.now) (ends_in segments.now) from.now to.now in
-        let found = gap_segments from.now to.now (starts_in segments.now) (ends_in segments.now) (values_in segments.now) in
+    ensures value { let counted = live_column segments.now.starts segments.now.ends from.now to.now in
+        let found = gap_segments from.now to.now segments.now.starts segments.now.ends segments.now.values in
         (live.new ≡ filled counted live.old) × Filled found (columns_in table.old 0) (columns_in table.new result) }
 {
     let mut gap: usize = 0;

@@ -25,6 +25,9 @@ pub put_none : (from to value gap : ℕ) (c : SegmentColumns) → to ≤ from �
 unfolding stored_in
 put_none from to value gap c h = sym (ap (λ (rows : List Overlap). put rows c) (cond_false _ _ (le-ltb from to h)))
 
+pub room_one : (from to value gap : ℕ) (c : SegmentColumns) → from < to → SegmentRoom (length (nonempty from to value gap)) c → SegmentRoom 1 c
+room_one from to value gap c h room = subst (λ (rows : List Overlap). SegmentRoom (length rows) c) (cond_true _ _ (lt-ltb from to h)) room
+
 -- how many rows are used then
 put_used : (rows : List Overlap) (c : SegmentColumns) → (put rows c).used ≡ c.used + length rows
 unfolding stored_in

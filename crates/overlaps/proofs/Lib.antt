@@ -1,4 +1,5 @@
 -- The laws of live instructions and of gap segments
+pub mod ValuedLaws
 pub mod CheckedSegments
 pub mod LiveLaws
 pub mod GapRows

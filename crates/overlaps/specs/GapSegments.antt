@@ -3,6 +3,7 @@ use Rattle.std.specs.Prelude.{◌≡◌, ℕ, ◌+◌, ◌*◌, ◌≤◌, ◌<�
 use Rattle.columns.specs.Below.{Some, joined}
 use Rattle.columns.specs.Table.{filled, stored_in}
 use Rattle.jobs.specs.declared.rows.Segment.{Segment}
+use Rattle.overlaps.specs.Live.{Segments}
 
 -- the values of segments
 abbrev pub values_in : List Segment → List ℕ
@@ -56,6 +57,11 @@ pub record AllOverlaps (froms tos starts ends values : List ℕ) (rows : List Ov
   pub exactly : (r : Overlap) → Some (length rows) (λ (k : ℕ). get_or rows k no_overlap ≡ r) ↔ IsOverlap froms tos starts ends values r
   -- each ends by the start of every later one, so none stands twice
   pub ordered : (i k : ℕ) → i < k → k < length rows → (get_or rows i no_overlap).to ≤ (get_or rows k no_overlap).from
+
+-- segments as in the count of live instructions, and each has a value
+pub record Valued (starts ends values : List ℕ) : Type 0 where
+  pub bounds : Segments starts ends
+  pub long : length values ≡ length starts
 
 -- the lent columns, and how many of their rows are used
 pub record SegmentColumns : Type 0 where

@@ -2,5 +2,6 @@
 -- functions on the way.
 pub mod Live
 pub mod GapSegments
+pub mod ValuedColumns
 pub mod Lent
 pub mod Passing

@@ -1,12 +1,14 @@
 // A segment taken through the gaps: its live instructions are counted in them, and its nonempty overlaps with them stored, in order.
 ghost use Rattle.std.specs.Prelude.{◌≡◌, ◌+◌, ◌≤◌, ◌<◌, length};
-ghost use Rattle.overlaps.specs.Live.{Gaps, starts_in, ends_in};
-ghost use Rattle.overlaps.specs.GapSegments.{nonempty, overlaps_of, values_in, EndedBy, put, SegmentRoom};
+ghost use Rattle.overlaps.specs.Live.{Gaps};
+ghost use Rattle.overlaps.specs.GapSegments.{nonempty, overlaps_of, EndedBy, put, SegmentRoom};
+ghost use Rattle.overlaps.specs.ValuedColumns.{HasSegment};
 ghost use Rattle.overlaps.specs.Lent.{columns_in, lenders};
 ghost use Rattle.overlaps.specs.Passing.{passing_segment, Passing, held_at, RowsSet, CountedIn};
 
 use crate::live::{live_from, live_to, overlap};
-use jobs::rows::Segments;
+use crate::valued::ValuedSegments;
+use jobs::rows::cell;
 use numbers::{Inst, Point, Value};
 
 // The gap segments' columns, lent to be filled.
@@ -53,17 +55,18 @@ pub struct PassingSegment {
 }
 
 // The i-th segment. The live instructions of those before it end at `last`.
-pub fn segment_at(segments: &Segments, i: usize, last: Inst) -> PassingSegment
-    requires { i < length segments.now }
-    ensures { result ≡ passing_segment (starts_in segments.now) (ends_in segments.now) (values_in segments.now) i last.0 }
+pub fn segment_at(segments: &ValuedSegments, i: usize, last: Inst) -> PassingSegment
+    requires { HasSegment i segments.now }
+    ensures { result ≡ passing_segment segments.now.starts segments.now.ends segments.now.values i last.0 }
 {
-    let s = segments.live_at(i);
+    let start = Point(cell(segments.start, i));
+    let end = Point(cell(segments.end, i));
     PassingSegment {
-        start: s.start,
-        end: s.end,
-        value: s.value,
-        live_from: live_from(last, s.start),
-        live_to: live_to(s.end),
+        start,
+        end,
+        value: Value(cell(segments.value, i)),
+        live_from: live_from(last, start),
+        live_to: live_to(end),
     }
 }
 

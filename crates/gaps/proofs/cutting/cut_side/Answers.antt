@@ -1,5 +1,5 @@
 -- `cut_side` stores the gaps between one pair of uses after the other
-use mathlib.Core.Path.{◌≡◌, sym, ap, ap₂, ◌∙◌, subst}
+use mathlib.Core.Path.{◌≡◌, refl, sym, ap, ap₂, ◌∙◌, subst}
 use Prim.Native.Nat.{◌+◌}
 use native.Mathlib.Omega.{arith}
 use lib.ListN.{length}
@@ -7,8 +7,11 @@ use Rattle.gaps.specs.Cutting.{stored_gaps, CutRows}
 use Rattle.gaps.specs.Lent.{cut_in}
 use Rattle.gaps.specs.Cutting.{space_of, space_gaps, Ordered}
 use Rattle.gaps.specs.declared.cutting.Space.{Space}
-use Rattle.gaps.proofs.Sides.{siding_room, siding_next, siding_ends, space_inside}
+use Rattle.gaps.proofs.Sides.{siding_starts, siding_room, siding_next, siding_ends, space_inside}
 use Rattle.gaps.proofs.cutting.cut_side.Goals as goal
+
+pub loop-k-init : goal.loop-k-init
+loop-k-init c = (siding_starts _ _ _ _ _ c.requires.room, refl)
 
 pub cut_space-n-requires : goal.cut_space-n-requires
 cut_space-n-requires c =

@@ -6,8 +6,7 @@ use lib.ListN.{length, take}
 use Rattle.std.proofs.lemmas.List.{length-take-le}
 use Rattle.links.specs.Blocks.{BlockRow, blocks_of}
 use Rattle.columns.proofs.Tables.{table_length}
-use Rattle.overlaps.specs.Live.{Gaps, starts_in, ends_in}
-use Rattle.overlaps.specs.GapSegments.{values_in}
+use Rattle.overlaps.specs.Live.{Gaps}
 use Rattle.overlaps.specs.Lent.{columns_in as segments_in}
 use Rattle.use_rows.specs.UseColumns.{use_in}
 use Rattle.gaps.specs.Gaps.{Gap, gaps_of, uses_in}
@@ -47,12 +46,12 @@ fill_segments-found-requires c =
     let tile = gaps_tile blocks (uses_in a.uses.now) rising a.best inside in
     let gaps_held : Gaps (take n cut.froms) (take n cut.tos) = subst (λ (l : List ℕ). Gaps l (take n cut.tos)) (sym (froms_cut gaps lent r.0 cut n e.0 e.1))
     (subst (λ (l : List ℕ). Gaps (froms_of gaps) l) (sym (tos_cut gaps lent r.0 cut n e.0 e.1)) tile) in record {
-      sound = (
+      valued = (
         c.requires.cuttable.1,
         gaps_held,
         lives_room gaps lent r.0 cut n e.0 e.1 c.cut_gaps-cut.new.gaps.live.now (ap (λ u. u.1) c.cut_gaps-cut.ensures.same),
       );
-      room = segments_room gaps lent r.0 cut n e.0 e.1 (starts_in a.segments.now) (ends_in a.segments.now) (values_in a.segments.now)
+      room = segments_room gaps lent r.0 cut n e.0 e.1 a.segments.now.starts a.segments.now.ends a.segments.now.values
           (segments_in a.gap_segments.now 0) r.1;
     }
 
@@ -66,9 +65,9 @@ returns-clause-value c =
     let gaps : List Gap = gaps_of (blocks_of a.freq.now a.first.now a.end.now) (uses_in a.uses.now) a.best in
     let lent : GapColumns = columns_in a.gaps.now in
     let cut : CutColumns = cut_in c.cut_gaps-cut.new.gaps in (
-      table_held gaps lent r.0 cut n e.0 e.1 (starts_in a.segments.now) (ends_in a.segments.now) c.cut_gaps-cut.new.gaps.live.now f.new.live
+      table_held gaps lent r.0 cut n e.0 e.1 a.segments.now.starts a.segments.now.ends c.cut_gaps-cut.new.gaps.live.now f.new.live
           (ap (λ u. u.1) c.cut_gaps-cut.ensures.same) f.ensures.value.0,
-      segments_filled gaps lent r.0 cut n e.0 e.1 (starts_in a.segments.now) (ends_in a.segments.now) (values_in a.segments.now)
+      segments_filled gaps lent r.0 cut n e.0 e.1 a.segments.now.starts a.segments.now.ends a.segments.now.values
           (segments_in a.gap_segments.now 0)
           (segments_in f.new.table f.result) f.ensures.value.1,
       e.2,

@@ -3,7 +3,6 @@
 use mathlib.Core.Path.{◌≡◌}
 use lib.ListN.{length}
 use Rattle.columns.proofs.Joining.{from_on}
-use Rattle.overlaps.specs.Live.{starts_in, ends_in}
 use Rattle.overlaps.specs.Lent.{columns_in, lenders}
 use Rattle.overlaps.proofs.LiveLaws.{last_of}
 use Rattle.overlaps.proofs.GapRows.{Left}
@@ -13,9 +12,9 @@ use Rattle.gaps.proofs.segments.fill_segments.Given as goal
 
 abbrev pub invariant-loop-i : goal.invariant-loop-i
 invariant-loop-i l =
-    (l.last.0 ≡ last_of (ends_in l.segments) l.i)
-    × Sofar (starts_in l.segments) (ends_in l.segments) l.from l.to l.initial.live l.live l.gap l.held l.i
-    × Left (from_on (found_of l.segments l.from l.to) (length (starts_in l.segments)) l.i) (all_found l.segments l.from l.to)
+    (l.last.0 ≡ last_of l.segments.ends l.i)
+    × Sofar l.segments.starts l.segments.ends l.from l.to l.initial.live l.live l.gap l.held l.i
+    × Left (from_on (found_of l.segments l.from l.to) (length l.segments.starts) l.i) (all_found l.segments l.from l.to)
     (columns_in l.initial.table 0)
     (columns_in l.table l.used)
     × (lenders l.table ≡ lenders l.initial.table)
