@@ -14,6 +14,7 @@ use Rattle.links.specs.Links.{link_column, lower_link}
 use Rattle.links.specs.declared.lower.Side.{Side}
 use Rattle.links.specs.declared.lower.Side.TheVariants.{Previous, Next}
 use Rattle.links.proofs.Columns.{list_long, frequency_column}
+use Rattle.jobs.specs.Rows.{segments_of}
 use Rattle.jobs.specs.declared.rows.Segment.{Segment}
 use Rattle.jobs.specs.declared.rows.Use.{Use}
 use Rattle.use_rows.specs.Uses.{Source, source_of, use_table_of}
@@ -23,7 +24,9 @@ use Rattle.use_rows.specs.declared.row.SplitUse.{SplitUse}
 use Rattle.uses.proofs.UseTable.{use_table_few, held_insts, held_mains, held_lefts, held_rights}
 use Rattle.uses.proofs.Best.{best_inside}
 use Rattle.overlaps.specs.Live.{SoundSegments, starts_in, ends_in}
-use Rattle.overlaps.specs.GapSegments.{values_in, SegmentColumns, SegmentRoom, Filled}
+use Rattle.overlaps.specs.GapSegments.{values_in, Valued, SegmentColumns, SegmentRoom, Filled}
+use Rattle.overlaps.specs.ValuedColumns.{ValuedColumns, valued_columns, columns_of}
+use Rattle.overlaps.proofs.ValuedLaws.{columns_cut}
 use Rattle.gaps.specs.Gaps.{Gap, gaps_of, initial_gap, uses_in, Cuttable}
 use Rattle.gaps.specs.GapColumns.{GapColumns, gap_segments_of, Rows, GapsHeld}
 use Rattle.gaps.proofs.JobGaps.{table_columns, uses_in_lem, job_cuttable}
@@ -32,7 +35,7 @@ use Rattle.filling.specs.GapTables.{CutInside, first_uses}
 use Rattle.filling.specs.SourceTables.{gaps_from, segments_from, freqs_of, Tables, tables_of_best}
 use Rattle.filling.specs.SourceTables.{WorkColumns, work_columns, gap_table, segment_table, rooms_of, Roomy, FilledBy}
 use Rattle.filling.proofs.UseFilling.{scales_of}
-use Rattle.filling.proofs.SourceTables.{source_segments, source_gap_room}
+use Rattle.filling.proofs.SourceTables.{source_segments, source_valued, source_gap_room}
 use Rattle.work.specs.FilledFrom.{filled_of_best, IsFilledFrom}
 use Rattle.work.specs.declared.fill.FilledTables.TheVariants as FilledTables·is
 use Rattle.std.specs.Prelude.{Option, Some, None}
@@ -77,6 +80,19 @@ module _ (uses : List Use) (segments : List Segment) (codes : List ℕ) (scales 
 
   pub segments_sound : SoundSegments segments
   segments_sound = source_segments source checked w.sound
+
+  pub segments_valued : Valued (starts_in segments) (ends_in segments) (values_in segments)
+  segments_valued = source_valued source checked w.sound
+
+  -- and so are the columns that they are lent in, cut to as many rows as there are segments
+  pub cut_valued : (starts stops values first_uses end_uses flags : List ℕ) → segments ≡ segments_of starts stops values first_uses end_uses flags
+      → Valued (take (length segments) starts) (take (length segments) stops) (take (length segments) values)
+  cut_valued starts stops values first_uses end_uses flags e =
+      subst (λ (c : ValuedColumns). Valued c.starts c.ends c.values)
+      (sym
+      (ap (λ (s : List Segment). valued_columns (take (length s) starts) (take (length s) stops) (take (length s) values)) e
+      ∙ columns_cut starts stops values first_uses end_uses flags ∙ ap columns_of (sym e)))
+      segments_valued
 
   -- ---- after it
   module _ (prevs nexts : List ℕ) (cols : UseColumns) (rows : ℕ) (best : Option ℕ)
@@ -171,6 +187,7 @@ module _ (uses : List Use) (segments : List Segment) (codes : List ℕ) (scales 
             omega (arith, f, m, room, a, l, d)
 
       pub cut_inside : CutInside rows cols (length freqs) prevs nexts
+          (length segments) (starts_in segments) (ends_in segments) (values_in segments)
       cut_inside =
           let u = done.uses.cols in
           let r = uses_room in
@@ -181,6 +198,9 @@ module _ (uses : List Use) (segments : List Segment) (codes : List ℕ) (scales 
             right = rows_inside (λ u. u.right_weight) (λ x. x.rights) (ap (λ (x : UseColumns). x.rights) u) r.right;
             prev = link_inside Previous lent.prevs prevs_room done.prev;
             next = link_inside Next lent.nexts nexts_room done.next;
+            start = le_of_eq (sym (length-map segments (λ (s : Segment). s.start)));
+            end = le_of_eq (sym (length-map segments (λ (s : Segment). s.end)));
+            value = le_of_eq (sym (length-map segments (λ (s : Segment). s.value)));
           }
         where
           link_inside : (side : Side) (lent-links : List ℕ) {now : List ℕ} → length freqs ≤ length lent-links

@@ -3,7 +3,7 @@ use Rattle.use_rows.specs.Lent.{columns_in}
 use Rattle.overlaps.specs.Lent.{columns_in as segments_held}
 use Rattle.gaps.specs.Lent.{columns_in as gaps_held}
 use Rattle.work.specs.Lent.{work_columns_in}
-use Rattle.work.proofs.Assembly.{prevs_room, nexts_room, uses_room, none_filled, cut_inside, cut_cuttable, segments_sound, cut_room, all_filled}
+use Rattle.work.proofs.Assembly.{prevs_room, nexts_room, uses_room, none_filled, cut_inside, cut_cuttable, segments_valued, cut_room, all_filled}
 use Rattle.work.proofs.fill.fill_checked.Goals as goal
 
 pub fill_uses-filled-requires : goal.fill_uses-filled-requires
@@ -28,8 +28,8 @@ returns-in_default-clause-value c =
     none_filled _ _ _ _ _ _ _ lent c.requires
     f.new.prev_lower_freq f.new.next_lower_freq cols f.result.rows f.result.best f.ensures.value c.in_default.is
 
-pub fill_gap_tables-t-requires : goal.fill_gap_tables-t-requires
-fill_gap_tables-t-requires c =
+pub fill_gaps-t-requires : goal.fill_gaps-t-requires
+fill_gaps-t-requires c =
     let a = c.args in
     let lent = work_columns_in a.prev_lower_freq.now a.next_lower_freq.now a.table.now a.gaps.now a.gap_segments.now in
     let f = c.fill_uses-filled in
@@ -40,7 +40,7 @@ fill_gap_tables-t-requires c =
       cuttable = (
         cut_cuttable _ _ _ _ _ _ _ lent q
             f.new.prev_lower_freq f.new.next_lower_freq cols f.result.rows f.result.best f.ensures.value c.in-Some.best c.in-Some.is,
-        segments_sound _ _ _ _ _ _ _ lent q,
+        segments_valued _ _ _ _ _ _ _ lent q,
       );
       room = cut_room _ _ _ _ _ _ _ lent q
           f.new.prev_lower_freq f.new.next_lower_freq cols f.result.rows f.result.best f.ensures.value c.in-Some.best c.in-Some.is;
@@ -52,7 +52,7 @@ returns-clause-value c =
     let lent = work_columns_in a.prev_lower_freq.now a.next_lower_freq.now a.table.now a.gaps.now a.gap_segments.now in
     let f = c.fill_uses-filled in
     let cols = columns_in f.new.table in
-    let d = c.fill_gap_tables-t in
+    let d = c.fill_gaps-t in
     all_filled _ _ _ _ _ _ _ lent c.requires
     f.new.prev_lower_freq f.new.next_lower_freq cols f.result.rows f.result.best f.ensures.value c.in-Some.best c.in-Some.is
     (gaps_held d.new.gaps) (segments_held d.new.gap_segments d.result.segments) d.result.gaps d.result.initial d.ensures.value
