@@ -20,5 +20,5 @@ abbrev pub first_uses : ℕ → UseColumns → UseColumns
 first_uses rows uses = use_columns (take rows uses.insts) (take rows uses.mains) (take rows uses.lefts) (take rows uses.rights)
 
 -- and of segments' columns
-abbrev pub first_segments : ℕ → ValuedColumns → ValuedColumns
-first_segments count segments = valued_columns (take count segments.starts) (take count segments.ends) (take count segments.values)
+abbrev pub first_valued : ℕ → ValuedColumns → ValuedColumns
+first_valued count segments = valued_columns (take count segments.starts) (take count segments.ends) (take count segments.values)

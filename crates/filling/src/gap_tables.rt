@@ -6,7 +6,7 @@ ghost use Rattle.overlaps.specs.Lent.{columns_in as segments_in, lenders as segm
 ghost use Rattle.gaps.specs.Gaps.{gaps_of, initial_gap, uses_in, Cuttable};
 ghost use Rattle.gaps.specs.GapColumns.{gap_segments_of, Rows, GapsHeld};
 ghost use Rattle.gaps.specs.Lent.{columns_in, lenders};
-ghost use Rattle.filling.specs.GapTables.{CutInside, first_uses, first_segments};
+ghost use Rattle.filling.specs.GapTables.{CutInside, first_uses, first_valued};
 
 use gaps::gaps::{GapCounts, build_gaps};
 use gaps::table::GapTable;
@@ -32,19 +32,19 @@ pub fn fill_gap_tables(
 ) -> GapCounts
     requires inside { CutInside rows uses.now (length freq.now) prev_lower_freq.now next_lower_freq.now
         count segments.now.starts segments.now.ends segments.now.values }
-    requires cuttable { let cut = first_segments count segments.now in
+    requires cuttable { let cut = first_valued count segments.now in
         Cuttable freq.now first.now end.now (take (length freq.now) prev_lower_freq.now)
         (take (length freq.now) next_lower_freq.now) (first_uses rows uses.now) best
         × Valued cut.starts cut.ends cut.values }
     requires room { let found = gaps_of (blocks_of freq.now first.now end.now) (uses_in (first_uses rows uses.now)) best in
-        let cut = first_segments count segments.now in
+        let cut = first_valued count segments.now in
         let overlaps = gap_segments_of found cut.starts cut.ends cut.values in
         Rows (length found) (columns_in gaps.old) × SegmentRoom (length overlaps) (segments_in gap_segments.old 0) }
     ensures same { (lenders gaps.new ≡ lenders gaps.old) × (segment_lenders gap_segments.new ≡ segment_lenders gap_segments.old) }
     ensures value { let blocks = blocks_of freq.now first.now end.now in
         let used = uses_in (first_uses rows uses.now) in
         let found = gaps_of blocks used best in
-        let cut = first_segments count segments.now in
+        let cut = first_valued count segments.now in
         GapsHeld found cut.starts cut.ends (columns_in gaps.old) (columns_in gaps.new) result.gaps
         × Filled (gap_segments_of found cut.starts cut.ends cut.values)
         (segments_in gap_segments.old 0) (segments_in gap_segments.new result.segments)

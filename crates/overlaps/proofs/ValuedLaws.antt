@@ -5,18 +5,18 @@ use mathlib.Core.List.{List, [], ◌∷◌, map}
 use Prim.Native.Nat.{ℕ, ◌≤◌, ◌<◌}
 use native.Mathlib.Nat.{le_trans, le_of_eq, lt_of_lt_of_le}
 use native.Mathlib.Omega.{arith}
-use lib.ListN.{length, get_or, take}
+use lib.ListN.{length, get_or, take, length-map}
 use Rattle.columns.specs.Table.{table, shortest}
 use Rattle.columns.proofs.Tables.{table_length, table_map, table_same, shortest_at_most}
 use Rattle.columns.proofs.Fillings.{cut_table}
 use Rattle.jobs.specs.declared.rows.Segment.{Segment}
 use Rattle.jobs.specs.Rows.{segment_row, segments_of}
-use Rattle.overlaps.specs.Live.{starts_in, ends_in}
+use Rattle.overlaps.specs.Live.{SoundSegments, starts_in, ends_in}
 use Rattle.overlaps.specs.GapSegments.{values_in, Valued}
-use Rattle.overlaps.specs.ValuedColumns.{ValuedColumns, valued_columns, columns_of, HasSegment}
+use Rattle.overlaps.specs.ValuedColumns.{ValuedColumns, valued_columns, valued_in, ValuedAt}
 
 module _ (starts ends values firsts lasts flags : List ℕ) where
-  abbrev pub rows : List Segment
+  abbrev rows : List Segment
   rows = segments_of starts ends values firsts lasts flags
 
   abbrev lengths : List ℕ
@@ -59,11 +59,25 @@ module _ (starts ends values firsts lasts flags : List ℕ) where
   -- and so are the three together
   pub columns_cut :
       let n = length (segments_of starts ends values firsts lasts flags) in
-      valued_columns (take n starts) (take n ends) (take n values) ≡ columns_of (segments_of starts ends values firsts lasts flags)
+      valued_columns (take n starts) (take n ends) (take n values) ≡ valued_in (segments_of starts ends values firsts lasts flags)
   columns_cut = λ i. valued_columns (starts_cut i) (ends_cut i) (values_cut i)
+
+-- a table of segments as the walks rely on is valued: each of its rows has a value
+pub sound_valued : (segments : List Segment) → SoundSegments segments → Valued (starts_in segments) (ends_in segments) (values_in segments)
+sound_valued segments sound =
+    record { bounds = sound; long = length-map segments (λ (s : Segment). s.value) ∙ sym (length-map segments (λ (s : Segment). s.start)) }
+
+-- and its columns have each of its rows
+pub columns_have : (segments : List Segment) (i : ℕ) → i < length segments → ValuedAt i (valued_in segments)
+columns_have segments i h =
+    record {
+      start = lt_of_lt_of_le h (le_of_eq (sym (length-map segments (λ (s : Segment). s.start))));
+      end = lt_of_lt_of_le h (le_of_eq (sym (length-map segments (λ (s : Segment). s.end))));
+      value = lt_of_lt_of_le h (le_of_eq (sym (length-map segments (λ (s : Segment). s.value))));
+    }
 
 -- valued segments have each row in all three columns
 pub valued_has : (segments : ValuedColumns) → Valued segments.starts segments.ends segments.values → (i : ℕ) → i < length segments.starts
-    → HasSegment i segments
+    → ValuedAt i segments
 valued_has segments valued i h =
     record { start = h; end = lt_of_lt_of_le h (le_of_eq (sym valued.bounds.long)); value = lt_of_lt_of_le h (le_of_eq (sym valued.long)) }

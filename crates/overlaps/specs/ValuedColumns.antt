@@ -14,11 +14,11 @@ abbrev pub valued_columns : List ℕ → List ℕ → List ℕ → ValuedColumns
 valued_columns starts ends values = record { starts = starts; ends = ends; values = values }
 
 -- those of a list of segments
-abbrev pub columns_of : List Segment → ValuedColumns
-columns_of segments = valued_columns (starts_in segments) (ends_in segments) (values_in segments)
+abbrev pub valued_in : List Segment → ValuedColumns
+valued_in segments = valued_columns (starts_in segments) (ends_in segments) (values_in segments)
 
 -- a row that each of the columns has
-pub record HasSegment (at : ℕ) (cols : ValuedColumns) : Type 0 where
+pub record ValuedAt (at : ℕ) (cols : ValuedColumns) : Type 0 where
   pub start : at < length cols.starts
   pub end : at < length cols.ends
   pub value : at < length cols.values

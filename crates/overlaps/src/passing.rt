@@ -2,7 +2,7 @@
 ghost use Rattle.std.specs.Prelude.{◌≡◌, ◌+◌, ◌≤◌, ◌<◌, length};
 ghost use Rattle.overlaps.specs.Live.{Gaps};
 ghost use Rattle.overlaps.specs.GapSegments.{nonempty, overlaps_of, EndedBy, put, SegmentRoom};
-ghost use Rattle.overlaps.specs.ValuedColumns.{HasSegment};
+ghost use Rattle.overlaps.specs.ValuedColumns.{ValuedAt};
 ghost use Rattle.overlaps.specs.Lent.{columns_in, lenders};
 ghost use Rattle.overlaps.specs.Passing.{passing_segment, Passing, held_at, RowsSet, CountedIn};
 
@@ -56,7 +56,7 @@ pub struct PassingSegment {
 
 // The i-th segment. The live instructions of those before it end at `last`.
 pub fn segment_at(segments: &ValuedSegments, i: usize, last: Inst) -> PassingSegment
-    requires { HasSegment i segments.now }
+    requires { ValuedAt i segments.now }
     ensures { result ≡ passing_segment segments.now.starts segments.now.ends segments.now.values i last.0 }
 {
     let start = Point(cell(segments.start, i));

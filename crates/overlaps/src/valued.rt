@@ -1,6 +1,6 @@
 // The columns of segments that gaps are made of, whether or not a caller has a job's six.
 ghost use Rattle.std.specs.Prelude.{◌≡◌, length};
-ghost use Rattle.overlaps.specs.ValuedColumns.{columns_of};
+ghost use Rattle.overlaps.specs.ValuedColumns.{valued_in};
 
 use jobs::rows::Segments;
 use std::marker::Model;
@@ -24,7 +24,7 @@ impl<'a> Model for ValuedSegments<'a> {
 impl<'a> ValuedSegments<'a> {
     // Those of a job's segments, each cut to as many rows as there are segments: a column that goes on past them has no more to say.
     pub fn of(segments: &Segments<'a>) -> ValuedSegments<'a>
-        ensures { result ≡ columns_of segments.now }
+        ensures { result ≡ valued_in segments.now }
     {
         let n = segments.len();
         ValuedSegments {

@@ -25,7 +25,7 @@ use Rattle.uses.proofs.UseTable.{use_table_few, held_insts, held_mains, held_lef
 use Rattle.uses.proofs.Best.{best_inside}
 use Rattle.overlaps.specs.Live.{SoundSegments, starts_in, ends_in}
 use Rattle.overlaps.specs.GapSegments.{values_in, Valued, SegmentColumns, SegmentRoom, Filled}
-use Rattle.overlaps.specs.ValuedColumns.{ValuedColumns, valued_columns, columns_of}
+use Rattle.overlaps.specs.ValuedColumns.{ValuedColumns, valued_columns, valued_in}
 use Rattle.overlaps.proofs.ValuedLaws.{columns_cut}
 use Rattle.gaps.specs.Gaps.{Gap, gaps_of, initial_gap, uses_in, Cuttable}
 use Rattle.gaps.specs.GapColumns.{GapColumns, gap_segments_of, Rows, GapsHeld}
@@ -91,7 +91,7 @@ module _ (uses : List Use) (segments : List Segment) (codes : List ℕ) (scales 
       subst (λ (c : ValuedColumns). Valued c.starts c.ends c.values)
       (sym
       (ap (λ (s : List Segment). valued_columns (take (length s) starts) (take (length s) stops) (take (length s) values)) e
-      ∙ columns_cut starts stops values first_uses end_uses flags ∙ ap columns_of (sym e)))
+      ∙ columns_cut starts stops values first_uses end_uses flags ∙ ap valued_in (sym e)))
       segments_valued
 
   -- ---- after it

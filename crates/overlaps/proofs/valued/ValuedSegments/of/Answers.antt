@@ -8,7 +8,7 @@ use lib.ListN.{length, take}
 use lib.Seq.{length-take-le}
 use Rattle.jobs.specs.declared.rows.Segment.{Segment}
 use Rattle.jobs.specs.Rows.{segments_of}
-use Rattle.overlaps.specs.ValuedColumns.{valued_columns, columns_of}
+use Rattle.overlaps.specs.ValuedColumns.{valued_columns, valued_in}
 use Rattle.overlaps.proofs.ValuedLaws.{starts_inside, ends_inside, values_inside, columns_cut}
 use Rattle.overlaps.proofs.valued.ValuedSegments.of.Goals as goal
 
@@ -28,10 +28,10 @@ module _ (starts ends values firsts lasts flags : List ℕ) (segments : List Seg
     le_trans (le_of_eq rows_are) (values_inside starts ends values firsts lasts flags),
   )
 
-  columns : valued_columns (take n starts) (take n ends) (take n values) ≡ columns_of segments
+  columns : valued_columns (take n starts) (take n ends) (take n values) ≡ valued_in segments
   columns =
       ap (λ (m : ℕ). valued_columns (take m starts) (take m ends) (take m values)) rows_are
-      ∙ columns_cut starts ends values firsts lasts flags ∙ ap columns_of view
+      ∙ columns_cut starts ends values firsts lasts flags ∙ ap valued_in view
 
 pub slice_bounds-result-end : goal.slice_bounds-result-end
 slice_bounds-result-end c =
