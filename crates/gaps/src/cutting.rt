@@ -90,7 +90,10 @@ fn count_cuts(side: Side, links: &[u32], b: Block, last: Block) -> usize
 {
     let mut b = b;
     let mut n: usize = 0;
-    while let Some(lower) = link_at(links, b) {
+    loop {
+        let Some(lower) = link_at(links, b) else {
+            break;
+        };
         if !reaches(side, last, lower) {
             break;
         }
@@ -178,7 +181,10 @@ fn cut_space(
     let mut at = first;
     let mut edge = s.edge;
     let mut w = s.near;
-    while let Some(lower) = link_at(links, b) {
+    loop {
+        let Some(lower) = link_at(links, b) else {
+            break;
+        };
         if !reaches(side, last, lower) {
             break;
         }
