@@ -1,8 +1,8 @@
 -- `grow` tries the own gap and then the side whose turn it is: a try is due, and the walkers stand right for it
 use mathlib.Core.Path.{◌≡◌, sym, ◌∙◌, subst}
-use Prim.Native.Nat.{ℕ}
+use Prim.Native.Nat.{ℕ, ◌<◌}
 use lib.ListN.{length}
-use Rattle.growth.specs.Columns.{number_at, float_at, turn_of}
+use Rattle.growth.specs.Columns.{number_at, float_at, turn_of, InsideGaps}
 use Rattle.growth.specs.declared.step.Growth.{Growth}
 use Rattle.region.specs.Find.{GapRows, Reached}
 use Rattle.region.proofs.Growing.{due_triable, after_reached, gone_behind, less_behind, turn_region, turn_due, end_answers}
@@ -26,7 +26,8 @@ pub next_turn-requires-clause-inside_gaps : goal.next_turn-requires-clause-insid
 next_turn-requires-clause-inside_gaps c =
     let a = c.args in
     let l = c.grow in
-    rw c.len-count.ensures
+    let r = c.after-growth.result.region in
+    subst (λ (n : ℕ). r.left < r.right → InsideGaps n r) (sym c.len-count.ensures)
     (gone_behind a.register a.reserved.now a.segments.now a.gaps.now a.initial a.k c.requires.ready l.growth l.side l.invariant.0
     c.requires.begun.walkable l.walkers l.invariant.1 _ c.try_side-t.ensures _ c.after-growth.ensures).inside
 
