@@ -4,7 +4,7 @@
 use crate::text::part;
 use answers::job::Answered;
 use answers::room::{ANSWER_BYTES, TABLE_BYTES};
-use sheet::NoRoom;
+use sheet::{NoRoom, same};
 
 // Names a record.
 pub(crate) fn tell(rt: &impl Print, record: usize) {
@@ -42,7 +42,7 @@ impl<'a> Record<'a> {
         let Some(found) = found else {
             return self.no_room(rt, "answer");
         };
-        if found == self.answer {
+        if same(found, self.answer) {
             return true;
         }
         tell(rt, self.number);
@@ -56,7 +56,7 @@ impl<'a> Record<'a> {
         let Some(found) = found else {
             return self.no_room(rt, "tables");
         };
-        if found == self.tables {
+        if same(found, self.tables) {
             return true;
         }
         let line = common_lines(self.tables, found);

@@ -53,9 +53,11 @@ impl Sizes {
         k: usize,
         c: usize,
     ) -> Result<Vec<u32>, AllocError> {
+        // the column's place is looked for once, not for each item
+        let read = tail(cells, column_of(k, c));
         let last = self.read(k).saturating_sub(1);
         (0..self.items(k))
-            .map(|i| cell(cells, k, c, i.min(last)))
+            .map(|i| read.get(i.min(last)).copied().unwrap_or(0))
             .collect(alloc)
     }
 

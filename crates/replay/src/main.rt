@@ -10,7 +10,7 @@ mod long;
 mod points;
 mod text;
 
-ghost use Rattle.std.specs.Prelude.{◌≤◌};
+ghost use Rattle.std.specs.Prelude.{◌≡◌, ◌≤◌, ◌<◌, length, IfOk};
 
 use answers::answer::answer_sheet;
 use answers::room::sheet_rooms;
@@ -87,7 +87,9 @@ fn record_agrees(
 
 // Replays the record of a job that a text begins with. Its line s has the lengths of the sheet and of the answer; the tables end before
 // the line `=`.
-fn replay_job(rt: &(impl Print + AllocGlobal), number: usize, text: &[u8]) -> io::Result<Replayed> {
+fn replay_job(rt: &(impl Print + AllocGlobal), number: usize, text: &[u8]) -> io::Result<Replayed>
+    ensures { IfOk result (λ job. (job.all ≡ 1) × (job.agree ≤ 1) × (0 < job.bytes) × (job.bytes ≤ 3000124)) }
+{
     let head = head_length(text);
     let line = tail(text, head);
     let sheet = field(line, 0);
@@ -164,11 +166,22 @@ fn replay_text(rt: &(impl Print + AllocGlobal), text: &[u8]) -> io::Result<()> {
     )
 }
 
-// Reads as much of a file as there is room for; a read that fails is the end.
-fn read_front(rt: &impl AllocGlobal, file: impl Read + Drop) -> Vec<u8> {
-    let mut text = Vec::new(rt.alloc());
-    let _ = file.take(ROOM as u64).read_to_end(&mut text);
-    text
+// Reads until the buffer is full or the file ends, and answers how many bytes were read; a read that fails is the end. Not std's `take` and
+// `read_to_end`: of a file they promise no bound, and memory that is refused would end a text too.
+fn read_full(file: &mut impl Read, buf: &mut [u8]) -> usize
+    ensures { result ≤ length buf.new }
+{
+    let mut done: usize = 0;
+    while done < buf.len() {
+        let Ok(n) = file.read(&mut buf[done..]) else {
+            break;
+        };
+        if n == 0 {
+            break;
+        }
+        done += n;
+    }
+    done
 }
 
 fn replay_path(rt: &HostRuntime, path: &[u8]) -> io::Result<()> {
@@ -177,11 +190,13 @@ fn replay_path(rt: &HostRuntime, path: &[u8]) -> io::Result<()> {
     let opened = from_utf8(path)
         .ok()
         .and_then(|name| fs::open(rt, name).ok());
-    let Some(file) = opened else {
+    let Some(mut file) = opened else {
         let _ = println!(rt; "can't be opened");
         return Ok(());
     };
-    replay_text(rt, &read_front(rt, file))
+    let mut text = [0u8; ROOM];
+    let n = read_full(&mut file, &mut text);
+    replay_text(rt, &text[..n])
 }
 
 fn main(rt: HostRuntime) -> io::Result<()> {

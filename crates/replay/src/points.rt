@@ -1,5 +1,5 @@
 // Recorded calls for the lower-cost split point: a block list, and what each call on it is answered.
-ghost use Rattle.std.specs.Prelude.{◌≤◌};
+ghost use Rattle.std.specs.Prelude.{◌≤◌, ◌<◌, ◌+◌, IfOk};
 
 use crate::compare::tell;
 use crate::text::{field, number, tail};
@@ -76,7 +76,10 @@ pub(crate) fn replay_list(
     record: usize,
     text: &[u8],
     at: usize,
-) -> io::Result<Replayed> {
+) -> io::Result<Replayed>
+    ensures { IfOk result (λ made. (made.all < 1000000) × (made.agree < 1000000)
+        × (at ≤ 1048576 → at + made.bytes ≤ 1100002)) }
+{
     let blocks = field(text, 0);
     let calls = field(text, 1);
     // what has too many blocks goes on past the end
@@ -84,7 +87,7 @@ pub(crate) fn replay_list(
         return Ok(Replayed {
             all: 0,
             agree: 0,
-            bytes: ROOM,
+            bytes: ROOM.saturating_sub(at) + 1,
         });
     }
     let list = Blocks::read(rt.alloc(), tail(text, HEAD_LINE), blocks)?;

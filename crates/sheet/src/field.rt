@@ -1,5 +1,6 @@
 // A field of 11 columns: a number right-justified, with no leading zeros.
 ghost use Rattle.std.specs.Prelude.{◌≡◌, ◌+◌, ◌-◌, ◌≤◌, ◌<◌, length};
+ghost use Rattle.std.specs.Str.{bytes_eq};
 ghost use Rattle.std.proofs.lemmas.List.Edits.{sets};
 ghost use Rattle.sheet.specs.Field.{digit_or_blank, field, value, is_field};
 
@@ -48,6 +49,13 @@ pub(crate) fn put_number(out: &mut [u8], at: usize, n: u32)
     }
 }
 
+// Whether two texts are the same.
+pub fn same(a: &[u8], b: &[u8]) -> bool
+    ensures { result ≡ bytes_eq a.now b.now }
+{
+    a == b
+}
+
 // Whether a text is a field: it is held against the text of the number that it makes.
 pub(crate) fn is_field(s: &[u8]) -> bool
     ensures { result ≡ is_field s.now }
@@ -61,5 +69,5 @@ pub(crate) fn is_field(s: &[u8]) -> bool
     }
     let mut text = [0u8; 11];
     put_number(&mut text, 0, n as u32);
-    s == text.as_slice()
+    same(s, &text)
 }

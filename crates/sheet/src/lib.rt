@@ -19,6 +19,7 @@ pub mod kinds;
 mod write;
 
 pub use check::BadLine;
+pub use field::same;
 pub use fill::{ReadError, column_of, read_sheet};
 pub use kinds::CELLS;
 pub use write::{Answer, Figures, NoRoom, write_answer, write_line};

@@ -3,7 +3,7 @@
 // A sheet is a list of pieces: how often and how long, in six digits each, a line feed, the bytes; 0 times ends it.
 #![tactic(auto)]
 
-ghost use Rattle.std.specs.Prelude.{◌<◌};
+ghost use Rattle.std.specs.Prelude.{◌≤◌, ◌<◌, length, vec_len, IfOk};
 
 use sheet::kinds::KINDS;
 use sheet::{Answer, BadLine, CELLS, Figures, ReadError};
@@ -17,7 +17,7 @@ const MORE: usize = CELLS + 99;
 const FEWER: usize = CELLS - 1;
 
 // How much of the input is read, and how long a text may grow.
-const INPUT_BYTES: u64 = 131072;
+const INPUT_BYTES: usize = 131072;
 
 const TEXT_BYTES: usize = 65536;
 
@@ -96,10 +96,17 @@ fn number(digits: &[u8]) -> usize
 }
 
 // Appends a piece so many times, as far as there is room.
-fn repeat(text: &mut Vec<u8>, piece: &[u8], times: usize) -> io::Result<()> {
+fn repeat(text: &mut Vec<u8>, piece: &[u8], times: usize) -> io::Result<()>
+    ensures { vec_len text.old ≤ 65536 → vec_len text.new ≤ 65536 }
+{
     for _ in 0..times {
         let room = TEXT_BYTES.saturating_sub(text.len());
-        text.extend_from_slice(&piece[..piece.len().min(room)])?;
+        let n = piece.len().min(room);
+        // no later turn appends any more
+        if n == 0 {
+            break;
+        }
+        text.extend_from_slice(&piece[..n])?;
     }
     Ok(())
 }
@@ -186,11 +193,27 @@ fn empty(to: &mut impl Write) -> io::Result<()> {
     report(to, b"", &mut few)
 }
 
+// Reads until the buffer is full or the input ends, and answers how many bytes were read. Not std's `take` and `read_to_end`: of standard
+// input they promise no bound.
+fn read_full(from: &mut impl Read, buf: &mut [u8]) -> io::Result<usize>
+    ensures { IfOk result (λ n. n ≤ length buf.new) }
+{
+    let mut done: usize = 0;
+    while done < buf.len() {
+        let n = from.read(&mut buf[done..])?;
+        if n == 0 {
+            break;
+        }
+        done += n;
+    }
+    Ok(done)
+}
+
 fn main(rt: HostRuntime) -> io::Result<()> {
-    let mut input = Vec::new(rt.alloc());
-    rt.reader().take(INPUT_BYTES).read_to_end(&mut input)?;
+    let mut input = [0u8; INPUT_BYTES];
+    let n = read_full(&mut rt.reader(), &mut input)?;
     let mut to = BufWriter::new(rt.alloc(), io::writer(&rt))?;
-    run(&mut to, rt.alloc(), &input)?;
+    run(&mut to, rt.alloc(), &input[..n])?;
     empty(&mut to)?;
     long(&mut to, rt.alloc())?;
     answers(&mut to)?;

@@ -6,47 +6,41 @@
 // (proofs/Rooms.antt there). What is read and written is not proved; the work is done by `answer_sheet`, on slices.
 #![tactic(auto)]
 
+ghost use Rattle.std.specs.Prelude.{◌≤◌, length, IfOk};
+
 use answers::answer::answer_sheet;
 use answers::room::{ANSWER_BYTES, TABLE_BYTES, sheet_rooms};
-use sheet::NoRoom;
-use std::alloc::{AllocError, Global};
+use sheet::{NoRoom, same};
 use std::env::{Env, FillError};
 use std::io::{Error, ErrorKind, Read};
 use std::str::from_utf8;
 use std::{fs, io};
 
 // No more of a text is read.
-const TEXT_BYTES: u64 = 65536;
+const TEXT_BYTES: usize = 65536;
 
 // No longer argument names a file.
 const NAME_BYTES: usize = 4096;
 
 // What the arguments ask for: whether the tables are printed, and which file holds the sheet; without one standard input does.
-#[derive(Drop)]
-struct Asked {
+#[derive(Clone, Copy)]
+struct Asked<'a> {
     tables: bool,
-    path: Option<Vec<u8>>,
+    path: Option<&'a [u8]>,
 }
 
 // Why nothing is answered, or not all of it is printed. Names are bytes: an argument may be no UTF-8.
-#[derive(Drop)]
-enum Failure {
-    UnknownOption(Vec<u8>),
+#[derive(Clone, Copy)]
+enum Failure<'a> {
+    UnknownOption(&'a [u8]),
     NameTooLong,
     TooManyArguments,
-    OutOfMemory,
-    File(Vec<u8>, Error),
+    File(&'a [u8], Error),
     StandardInput(Error),
     StandardOutput(Error),
 }
 
-impl From<AllocError> for Failure {
-    fn from(_error: AllocError) -> Failure {
-        Failure::OutOfMemory
-    }
-}
-
-impl Failure {
+impl<'a> Failure<'a> {
     // Says on standard error what failed, and why.
     fn tell(&self, rt: &HostRuntime) {
         match self {
@@ -55,7 +49,6 @@ impl Failure {
             Failure::TooManyArguments => {
                 complain(rt, b"too many arguments", b"splitsheet [--tables] [SHEET]")
             }
-            Failure::OutOfMemory => complain(rt, b"arguments", b"out of memory"),
             Failure::File(path, e) => complain_of(rt, path, *e),
             Failure::StandardInput(e) => complain_of(rt, b"standard input", *e),
             Failure::StandardOutput(e) => complain_of(rt, b"standard output", *e),
@@ -88,18 +81,12 @@ fn without_number(said: &str) -> &str {
     }
 }
 
-// The argument at a place; none behind the last.
-//
-// Not std's `args`: there one argument that is no UTF-8 fails them all.
-fn argument(rt: &HostRuntime, at: usize) -> Result<Option<Vec<u8>>, Failure> {
-    let mut word = vec![in rt.alloc(); 0u8; NAME_BYTES]?;
-    match rt.arg(at, &mut word) {
-        Ok(n) => {
-            word.truncate(n);
-            Ok(Some(word))
-        }
-        Err(FillError::NotPresent) => Ok(None),
-        Err(FillError::TooLong) => Err(Failure::NameTooLong),
+// Whether the first argument asks for the tables.
+fn tables_asked(rt: &impl Env) -> bool {
+    let mut word = [0u8; 9];
+    match rt.arg(1, &mut word) {
+        Ok(n) => same(&word[..n], b"--tables"),
+        Err(_) => false,
     }
 }
 
@@ -113,48 +100,70 @@ fn is_option(word: &[u8]) -> bool {
     word.len() > 1 && word.starts_with(b"-")
 }
 
-fn read_arguments(rt: &HostRuntime) -> Result<Asked, Failure> {
-    let tables = match argument(rt, 1)? {
-        Some(word) => word.as_slice() == b"--tables".as_slice(),
-        None => false,
-    };
+// What is asked for. The name of a file comes to the front of a buffer: neither names nor a text need memory of their own, so the program
+// can't run out of it. Not std's `args`: there one argument that is no UTF-8 fails them all.
+fn read_arguments<'a>(rt: &HostRuntime, name: &'a mut [u8]) -> Result<Asked<'a>, Failure<'a>> {
+    let tables = tables_asked(rt);
     let at = if tables { 2 } else { 1 };
-    let Some(word) = argument(rt, at)? else {
-        return Ok(Asked { tables, path: None });
+    let word = match rt.arg(at, name) {
+        Ok(n) => &name[..n],
+        Err(FillError::NotPresent) => return Ok(Asked { tables, path: None }),
+        Err(FillError::TooLong) => return Err(Failure::NameTooLong),
     };
-    if is_option(&word) {
+    if is_option(word) {
         return Err(Failure::UnknownOption(word));
     }
     if is_argument(rt, at + 1) {
         return Err(Failure::TooManyArguments);
     }
-    let path = if word.as_slice() == b"-".as_slice() {
-        None
-    } else {
-        Some(word)
-    };
+    let path = if same(word, b"-") { None } else { Some(word) };
     Ok(Asked { tables, path })
 }
 
-fn read_text(alloc: Global, from: impl Read + Drop) -> io::Result<Vec<u8>> {
-    let mut text = Vec::new(alloc);
-    from.take(TEXT_BYTES).read_to_end(&mut text)?;
-    Ok(text)
+// Reads until the buffer is full or the input ends, and answers how many bytes were read. Not std's `take` and `read_to_end`: of a file
+// they promise no bound.
+fn read_text(from: &mut impl Read, buf: &mut [u8]) -> io::Result<usize>
+    ensures { IfOk result (λ n. n ≤ length buf.new) }
+{
+    let mut done: usize = 0;
+    while done < buf.len() {
+        let n = from.read(&mut buf[done..])?;
+        if n == 0 {
+            break;
+        }
+        done += n;
+    }
+    Ok(done)
 }
 
-fn read_file(rt: &HostRuntime, path: &[u8]) -> io::Result<Vec<u8>> {
+fn read_file(rt: &HostRuntime, path: &[u8], buf: &mut [u8]) -> io::Result<usize>
+    ensures { IfOk result (λ n. n ≤ length buf.new) }
+{
     match from_utf8(path) {
-        Ok(name) => read_text(rt.alloc(), fs::open(rt, name)?),
+        Ok(name) => read_text(&mut fs::open(rt, name)?, buf),
         Err(_) => Err(Error::from(ErrorKind::InvalidFilename)),
     }
 }
 
-// Reads the text that is asked for.
-fn read_asked(rt: &HostRuntime, path: Option<Vec<u8>>) -> Result<Vec<u8>, Failure> {
+// Reads the text that is asked for, and answers how many bytes it has. No `map_err`, here and below: the borrow checker does not cover a function
+// whose result names a lifetime.
+fn read_asked<'a>(
+    rt: &HostRuntime,
+    path: Option<&'a [u8]>,
+    buf: &mut [u8],
+) -> Result<usize, Failure<'a>>
+    ensures { IfOk result (λ n. n ≤ length buf.new) }
+{
     let Some(path) = path else {
-        return read_text(rt.alloc(), rt.stdin()).map_err(Failure::StandardInput);
+        return match read_text(&mut rt.stdin(), buf) {
+            Ok(n) => Ok(n),
+            Err(e) => Err(Failure::StandardInput(e)),
+        };
     };
-    read_file(rt, &path).map_err(|e| Failure::File(path, e))
+    match read_file(rt, path, buf) {
+        Ok(n) => Ok(n),
+        Err(e) => Err(Failure::File(path, e)),
+    }
 }
 
 // Prints what a call has written to the front of a text. What a text has not, and what was not written, is an error.
@@ -182,14 +191,19 @@ fn print_answer(rt: &impl Print, text: &[u8], tables: bool) -> io::Result<()> {
     print_written(rt, &lines, rows)
 }
 
-fn run(rt: &HostRuntime) -> Result<(), Failure> {
-    let Asked { tables, path } = read_arguments(rt)?;
-    let text = read_asked(rt, path)?;
-    print_answer(rt, &text, tables).map_err(Failure::StandardOutput)
+fn run<'a>(rt: &HostRuntime, name: &'a mut [u8]) -> Result<(), Failure<'a>> {
+    let Asked { tables, path } = read_arguments(rt, name)?;
+    let mut text = [0u8; TEXT_BYTES];
+    let n = read_asked(rt, path, &mut text)?;
+    match print_answer(rt, &text[..n], tables) {
+        Ok(()) => Ok(()),
+        Err(e) => Err(Failure::StandardOutput(e)),
+    }
 }
 
 fn main(rt: HostRuntime) {
-    if let Err(failure) = run(&rt) {
+    let mut name = [0u8; NAME_BYTES];
+    if let Err(failure) = run(&rt, &mut name) {
         failure.tell(&rt);
     }
 }

@@ -27,6 +27,4 @@ returns c =
     let s = c.args.s.now in
     let v : value s ≤ 4294967295 = omega arith in
     rw (eq-eqb (length s) 11 (omega arith), le-leb (value s) 4294967295 v)
-    (c.eq.ensures
-    ∙ ap (bytes_eq s)
-    (c.as_slice.ensures ∙ c.put_number.ensures ∙ sets_whole _ _ (field_length _) ∙ ap field c.value_of-n.ensures))
+    (c.same.ensures ∙ ap (bytes_eq s) (c.put_number.ensures ∙ sets_whole _ _ (field_length _) ∙ ap field c.value_of-n.ensures))
