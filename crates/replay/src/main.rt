@@ -166,6 +166,13 @@ fn replay_text(rt: &(impl Print + AllocGlobal), text: &[u8]) -> io::Result<()> {
     )
 }
 
+// Room for the largest file.
+fn room(b: u8) -> [u8; ROOM]
+    ensures { 1048576 ≡ length result }
+{
+    [b; ROOM]
+}
+
 // Reads until the buffer is full or the file ends, and answers how many bytes were read; a read that fails is the end. Not std's `take` and
 // `read_to_end`: of a file they promise no bound, and memory that is refused would end a text too.
 fn read_full(file: &mut impl Read, buf: &mut [u8]) -> usize
@@ -194,7 +201,7 @@ fn replay_path(rt: &HostRuntime, path: &[u8]) -> io::Result<()> {
         let _ = println!(rt; "can't be opened");
         return Ok(());
     };
-    let mut text = [0u8; ROOM];
+    let mut text = room(0);
     let n = read_full(&mut file, &mut text);
     replay_text(rt, &text[..n])
 }
