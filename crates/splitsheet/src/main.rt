@@ -100,8 +100,8 @@ fn is_option(word: &[u8]) -> bool {
     word.len() > 1 && word.starts_with(b"-")
 }
 
-// What is asked for. The name of a file comes to the front of a buffer: neither names nor a text need memory of their own, so the program
-// can't run out of it. Not std's `args`: there one argument that is no UTF-8 fails them all.
+// What is asked for. The name of a file comes to the front of a buffer: neither names nor a text are held in memory that could be refused.
+// Not std's `args`: there one argument that is no UTF-8 fails them all.
 fn read_arguments<'a>(rt: &HostRuntime, name: &'a mut [u8]) -> Result<Asked<'a>, Failure<'a>> {
     let tables = tables_asked(rt);
     let at = if tables { 2 } else { 1 };
