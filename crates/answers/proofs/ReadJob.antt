@@ -1,18 +1,20 @@
 -- The job of the cells is that of the sheet that was read into them
 use Prim.Native.Nat.{ℕ, ◌≤◌}
-use mathlib.Core.Path.{◌≡◌, refl, ap, ◌∙◌}
+use mathlib.Core.Path.{◌≡◌, refl, sym, ap, ◌∙◌}
 use native.Mathlib.Omega.{arith}
 use mathlib.Core.List.{List, []}
 use mathlib.Core.Bool.{Bool, true, false}
-use lib.ListN.{length, get_or}
+use lib.ListN.{length, get_or, replicate, length-replicate}
+use native.Mathlib.Nat.{le_of_eq}
 use lib.Dec.{ltb}
 use borrow.Author.Tests.{le-ltb}
 use Rattle.sheet.specs.Kinds.{pick, kind, kind_table, kind_p, kinds, kind_at, needed, cell_count}
 use Rattle.sheet.specs.Refusal.{Verdict, verdict, sheet_of}
 use Rattle.sheet.specs.Cells.{cells_after, as_read, Read}
 use Rattle.sheet.specs.declared.kinds.Asked.TheVariants.{Any}
-use Rattle.std.specs.Prelude.{Ok, Err}
+use Rattle.std.specs.Prelude.{Result, Ok, Err, IfOk}
 use Rattle.sheet.specs.declared.check.BadLine.{BadLine}
+use Rattle.sheet.specs.declared.fill.ReadError.{ReadError}
 use Rattle.sheet.specs.declared.fill.ReadError.TheVariants.{Refused, NoRoom}
 use Rattle.sheet.proofs.SoundLaws.{sound_sheet}
 use Rattle.sheet.proofs.CellLaws.{stored_length}
@@ -78,3 +80,12 @@ read_roomy {text} {cells} read h = by (verdict text) (rw (le-ltb (length cells) 
     by : (v : Verdict) → Err NoRoom ≡ as_read v → ⊥
     by (Ok u) e = let z : ◌≡◌ {A = ℕ} 0 1 = cc in omega arith
     by (Err b) e = let z : ◌≡◌ {A = ℕ} 0 1 = cc in omega arith
+
+-- there are as many cells as a sheet needs
+pub cells_enough : cell_count ≤ length {A = ℕ} (replicate cell_count 0)
+cells_enough = le_of_eq (sym (length-replicate {A = ℕ} cell_count 0))
+
+-- what was read, if it was, lies in the cells
+pub read_within : {text cells cells-now : List ℕ} (r : Result (List ℕ) ReadError) → Read text cells cells-now r → IfOk r (λ counts. InCells cells-now counts)
+read_within (Ok counts) read = read_cells read
+read_within (Err e) read = tt
