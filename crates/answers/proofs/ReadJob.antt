@@ -1,11 +1,11 @@
 -- The job of the cells is that of the sheet that was read into them
 use Prim.Native.Nat.{ℕ, ◌≤◌}
 use mathlib.Core.Path.{◌≡◌, refl, sym, ap, ◌∙◌}
+use native.Mathlib.Nat.{le_of_eq}
 use native.Mathlib.Omega.{arith}
 use mathlib.Core.List.{List, []}
 use mathlib.Core.Bool.{Bool, true, false}
 use lib.ListN.{length, get_or, replicate, length-replicate}
-use native.Mathlib.Nat.{le_of_eq}
 use lib.Dec.{ltb}
 use borrow.Author.Tests.{le-ltb}
 use Rattle.sheet.specs.Kinds.{pick, kind, kind_table, kind_p, kinds, kind_at, needed, cell_count}

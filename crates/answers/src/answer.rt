@@ -11,7 +11,7 @@ use filling::lent::Rooms;
 use sheet::kinds::KINDS;
 use sheet::{CELLS, NoRoom, ReadError, read_sheet, write_answer};
 
-// Answers the text that was read into cells, or its refusal.
+// Answers a text that was read into cells, any that was read so: by its job, or by its refusal.
 fn answer_read(
     read: Result<[usize; KINDS], ReadError>,
     cells: &[u32],

@@ -128,7 +128,7 @@ fn argument<'a>(rt: &impl Env, at: usize, buf: &'a mut Buffer) -> Result<&'a [u8
     Ok(&name[..n])
 }
 
-// The same where it was there before.
+// One that was read before, once more; were it gone by then, it would be empty.
 fn name_at<'a>(rt: &impl Env, at: usize, buf: &'a mut Buffer) -> &'a [u8] {
     argument(rt, at, buf).unwrap_or(b"")
 }
